@@ -1,0 +1,70 @@
+-- A call with its reply, and what a reply says.
+use Prim.Native.Nat.{ℕ}
+use mathlib.Core.Bool.{Bool, true, false}
+use mathlib.Core.List.{List, [], _∷_}
+use mathlib.Core.Option.{Option, none, some}
+use Rattle.calls.specs.declared.Call.{Call}
+use Rattle.calls.specs.declared.Reply.{Reply}
+use Rattle.calls.specs.declared.Reply.the-variants.{Made, At, Pitch, Left, Claimed, Written, Swapped, Synced, Raised, Shared, Walked, Freed, Refused}
+use Rattle.calls.specs.declared.WalkReply.{WalkReply}
+use Rattle.calls.specs.Base.{pick}
+
+infix 70 _⇒_
+pub data Event : Type 0 where
+  _⇒_ : Call → Reply → Event
+
+-- Every call that is not refused is accepted.
+abbrev pub accepted : Reply → Bool
+accepted Made = true
+accepted (At n) = true
+accepted (Pitch v) = true
+accepted Left = true
+accepted (Claimed s) = true
+accepted (Written n) = true
+accepted (Swapped s) = true
+accepted (Synced m) = true
+accepted Raised = true
+accepted Shared = true
+accepted (Walked o) = true
+accepted (Freed s n) = true
+accepted (Refused n) = false
+
+-- The place that an ENTER replies.
+abbrev pub placeOf : Reply → Option ℕ
+placeOf Made = none
+placeOf (At n) = some n
+placeOf (Pitch v) = none
+placeOf Left = none
+placeOf (Claimed s) = none
+placeOf (Written n) = none
+placeOf (Swapped s) = none
+placeOf (Synced m) = none
+placeOf Raised = none
+placeOf Shared = none
+placeOf (Walked o) = none
+placeOf (Freed s n) = none
+placeOf (Refused n) = none
+
+-- What a WALK replies.
+abbrev pub walkOf : Reply → Option WalkReply
+walkOf Made = none
+walkOf (At n) = none
+walkOf (Pitch v) = none
+walkOf Left = none
+walkOf (Claimed s) = none
+walkOf (Written n) = none
+walkOf (Swapped s) = none
+walkOf (Synced m) = none
+walkOf Raised = none
+walkOf Shared = none
+walkOf (Walked o) = some o
+walkOf (Freed s n) = none
+walkOf (Refused n) = none
+
+-- A fold over events, of which only the accepted ones move it.
+abbrev pub moved : {A : Type 0} → (A → Call → Reply → A) → A → Event → A
+moved f x (c ⇒ a) = pick (accepted a) (f x c a) x
+
+abbrev pub foldEvents : {A : Type 0} → (A → Call → Reply → A) → A → List Event → A
+foldEvents f x [] = x
+foldEvents f x (e ∷ es) = foldEvents f (moved f x e) es

@@ -1,0 +1,10 @@
+pub mod Base
+pub mod Numbers
+pub mod Rows
+pub mod Events
+pub mod Model
+pub mod Told
+pub mod Tally
+pub mod Answer
+pub mod AnswerLaws
+pub mod RowLaws

@@ -1,0 +1,99 @@
+-- Document 01's limits and refusal numbers by name, with the same values as the constants of src/.
+use Prim.Native.Nat.{ℕ}
+use lib.IntN.{ℤ, pos, negℤ}
+
+-- Making: readers 1 to 64, publishers 1 to 16, slots 2 to 32, slots × 32 entries.
+abbrev pub READERS-MAX : ℕ
+READERS-MAX = 64
+
+abbrev pub PUBLISHERS-MAX : ℕ
+PUBLISHERS-MAX = 16
+
+abbrev pub SLOTS-MIN : ℕ
+SLOTS-MIN = 2
+
+abbrev pub SLOTS-MAX : ℕ
+SLOTS-MAX = 32
+
+abbrev pub TABLE : ℕ
+TABLE = 32
+
+-- A pitch is in hundredths of a degree, -500 to 9500; a fresh store has every entry 9000 (feathered).
+abbrev pub PITCH-LOW : ℤ
+PITCH-LOW = negℤ (pos 500)
+
+abbrev pub PITCH-HIGH : ℤ
+PITCH-HIGH = pos 9500
+
+abbrev pub FEATHERED : ℤ
+FEATHERED = pos 9000
+
+-- 2^64, and the greatest number of 64 bits.
+abbrev pub MODULUS : ℕ
+MODULUS = 18446744073709551616
+
+abbrev pub NUMBER-MAX : ℕ
+NUMBER-MAX = 18446744073709551615
+
+-- NOT_READING = 2^64 - 1
+abbrev pub NOT-READING : ℕ
+NOT-READING = 18446744073709551615
+
+-- The kind word: 1 new, 2 old.
+abbrev pub KIND-NEW : ℕ
+KIND-NEW = 1
+
+abbrev pub KIND-OLD : ℕ
+KIND-OLD = 2
+
+-- Refused, by where it is checked.
+abbrev pub DAMAGED : ℕ
+DAMAGED = 1
+
+abbrev pub BAD-READERS : ℕ
+BAD-READERS = 2
+
+abbrev pub BAD-PUBLISHERS : ℕ
+BAD-PUBLISHERS = 3
+
+abbrev pub BAD-SLOTS : ℕ
+BAD-SLOTS = 4
+
+abbrev pub BAD-ENTRIES : ℕ
+BAD-ENTRIES = 5
+
+abbrev pub BAD-VERSION : ℕ
+BAD-VERSION = 6
+
+abbrev pub NO-SUCH-READER : ℕ
+NO-SUCH-READER = 10
+
+abbrev pub NO-SUCH-PUBLISHER : ℕ
+NO-SUCH-PUBLISHER = 11
+
+abbrev pub NO-SUCH-SLOT : ℕ
+NO-SUCH-SLOT = 12
+
+abbrev pub NO-SUCH-ENTRY : ℕ
+NO-SUCH-ENTRY = 13
+
+abbrev pub BAD-PITCH : ℕ
+BAD-PITCH = 14
+
+abbrev pub READER-TURN : ℕ
+READER-TURN = 20
+
+abbrev pub PUBLISHER-TURN : ℕ
+PUBLISHER-TURN = 21
+
+abbrev pub SLOT-IN-USE : ℕ
+SLOT-IN-USE = 30
+
+abbrev pub BUSY : ℕ
+BUSY = 31
+
+abbrev pub VERSION-IS-LAST : ℕ
+VERSION-IS-LAST = 32
+
+abbrev pub TOO-MANY-LOOKS : ℕ
+TOO-MANY-LOOKS = 33

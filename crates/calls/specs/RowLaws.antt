@@ -1,0 +1,177 @@
+-- Laws of tests, of rows and of scans: all that proofs use of them. Assumes nothing.
+use Prim.Native.Nat.{ℕ, zero, suc, _+_, _<_, _≤_}
+use native.Mathlib.Omega.{arith}
+use mathlib.Core.Path.{_≡_, refl, sym, ap, _∙_, subst, fun-ext}
+use mathlib.Core.Logic.{_≢_}
+use mathlib.Core.Bool.{Bool, true, false, not, _&&_, _||_}
+use mathlib.Core.List.{List, [], _∷_}
+use lib.Dec.{leb, ltb, eqb}
+use borrow.Author.Tests.{eqb-true, eqb-false, eq-eqb, ltb-true, ltb-false, le-ltb}
+use Rattle.calls.specs.Base.{pick, upd}
+use Rattle.calls.specs.Rows.{Test, firstOf, anyTrue, anyBelow, countBelow, outside}
+use Rattle.calls.specs.Rows.Test.{_gives_}
+
+-- Tests.
+pub clash : {A : Type 0} → true ≡ false → A
+clash e = absurd (let z : _≡_ {A = ℕ} 0 1 = cc in omega arith)
+
+pub not-both : (b : Bool) → b ≡ true → b ≡ false → ⊥
+not-both b e f = let z : _≡_ {A = ℕ} 0 1 = cc in omega arith
+
+pub by-test : (b : Bool) → (b ≡ true → ⊥) → b ≡ false
+by-test true f = absurd (f refl)
+by-test false f = refl
+
+pub and-true : (a b : Bool) → a && b ≡ true → (a ≡ true) × (b ≡ true)
+and-true true b e = (refl, e)
+and-true false b e = clash (sym e)
+
+pub and-false : (a b : Bool) → a && b ≡ false → a ≡ true → b ≡ false
+and-false true b e q = e
+and-false false b e q = clash (sym q)
+
+pub and-not : (a b : Bool) → (a ≡ true → b ≡ false) → a && b ≡ false
+and-not true b f = f refl
+and-not false b f = refl
+
+pub or-false : (a b : Bool) → a || b ≡ false → (a ≡ false) × (b ≡ false)
+or-false true b e = clash e
+or-false false b e = (refl, e)
+
+pub or-left : (a b : Bool) → a ≡ true → a || b ≡ true
+or-left true b e = refl
+or-left false b e = clash (sym e)
+
+pub or-right : (a b : Bool) → b ≡ true → a || b ≡ true
+or-right true b e = refl
+or-right false b e = e
+
+pub neither : (a b : Bool) → a ≡ false → b ≡ false → a || b ≡ false
+neither true b e f = e
+neither false b e f = f
+
+pub negated : (b : Bool) → b ≡ true → not b ≡ false
+negated true e = refl
+negated false e = clash (sym e)
+
+-- Choices.
+pub pick-split : {A : Type 0} (Q : A → Type 0) (b : Bool) {x y : A} → (b ≡ true → Q x) → (b ≡ false → Q y) → Q (pick b x y)
+pick-split Q true f g = f refl
+pick-split Q false f g = g refl
+
+pub pick-same : {A : Type 0} (b : Bool) (a : A) → pick b a a ≡ a
+pick-same true a = refl
+pick-same false a = refl
+
+pub same : (r : ℕ) → eqb r r ≡ true
+same r = eq-eqb r r refl
+
+-- What holds at r, and at every other number.
+pub at-or : (r : ℕ) {Q : ℕ → Type 0} → Q r → ((j : ℕ) → eqb j r ≡ false → Q j) → (j : ℕ) → Q j
+at-or r {Q} here there j = go (eqb j r) refl
+  where
+    go : (b : Bool) → eqb j r ≡ b → Q j
+    go true e = subst Q (sym (eqb-true j r e)) here
+    go false e = there j e
+
+-- Rows of which none applies.
+abbrev pub AllClear : List Test → Type 0
+AllClear [] = Unit {0}
+AllClear ((b gives n) ∷ l) = (b ≡ false) × AllClear l
+
+-- Each number is one that document 01 gives: from 1 to 99.
+abbrev pub allNumbers : List Test → Bool
+allNumbers [] = true
+allNumbers ((b gives n) ∷ l) = (ltb 0 n && ltb n 100) && allNumbers l
+
+pub clear : (l : List Test) → allNumbers l ≡ true → firstOf l ≡ 0 → AllClear l
+clear [] p e = tt
+clear ((true gives n) ∷ l) p e =
+    absurd (omega (arith, ltb-true 0 n (and-true (ltb 0 n) (ltb n 100) (and-true (ltb 0 n && ltb n 100) (allNumbers l) p .0) .0)))
+clear ((false gives n) ∷ l) p e = (refl, clear l (and-true (ltb 0 n && ltb n 100) (allNumbers l) p .1) e)
+
+pub none-applies : (l : List Test) → AllClear l → firstOf l ≡ 0
+none-applies [] f = refl
+none-applies ((b gives n) ∷ l) f = rw (f .0) (none-applies l (f .1))
+
+pub first-below : (l : List Test) → allNumbers l ≡ true → firstOf l < 100
+first-below [] p = omega arith
+first-below ((true gives n) ∷ l) p = ltb-true n 100 (and-true (ltb 0 n) (ltb n 100) (and-true (ltb 0 n && ltb n 100) (allNumbers l) p .0) .1)
+first-below ((false gives n) ∷ l) p = first-below l (and-true (ltb 0 n && ltb n 100) (allNumbers l) p .1)
+
+abbrev pub AllFalse : List Bool → Type 0
+AllFalse [] = Unit {0}
+AllFalse (b ∷ l) = (b ≡ false) × AllFalse l
+
+pub all-false : (l : List Bool) → anyTrue l ≡ false → AllFalse l
+all-false [] e = tt
+all-false (true ∷ l) e = clash e
+all-false (false ∷ l) e = (refl, all-false l e)
+
+pub none-true : (l : List Bool) → AllFalse l → anyTrue l ≡ false
+none-true [] f = refl
+none-true (b ∷ l) f = rw (f .0) (none-true l (f .1))
+
+pub within : (low high n : ℕ) → outside low high n ≡ false → (low ≤ n) × (n ≤ high)
+within low high n e = let q = or-false (ltb n low) (ltb high n) e in (ltb-false n low (q .0), ltb-false high n (q .1))
+
+pub not-outside : (low high n : ℕ) → low ≤ n → n ≤ high → outside low high n ≡ false
+not-outside low high n a b = rw (le-ltb n low a) (le-ltb high n b)
+
+-- Scans.
+below-suc : (i n : ℕ) → i < suc n → eqb i n ≡ false → i < n
+below-suc i n lt e = let ne = eqb-false i n e in omega arith
+
+pub none-below : (f : ℕ → Bool) (n i : ℕ) → anyBelow f n ≡ false → i < n → f i ≡ false
+unfolding anyBelow
+none-below f zero i e lt = absurd (omega arith)
+none-below f (suc n) i e lt = let q = or-false (anyBelow f n) (f n) e in go (eqb i n) refl (q .1) (λ l. none-below f n i (q .0) l)
+  where
+    go : (b : Bool) → eqb i n ≡ b → f n ≡ false → (i < n → f i ≡ false) → f i ≡ false
+    go true d here there = rw (eqb-true i n d) here
+    go false d here there = there (below-suc i n lt d)
+
+pub no-below : (f : ℕ → Bool) (n : ℕ) → ((i : ℕ) → i < n → f i ≡ false) → anyBelow f n ≡ false
+unfolding anyBelow
+no-below f zero h = refl
+no-below f (suc n) h = rw (no-below f n (λ i l. h i (omega arith))) (h n (omega arith))
+
+pub count-zero : (f : ℕ → Bool) (n i : ℕ) → countBelow f n ≡ 0 → i < n → f i ≡ false
+unfolding countBelow
+count-zero f zero i e lt = absurd (omega arith)
+count-zero f (suc n) i e lt = go (f n) refl (eqb i n) refl (λ q l. count-zero f n i q l)
+  where
+    go : (a : Bool) → f n ≡ a → (b : Bool) → eqb i n ≡ b → (countBelow f n ≡ 0 → i < n → f i ≡ false) → f i ≡ false
+    go true q b d rec = absurd (let z : suc (countBelow f n) ≡ 0 = rw q at e in omega arith)
+    go false q true d rec = rw (eqb-true i n d) q
+    go false q false d rec = rec (rw q at e) (below-suc i n lt d)
+
+pub count-none : (f : ℕ → Bool) (n : ℕ) → ((i : ℕ) → i < n → f i ≡ false) → countBelow f n ≡ 0
+unfolding countBelow
+count-none f zero h = refl
+count-none f (suc n) h = rw (h n (omega arith)) (count-none f n (λ i l. h i (omega arith)))
+
+-- A count follows one changed number.
+pub count-upd : (f g : ℕ → Bool) (n r : ℕ) → r < n → ((j : ℕ) → eqb j r ≡ false → g j ≡ f j)
+    → countBelow g n + pick (f r) 1 0 ≡ countBelow f n + pick (g r) 1 0
+unfolding countBelow
+count-upd f g zero r lt h = absurd (omega arith)
+count-upd f g (suc n) r lt h = go (eqb n r) refl (λ l. count-upd f g n r l h)
+  where
+    alike : (m : ℕ) → m ≤ r → countBelow g m ≡ countBelow f m
+    alike zero l = refl
+    alike (suc m) l = rw (alike m (omega arith), h m (go-ne m (omega arith))) refl
+      where
+        go-ne : (m : ℕ) → m < r → eqb m r ≡ false
+        go-ne m l = by-test (eqb m r) (λ e. omega (arith, eqb-true m r e))
+
+    one : (b : Bool) (k : ℕ) → pick b (suc k) k ≡ k + pick b 1 0
+    one true k = omega arith
+    one false k = omega arith
+
+    go : (b : Bool) → eqb n r ≡ b → (r < n → countBelow g n + pick (f r) 1 0 ≡ countBelow f n + pick (g r) 1 0)
+        → pick (g n) (suc (countBelow g n)) (countBelow g n) + pick (f r) 1 0 ≡ pick (f n) (suc (countBelow f n)) (countBelow f n) + pick (g r) 1 0
+    go true d rec = let e = eqb-true n r d in
+        rw (one (g n) (countBelow g n), one (f n) (countBelow f n), e, alike r (omega arith)) (omega arith)
+    go false d rec = let q = eqb-false n r d in let z = rec (omega arith) in
+        rw (one (g n) (countBelow g n), one (f n) (countBelow f n), h n d) (omega arith)

@@ -1,0 +1,107 @@
+-- Demand 3's words, told by the calls alone: which sections are open, what was picked in them, and who holds which slot.
+use Prim.Native.Nat.{ℕ}
+use mathlib.Core.Bool.{Bool, true, false, _&&_, _||_}
+use mathlib.Core.List.{List}
+use mathlib.Core.Option.{Option, none, some}
+use mathlib.Core.Path.{_≡_}
+use Rattle.calls.specs.declared.Call.{Call}
+use Rattle.calls.specs.declared.Call.the-variants.{Enter, Look, Leave, Claim, Write, Swap, Sync, Raise, Walk, Release}
+use Rattle.calls.specs.declared.Reply.{Reply}
+use Rattle.calls.specs.Base.{pick, upd, is}
+use Rattle.calls.specs.Events.{Event, placeOf, foldEvents}
+
+pub record Told : Type 0 where
+  -- whose section is open
+  pub inside : ℕ → Bool
+  -- the slot that a reader picked in it
+  pub picked : ℕ → Option ℕ
+  -- the current slot
+  pub current : Option ℕ
+  -- the slot of a publisher's last accepted CLAIM, and whether a SWAP has still to follow it
+  pub claim : ℕ → Option ℕ
+  pub writes : ℕ → Bool
+  -- the slots that were current just before an accepted SWAP of a publisher's own, until its RELEASE
+  pub former : ℕ → ℕ → Bool
+
+-- Slot 0 is current at first.
+abbrev pub told₀ : Told
+told₀ = record { inside = λ r. false; picked = λ r. none; current = some 0; claim = λ p. none; writes = λ p. false; former = λ p x. false }
+
+-- A reader's section, and what it picked in it.
+abbrev pub withSection : Told → ℕ → Bool → Option ℕ → Told
+withSection t r i x = record {
+  inside = upd (t .inside) r i;
+  picked = upd (t .picked) r x;
+  current = t .current;
+  claim = t .claim;
+  writes = t .writes;
+  former = t .former;
+}
+
+-- A section is open from the ENTER that replies place 4. Its pick is the ENTER that replies place 5, and takes the slot then current.
+abbrev pub entered : Told → ℕ → Option ℕ → Told
+entered t r place = pick (is place 4) (withSection t r true none) (pick (is place 5) (withSection t r (t .inside r) (t .current)) t)
+
+-- A publisher holds a slot from its accepted CLAIM ..
+abbrev pub claimed : Told → ℕ → ℕ → Told
+claimed t p s = record {
+  inside = t .inside;
+  picked = t .picked;
+  current = t .current;
+  claim = upd (t .claim) p (some s);
+  writes = upd (t .writes) p true;
+  former = t .former;
+}
+
+-- .. until its next accepted SWAP, which makes current the slot of that publisher's last accepted CLAIM;
+-- and the slot current just before an accepted SWAP of its own from then ..
+abbrev pub swapped : Told → ℕ → Told
+swapped t p = record {
+  inside = t .inside;
+  picked = t .picked;
+  current = t .claim p;
+  claim = t .claim;
+  writes = upd (t .writes) p false;
+  former = upd (t .former) p (λ x. is (t .current) x || t .former p x);
+}
+
+-- .. until its next accepted RELEASE.
+abbrev pub released : Told → ℕ → Told
+released t p = record {
+  inside = t .inside;
+  picked = t .picked;
+  current = t .current;
+  claim = t .claim;
+  writes = t .writes;
+  former = upd (t .former) p (λ x. false);
+}
+
+abbrev pub tell : Told → Call → Reply → Told
+tell t (Enter r) a = entered t r (placeOf a)
+tell t (Look r k) a = t
+tell t (Leave r) a = withSection t r false none
+tell t (Claim p s) a = claimed t p s
+tell t (Write p v) a = t
+tell t (Swap p) a = swapped t p
+tell t (Sync p) a = t
+tell t (Raise p) a = t
+tell t (Walk p b) a = t
+tell t (Release p) a = released t p
+
+-- What the events tell.
+abbrev pub toldBy : List Event → Told
+toldBy es = foldEvents tell told₀ es
+
+abbrev pub holds : Told → ℕ → ℕ → Bool
+holds t p x = (t .writes p && is (t .claim p) x) || t .former p x
+
+-- A slot's role: current, held by a publisher, or free. Every slot that is neither of the first two is free.
+pub data Role : Type 0 where
+  current : Role
+  heldBy : ℕ → Role
+  free : Role
+
+abbrev pub Has : Told → ℕ → Role → Type 0
+Has t x current = is (t .current) x ≡ true
+Has t x (heldBy p) = holds t p x ≡ true
+Has t x free = (is (t .current) x ≡ false) × ((p : ℕ) → holds t p x ≡ false)

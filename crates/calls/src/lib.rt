@@ -1,0 +1,117 @@
+// The vocabulary of the store: calls, replies, limits and refusal numbers, as document 01 names them.
+// specs/: rows of refusals as data, what the calls alone tell, document 01's plain shelf, a reply's numbers for C.
+// It uses nothing.
+
+// A pitch, in hundredths of a degree.
+pub type Pitch = i16;
+
+pub const PITCH_BITS: u32 = 16;
+
+pub const PITCH_LOW: Pitch = -500;
+
+pub const PITCH_HIGH: Pitch = 9500;
+// Every entry of a fresh store.
+pub const FEATHERED: Pitch = 9000;
+
+pub const READERS_MAX: u16 = 64;
+
+pub const PUBLISHERS_MAX: u16 = 16;
+
+pub const SLOTS_MIN: u16 = 2;
+
+pub const SLOTS_MAX: u16 = 32;
+// Entries of one table.
+pub const TABLE: usize = 32;
+// What a reader publishes that is in no section.
+pub const NOT_READING: u64 = 18446744073709551615;
+
+// The kind word of a store's words.
+pub const KIND_NEW: u64 = 1;
+
+pub const KIND_OLD: u64 = 2;
+
+// Refusal numbers, in the order of document 01's table.
+pub const DAMAGED: u64 = 1;
+
+pub const BAD_READERS: u64 = 2;
+
+pub const BAD_PUBLISHERS: u64 = 3;
+
+pub const BAD_SLOTS: u64 = 4;
+
+pub const BAD_ENTRIES: u64 = 5;
+
+pub const BAD_VERSION: u64 = 6;
+
+pub const NO_SUCH_READER: u64 = 10;
+
+pub const NO_SUCH_PUBLISHER: u64 = 11;
+
+pub const NO_SUCH_SLOT: u64 = 12;
+
+pub const NO_SUCH_ENTRY: u64 = 13;
+
+pub const BAD_PITCH: u64 = 14;
+
+pub const READER_TURN: u64 = 20;
+
+pub const PUBLISHER_TURN: u64 = 21;
+
+pub const SLOT_IN_USE: u64 = 30;
+
+pub const BUSY: u64 = 31;
+
+pub const VERSION_IS_LAST: u64 = 32;
+
+pub const TOO_MANY_LOOKS: u64 = 33;
+
+// Reader calls name a reader r, publisher calls a publisher p.
+pub enum Call {
+    Enter(u16),
+    // r, and the entry k
+    Look(u16, u16),
+    Leave(u16),
+    // p, and the slot s
+    Claim(u16, u16),
+    // p, and the pitch v
+    Write(u16, Pitch),
+    Swap(u16),
+    Sync(u16),
+    Raise(u16),
+    // p, and how many looks it may make
+    Walk(u16, u16),
+    Release(u16),
+}
+
+// What a walk answers.
+pub enum WalkReply {
+    // the reader (new) or the indicator (old) that it waits for
+    Waiting(u64),
+    Spent,
+    Quiet,
+    // looks and waits
+    Returned(u64, u64),
+}
+
+pub enum Reply {
+    Made,
+    // the place
+    At(u64),
+    Pitch(Pitch),
+    Left,
+    // the slot
+    Claimed(u64),
+    // how many entries are written
+    Written(u64),
+    // the slot that was current
+    Swapped(u64),
+    // the mark
+    Synced(u64),
+    Raised,
+    Shared,
+    Walked(WalkReply),
+    // the slot, and the releases
+    Freed(u64, u64),
+    // document 01's number
+    Refused(u64),
+}

@@ -1,0 +1,301 @@
+-- The laws of the layout: all that the steps and the proofs above know of it.
+-- A record is some words in a row: what is put there is read there and nowhere else. Assumes nothing.
+use Prim.Native.Nat.{ℕ, zero, suc, _+_, _*_, _<_, _≤_}
+use native.Mathlib.Omega.{arith}
+use mathlib.Core.Path.{_≡_, refl, sym, ap, _∙_, fun-ext}
+use mathlib.Core.Logic.{_≢_, _⊎_, inl, inr}
+use mathlib.Core.Bool.{Bool, true, false}
+use mathlib.Core.List.{List, [], _∷_}
+use lib.IntN.{ℤ, pos}
+use lib.ListN.{getD, set, length, length-set, replicate, length-replicate}
+use lib.Seq.{getD-set-same, getD-set-other, set-getD}
+use lib.Dec.{ltb, eqb}
+use borrow.Author.Tests.{eqb-true, eqb-false, ltb-true, ltb-false, lt-ltb, le-ltb}
+use Rattle.layout.specs.declared.Reader.{Reader}
+use Rattle.layout.specs.declared.Publisher.{Publisher}
+use Rattle.calls.specs.Base.{pick, upd}
+use Rattle.calls.specs.Numbers.{READERS-MAX, PUBLISHERS-MAX, TABLE}
+use Rattle.calls.specs.RowLaws.{pick-same}
+use Rattle.layout.specs.Layout.{KIND-AT, READERS-AT, PUBLISHERS-AT, SLOTS-AT, CURRENT-AT, VERSION-AT, HEAD, READER-WORDS, PUBLISHER-WORDS, FIRST-PUBLISHER, WORDS, readerOf, readerWords, publisherOf, publisherWords, noReader, noPublisher, putWords, readerAt, publisherAt, withReader, withPublisher, withReaders, fresh, entryAt}
+
+-- Words put in a row.
+pub length-put : (vs w : List ℕ) (b i : ℕ) → length (putWords w b i vs) ≡ length w
+length-put [] w b i = refl
+length-put (v ∷ vs) w b i = length-put vs (set w (b + i) v) b (i + 1) ∙ length-set w (b + i) v
+
+put-other : (vs w : List ℕ) (b i j : ℕ) → (j < b + i) ⊎ (b + i + length vs ≤ j) → getD (putWords w b i vs) j 0 ≡ getD w j 0
+put-other [] w b i j o = refl
+put-other (v ∷ vs) w b i j (inl l) = put-other vs (set w (b + i) v) b (i + 1) j (inl (omega arith)) ∙ getD-set-other w (b + i) j v 0 (λ z. omega arith)
+put-other (v ∷ vs) w b i j (inr l) = put-other vs (set w (b + i) v) b (i + 1) j (inr (omega arith)) ∙ getD-set-other w (b + i) j v 0 (λ z. omega arith)
+
+put-here : (vs w : List ℕ) (b i k : ℕ) → k < length vs → b + i + length vs ≤ length w → getD (putWords w b i vs) (b + (i + k)) 0 ≡ getD vs k 0
+put-here [] w b i k l f = absurd (omega arith)
+put-here (v ∷ vs) w b i zero l f =
+    let e : b + (i + 0) ≡ b + i = omega arith in
+    rw e (put-other vs (set w (b + i) v) b (i + 1) (b + i) (inl (omega arith)) ∙ getD-set-same w (b + i) v 0 (omega arith))
+put-here (v ∷ vs) w b i (suc k) l f =
+    let e : b + (i + suc k) ≡ b + (i + 1 + k) = omega arith in
+    rw e (put-here vs (set w (b + i) v) b (i + 1) k (omega arith) (rw (length-set w (b + i) v) (omega arith)))
+
+-- Records that agree word by word.
+reader-same : (f g : ℕ → ℕ) → ((i : ℕ) → i < READER-WORDS → f i ≡ g i) → readerOf f ≡ readerOf g
+reader-same f g e = rw (e 0 (omega arith), e 1 (omega arith), e 2 (omega arith), e 3 (omega arith), e 4 (omega arith)) refl
+
+publisher-same : (f g : ℕ → ℕ) → ((i : ℕ) → i < PUBLISHER-WORDS → f i ≡ g i) → publisherOf f ≡ publisherOf g
+publisher-same f g e = rw (e 0 (omega arith), e 1 (omega arith), e 2 (omega arith), e 3 (omega arith), e 4 (omega arith), e 5 (omega arith)) refl
+
+-- The two views, where the words of a record agree.
+reader-by : (v w : List ℕ) (j : ℕ) → (j < READERS-MAX → (i : ℕ) → i < READER-WORDS → getD v (HEAD + READER-WORDS * j + i) 0 ≡ getD w (HEAD + READER-WORDS * j + i) 0)
+    → readerAt v j ≡ readerAt w j
+unfolding readerAt
+reader-by v w j f = go (ltb j READERS-MAX) refl
+  where
+    go : (b : Bool) → ltb j READERS-MAX ≡ b → pick b (readerOf (λ i. getD v (HEAD + READER-WORDS * j + i) 0)) noReader ≡ pick b (readerOf (λ i. getD w (HEAD + READER-WORDS * j + i) 0)) noReader
+    go true e = reader-same _ _ (f (ltb-true j READERS-MAX e))
+    go false e = refl
+
+publisher-by : (v w : List ℕ) (j : ℕ) → (j < PUBLISHERS-MAX → (i : ℕ) → i < PUBLISHER-WORDS → getD v (FIRST-PUBLISHER + PUBLISHER-WORDS * j + i) 0 ≡ getD w (FIRST-PUBLISHER + PUBLISHER-WORDS * j + i) 0)
+    → publisherAt v j ≡ publisherAt w j
+unfolding publisherAt
+publisher-by v w j f = go (ltb j PUBLISHERS-MAX) refl
+  where
+    go : (b : Bool) → ltb j PUBLISHERS-MAX ≡ b → pick b (publisherOf (λ i. getD v (FIRST-PUBLISHER + PUBLISHER-WORDS * j + i) 0)) noPublisher ≡ pick b (publisherOf (λ i. getD w (FIRST-PUBLISHER + PUBLISHER-WORDS * j + i) 0)) noPublisher
+    go true e = publisher-same _ _ (f (ltb-true j PUBLISHERS-MAX e))
+    go false e = refl
+
+-- Lengths.
+pub length-reader : (w : List ℕ) (r : ℕ) (x : Reader) → length (withReader w r x) ≡ length w
+unfolding withReader
+length-reader w r x = length-put (readerWords x) w _ 0
+
+pub length-publisher : (w : List ℕ) (p : ℕ) (x : Publisher) → length (withPublisher w p x) ≡ length w
+unfolding withPublisher
+length-publisher w p x = length-put (publisherWords x) w _ 0
+
+-- A record written leaves the head.
+pub head-reader : (w : List ℕ) (r : ℕ) (x : Reader) (k : ℕ) → k < HEAD → getD (withReader w r x) k 0 ≡ getD w k 0
+unfolding withReader
+head-reader w r x k lt = put-other (readerWords x) w (HEAD + READER-WORDS * r) 0 k (inl (omega arith))
+
+pub head-publisher : (w : List ℕ) (p : ℕ) (x : Publisher) (k : ℕ) → k < HEAD → getD (withPublisher w p x) k 0 ≡ getD w k 0
+unfolding withPublisher
+head-publisher w p x k lt = put-other (publisherWords x) w (FIRST-PUBLISHER + PUBLISHER-WORDS * p) 0 k (inl (omega arith))
+
+-- The head written leaves the records.
+pub reader-head : (w : List ℕ) (k v : ℕ) → k < HEAD → readerAt (set w k v) ≡ readerAt w
+reader-head w k v lt = fun-ext (λ j. reader-by (set w k v) w j (λ l i m. getD-set-other w k (HEAD + READER-WORDS * j + i) v 0 (λ z. omega arith)))
+
+pub publisher-head : (w : List ℕ) (k v : ℕ) → k < HEAD → publisherAt (set w k v) ≡ publisherAt w
+publisher-head w k v lt = fun-ext (λ j. publisher-by (set w k v) w j (λ l i m. getD-set-other w k (FIRST-PUBLISHER + PUBLISHER-WORDS * j + i) v 0 (λ z. omega arith)))
+
+-- A record of one sort written leaves those of the other.
+pub reader-publisher : (w : List ℕ) (p : ℕ) (x : Publisher) → readerAt (withPublisher w p x) ≡ readerAt w
+unfolding withPublisher
+reader-publisher w p x = fun-ext (λ j. reader-by (putWords w (FIRST-PUBLISHER + PUBLISHER-WORDS * p) 0 (publisherWords x)) w j
+    (λ l i m. put-other (publisherWords x) w (FIRST-PUBLISHER + PUBLISHER-WORDS * p) 0 (HEAD + READER-WORDS * j + i) (inl (omega arith))))
+
+pub publisher-reader : (w : List ℕ) (r : ℕ) (x : Reader) → r < READERS-MAX → publisherAt (withReader w r x) ≡ publisherAt w
+unfolding withReader
+publisher-reader w r x lt = fun-ext (λ j. publisher-by (putWords w (HEAD + READER-WORDS * r) 0 (readerWords x)) w j
+    (λ l i m. put-other (readerWords x) w (HEAD + READER-WORDS * r) 0 (FIRST-PUBLISHER + PUBLISHER-WORDS * j + i) (inr (omega arith))))
+
+-- A record written is read there, and every other one stays.
+reader-here : (w : List ℕ) (r : ℕ) (x : Reader) → length w ≡ WORDS → r < READERS-MAX → readerAt (withReader w r x) r ≡ x
+unfolding readerAt withReader
+reader-here w r x len lt = rw (lt-ltb r READERS-MAX lt) (reader-same (λ i. getD (putWords w (HEAD + READER-WORDS * r) 0 (readerWords x)) (HEAD + READER-WORDS * r + i) 0) (λ i. getD (readerWords x) i 0) put)
+  where
+    put : (i : ℕ) → i < READER-WORDS → getD (putWords w (HEAD + READER-WORDS * r) 0 (readerWords x)) (HEAD + READER-WORDS * r + i) 0 ≡ getD (readerWords x) i 0
+    put i l = let e : 0 + i ≡ i = omega arith in rw e at (put-here (readerWords x) w (HEAD + READER-WORDS * r) 0 i l (omega arith))
+
+reader-there : (w : List ℕ) (r : ℕ) (x : Reader) (j : ℕ) → j ≢ r → readerAt (withReader w r x) j ≡ readerAt w j
+unfolding withReader
+reader-there w r x j ne = reader-by (putWords w (HEAD + READER-WORDS * r) 0 (readerWords x)) w j
+    (λ l i m. put-other (readerWords x) w (HEAD + READER-WORDS * r) 0 (HEAD + READER-WORDS * j + i) (side (ltb j r) refl i m))
+  where
+    side : (b : Bool) → ltb j r ≡ b → (i : ℕ) → i < READER-WORDS
+        → (HEAD + READER-WORDS * j + i < HEAD + READER-WORDS * r + 0) ⊎ (HEAD + READER-WORDS * r + 0 + READER-WORDS ≤ HEAD + READER-WORDS * j + i)
+    side true e i m = inl (omega (arith, ltb-true j r e))
+    side false e i m = inr (let q = ltb-false j r e in omega arith)
+
+publisher-here : (w : List ℕ) (p : ℕ) (x : Publisher) → length w ≡ WORDS → p < PUBLISHERS-MAX → publisherAt (withPublisher w p x) p ≡ x
+unfolding publisherAt withPublisher
+publisher-here w p x len lt = rw (lt-ltb p PUBLISHERS-MAX lt) (publisher-same (λ i. getD (putWords w (FIRST-PUBLISHER + PUBLISHER-WORDS * p) 0 (publisherWords x)) (FIRST-PUBLISHER + PUBLISHER-WORDS * p + i) 0) (λ i. getD (publisherWords x) i 0) put)
+  where
+    put : (i : ℕ) → i < PUBLISHER-WORDS → getD (putWords w (FIRST-PUBLISHER + PUBLISHER-WORDS * p) 0 (publisherWords x)) (FIRST-PUBLISHER + PUBLISHER-WORDS * p + i) 0 ≡ getD (publisherWords x) i 0
+    put i l = let e : 0 + i ≡ i = omega arith in rw e at (put-here (publisherWords x) w (FIRST-PUBLISHER + PUBLISHER-WORDS * p) 0 i l (omega arith))
+
+publisher-there : (w : List ℕ) (p : ℕ) (x : Publisher) (j : ℕ) → j ≢ p → publisherAt (withPublisher w p x) j ≡ publisherAt w j
+unfolding withPublisher
+publisher-there w p x j ne = publisher-by (putWords w (FIRST-PUBLISHER + PUBLISHER-WORDS * p) 0 (publisherWords x)) w j
+    (λ l i m. put-other (publisherWords x) w (FIRST-PUBLISHER + PUBLISHER-WORDS * p) 0 (FIRST-PUBLISHER + PUBLISHER-WORDS * j + i) (side (ltb j p) refl i m))
+  where
+    side : (b : Bool) → ltb j p ≡ b → (i : ℕ) → i < PUBLISHER-WORDS
+        → (FIRST-PUBLISHER + PUBLISHER-WORDS * j + i < FIRST-PUBLISHER + PUBLISHER-WORDS * p + 0) ⊎ (FIRST-PUBLISHER + PUBLISHER-WORDS * p + 0 + PUBLISHER-WORDS ≤ FIRST-PUBLISHER + PUBLISHER-WORDS * j + i)
+    side true e i m = inl (omega (arith, ltb-true j p e))
+    side false e i m = inr (let q = ltb-false j p e in omega arith)
+
+-- Both at once, of a field or of the whole record.
+pub reader-put : {B : Type 0} (f : Reader → B) (w : List ℕ) (r : ℕ) (x : Reader) → length w ≡ WORDS → r < READERS-MAX
+    → (λ j. f (readerAt (withReader w r x) j)) ≡ upd (λ j. f (readerAt w j)) r (f x)
+reader-put f w r x len lt = fun-ext (λ j. go j (eqb j r) refl)
+  where
+    go : (j : ℕ) (b : Bool) → eqb j r ≡ b → f (readerAt (withReader w r x) j) ≡ upd (λ j. f (readerAt w j)) r (f x) j
+    go j true e = rw (e, eqb-true j r e) (ap f (reader-here w r x len lt))
+    go j false e = rw e (ap f (reader-there w r x j (eqb-false j r e)))
+
+pub publisher-put : {B : Type 0} (f : Publisher → B) (w : List ℕ) (p : ℕ) (x : Publisher) → length w ≡ WORDS → p < PUBLISHERS-MAX
+    → (λ j. f (publisherAt (withPublisher w p x) j)) ≡ upd (λ j. f (publisherAt w j)) p (f x)
+publisher-put f w p x len lt = fun-ext (λ j. go j (eqb j p) refl)
+  where
+    go : (j : ℕ) (b : Bool) → eqb j p ≡ b → f (publisherAt (withPublisher w p x) j) ≡ upd (λ j. f (publisherAt w j)) p (f x) j
+    go j true e = rw (e, eqb-true j p e) (ap f (publisher-here w p x len lt))
+    go j false e = rw e (ap f (publisher-there w p x j (eqb-false j p e)))
+
+-- Fresh words.
+zero-at : (n i : ℕ) → _≡_ {A = ℕ} (getD (replicate n 0) i 0) 0
+zero-at zero i = refl
+zero-at (suc n) zero = refl
+zero-at (suc n) (suc i) = zero-at n i
+
+blank-reader : (n j : ℕ) → readerAt (replicate n 0) j ≡ noReader
+unfolding readerAt
+blank-reader n j = rw (reader-same (λ i. getD (replicate n 0) (HEAD + READER-WORDS * j + i) 0) (λ i. 0) (λ i l. zero-at n (HEAD + READER-WORDS * j + i))) (pick-same (ltb j READERS-MAX) noReader)
+
+blank-publisher : (n j : ℕ) → publisherAt (replicate n 0) j ≡ noPublisher
+unfolding publisherAt
+blank-publisher n j = rw (publisher-same (λ i. getD (replicate n 0) (FIRST-PUBLISHER + PUBLISHER-WORDS * j + i) 0) (λ i. 0) (λ i l. zero-at n (FIRST-PUBLISHER + PUBLISHER-WORDS * j + i))) (pick-same (ltb j PUBLISHERS-MAX) noPublisher)
+
+pub length-readers : (n : ℕ) (w : List ℕ) (x : Reader) → length (withReaders n w x) ≡ length w
+unfolding withReaders
+length-readers zero w x = refl
+length-readers (suc n) w x = length-reader (withReaders n w x) n x ∙ length-readers n w x
+
+readers-put : (n : ℕ) (w : List ℕ) (x : Reader) → length w ≡ WORDS → n ≤ READERS-MAX → (j : ℕ) → readerAt (withReaders n w x) j ≡ pick (ltb j n) x (readerAt w j)
+unfolding withReaders
+readers-put zero w x len le j = rw (le-ltb j 0 (omega arith)) refl
+readers-put (suc n) w x len le j = at j (readers-put n w x len (omega arith) j)
+  where
+    at : (j : ℕ) → readerAt (withReaders n w x) j ≡ pick (ltb j n) x (readerAt w j) → readerAt (withReader (withReaders n w x) n x) j ≡ pick (ltb j (suc n)) x (readerAt w j)
+    at j e = ap (λ (f : ℕ → Reader). f j) (reader-put (λ (y : Reader). y) (withReaders n w x) n x (length-readers n w x ∙ len) (omega arith)) ∙ go (eqb j n) refl (ltb j n) refl e
+      where
+        go : (a : Bool) → eqb j n ≡ a → (b : Bool) → ltb j n ≡ b → readerAt (withReaders n w x) j ≡ pick b x (readerAt w j) → pick a x (readerAt (withReaders n w x) j) ≡ pick (ltb j (suc n)) x (readerAt w j)
+        go true d b f e = rw (lt-ltb j (suc n) (omega (arith, eqb-true j n d))) refl
+        go false d true f e = rw (lt-ltb j (suc n) (omega (arith, ltb-true j n f))) e
+        go false d false f e = rw (ltb-none j n d f) e
+          where
+            ltb-none : (j n : ℕ) → eqb j n ≡ false → ltb j n ≡ false → ltb j (suc n) ≡ false
+            ltb-none j n d f = let q = eqb-false j n d in let l = ltb-false j n f in le-ltb j (suc n) (omega arith)
+
+-- A word stored, read anywhere.
+set-at : (w : List ℕ) (i v j : ℕ) → i < length w → getD (set w i v) j 0 ≡ pick (eqb j i) v (getD w j 0)
+set-at w i v j lt = go (eqb j i) refl
+  where
+    go : (b : Bool) → eqb j i ≡ b → getD (set w i v) j 0 ≡ pick b v (getD w j 0)
+    go true e = rw (eqb-true j i e) (getD-set-same w i v 0 lt)
+    go false e = getD-set-other w i j v 0 (eqb-false j i e)
+
+readers-head : (n : ℕ) (w : List ℕ) (x : Reader) (k : ℕ) → k < HEAD → getD (withReaders n w x) k 0 ≡ getD w k 0
+unfolding withReaders
+readers-head zero w x k lt = refl
+readers-head (suc n) w x k lt = head-reader (withReaders n w x) n x k lt ∙ readers-head n w x k lt
+
+readers-publisher : (n : ℕ) (w : List ℕ) (x : Reader) → n ≤ READERS-MAX → publisherAt (withReaders n w x) ≡ publisherAt w
+unfolding withReaders
+readers-publisher zero w x le = refl
+readers-publisher (suc n) w x le = publisher-reader (withReaders n w x) n x (omega arith) ∙ readers-publisher n w x (omega arith)
+
+module _ (k rs ps ss v : ℕ) (x : Reader) where
+  u0 : List ℕ
+  u0 = withReaders READERS-MAX (replicate WORDS 0) x
+
+  u1 : List ℕ
+  u1 = set u0 KIND-AT k
+
+  u2 : List ℕ
+  u2 = set u1 READERS-AT rs
+
+  u3 : List ℕ
+  u3 = set u2 PUBLISHERS-AT ps
+
+  u4 : List ℕ
+  u4 = set u3 SLOTS-AT ss
+
+  fresh-is : fresh k rs ps ss v x ≡ set u4 VERSION-AT v
+  unfolding fresh u0 u1 u2 u3 u4
+  fresh-is = refl
+
+  u0-long : length u0 ≡ WORDS
+  unfolding u0
+  u0-long = length-readers READERS-MAX (replicate WORDS 0) x
+
+  u1-long : length u1 ≡ WORDS
+  unfolding u1
+  u1-long = length-set u0 KIND-AT k ∙ u0-long
+
+  u2-long : length u2 ≡ WORDS
+  unfolding u2
+  u2-long = length-set u1 READERS-AT rs ∙ u1-long
+
+  u3-long : length u3 ≡ WORDS
+  unfolding u3
+  u3-long = length-set u2 PUBLISHERS-AT ps ∙ u2-long
+
+  u4-long : length u4 ≡ WORDS
+  unfolding u4
+  u4-long = length-set u3 SLOTS-AT ss ∙ u3-long
+
+  pub fresh-long : length (fresh k rs ps ss v x) ≡ WORDS
+  fresh-long = rw fresh-is (length-set u4 VERSION-AT v ∙ u4-long)
+
+  u1-at : (j : ℕ) → j < HEAD → getD u1 j 0 ≡ pick (eqb j KIND-AT) k 0
+  unfolding u0 u1
+  u1-at j lt = set-at u0 KIND-AT k j (omega (arith, u0-long)) ∙ rw (readers-head READERS-MAX (replicate WORDS 0) x j lt, zero-at WORDS j) refl
+
+  u2-at : (j : ℕ) → getD u2 j 0 ≡ pick (eqb j READERS-AT) rs (getD u1 j 0)
+  unfolding u2
+  u2-at j = set-at u1 READERS-AT rs j (omega (arith, u1-long))
+
+  u3-at : (j : ℕ) → getD u3 j 0 ≡ pick (eqb j PUBLISHERS-AT) ps (getD u2 j 0)
+  unfolding u3
+  u3-at j = set-at u2 PUBLISHERS-AT ps j (omega (arith, u2-long))
+
+  u4-at : (j : ℕ) → getD u4 j 0 ≡ pick (eqb j SLOTS-AT) ss (getD u3 j 0)
+  unfolding u4
+  u4-at j = set-at u3 SLOTS-AT ss j (omega (arith, u3-long))
+
+  -- The head of fresh words.
+  pub fresh-head : (j : ℕ) → j < HEAD
+      → getD (fresh k rs ps ss v x) j 0 ≡ pick (eqb j VERSION-AT) v (pick (eqb j SLOTS-AT) ss (pick (eqb j PUBLISHERS-AT) ps (pick (eqb j READERS-AT) rs (pick (eqb j KIND-AT) k 0))))
+  fresh-head j lt = rw (fresh-is, set-at u4 VERSION-AT v j (omega (arith, u4-long)), u4-at j, u3-at j, u2-at j, u1-at j lt) refl
+
+  pub fresh-reader : (j : ℕ) → readerAt (fresh k rs ps ss v x) j ≡ pick (ltb j READERS-MAX) x noReader
+  unfolding u0 u1 u2 u3 u4
+  fresh-reader j = rw (fresh-is, reader-head u4 VERSION-AT v (omega arith), reader-head u3 SLOTS-AT ss (omega arith), reader-head u2 PUBLISHERS-AT ps (omega arith), reader-head u1 READERS-AT rs (omega arith), reader-head u0 KIND-AT k (omega arith))
+      (readers-put READERS-MAX (replicate WORDS 0) x (length-replicate {A = ℕ} WORDS 0) (omega arith) j ∙ rw (blank-reader WORDS j) refl)
+
+  pub fresh-publisher : (j : ℕ) → publisherAt (fresh k rs ps ss v x) j ≡ noPublisher
+  unfolding u0 u1 u2 u3 u4
+  fresh-publisher j = rw (fresh-is, publisher-head u4 VERSION-AT v (omega arith), publisher-head u3 SLOTS-AT ss (omega arith), publisher-head u2 PUBLISHERS-AT ps (omega arith), publisher-head u1 READERS-AT rs (omega arith), publisher-head u0 KIND-AT k (omega arith), readers-publisher READERS-MAX (replicate WORDS 0) x (omega arith))
+      (blank-publisher WORDS j)
+
+-- A record put back as it was read changes nothing.
+put-same : (w : List ℕ) (b i : ℕ) (vs : List ℕ) → ((k : ℕ) → k < length vs → getD w (b + (i + k)) 0 ≡ getD vs k 0) → putWords w b i vs ≡ w
+put-same w b i [] e = refl
+put-same w b i (v ∷ vs) e =
+    let f : b + (i + 0) ≡ b + i = omega arith in
+    let here : v ≡ getD w (b + i) 0 = sym (rw f at (e 0 (omega arith))) in
+    let w-same : set w (b + i) v ≡ w = rw here (set-getD w (b + i) 0) in
+    rw w-same (put-same w b (i + 1) vs (λ k l. let g : b + (i + suc k) ≡ b + (i + 1 + k) = omega arith in rw g at (e (suc k) (omega arith))))
+
+pub publisher-back : (w : List ℕ) (p : ℕ) → p < PUBLISHERS-MAX → withPublisher w p (publisherAt w p) ≡ w
+unfolding withPublisher publisherAt
+publisher-back w p lt = rw (lt-ltb p PUBLISHERS-MAX lt) (put-same w (FIRST-PUBLISHER + PUBLISHER-WORDS * p) 0 (publisherWords (publisherOf (λ i. getD w (FIRST-PUBLISHER + PUBLISHER-WORDS * p + i) 0))) six)
+  where
+    six : (k : ℕ) → k < 6 → getD w (FIRST-PUBLISHER + PUBLISHER-WORDS * p + (0 + k)) 0 ≡ getD (publisherWords (publisherOf (λ i. getD w (FIRST-PUBLISHER + PUBLISHER-WORDS * p + i) 0))) k 0
+    six zero l = refl
+    six (suc zero) l = refl
+    six (suc (suc zero)) l = refl
+    six (suc (suc (suc zero))) l = refl
+    six (suc (suc (suc (suc zero)))) l = refl
+    six (suc (suc (suc (suc (suc zero))))) l = refl
+    six (suc (suc (suc (suc (suc (suc k)))))) l = absurd (omega arith)

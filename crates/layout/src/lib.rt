@@ -1,0 +1,229 @@
+// Where each number of a store stands among its words, and the records that are read out of them and written back by value.
+// specs/: the views of the words, and their laws, which are all that is known of the layout above.
+// It uses calls.
+ghost use mathlib.Core.Path.{_≡_};
+ghost use Prim.Native.Nat.{_<_};
+ghost use lib.ListN.{length};
+ghost use Rattle.calls.specs.Numbers.{READERS-MAX, PUBLISHERS-MAX};
+ghost use Rattle.layout.specs.Layout.{WORDS, kind, readers, publishers, slots, current, version, releases, indicator, withCurrent, withVersion, withReleases, withIndicator, readerAt, publisherAt, withReader, withPublisher};
+use calls::WalkReply;
+
+// The length of a store's words.
+pub const WORDS: usize = 425;
+
+// The head.
+const KIND_AT: usize = 0;
+
+const READERS_AT: usize = 1;
+
+const PUBLISHERS_AT: usize = 2;
+
+const SLOTS_AT: usize = 3;
+
+const CURRENT_AT: usize = 4;
+
+const VERSION_AT: usize = 5;
+
+const RELEASES_AT: usize = 6;
+
+const INDICATORS_AT: usize = 7;
+
+// The records: where the first one stands, and how many words each has.
+const FIRST_READER: usize = 9;
+
+const READER_WORDS: usize = 5;
+
+const FIRST_PUBLISHER: usize = 329;
+
+const PUBLISHER_WORDS: usize = 6;
+
+// A reader's words.
+const PLACE: usize = 0;
+
+const FIRST: usize = 1;
+
+const SECOND: usize = 2;
+
+const PUBLISHED: usize = 3;
+
+const PICKED: usize = 4;
+
+// A publisher's words; its place is the first of them too.
+const HELD: usize = 1;
+
+const MARK: usize = 2;
+
+const NEXT: usize = 3;
+
+const LOOKS: usize = 4;
+
+const WAITS: usize = 5;
+
+pub struct Reader {
+    pub place: u64,
+    pub first: u64,
+    pub second: u64,
+    pub published: u64,
+    pub picked: u64,
+}
+
+// A publisher's walk is four numbers.
+pub struct Walk {
+    pub mark: u64,
+    pub next: u64,
+    pub looks: u64,
+    pub waits: u64,
+}
+
+pub struct Publisher {
+    pub place: u64,
+    pub held: u64,
+    pub walk: Walk,
+}
+
+// What a walk came to: its numbers after its looks, and its answer.
+pub struct Walked {
+    pub walk: Walk,
+    pub reply: WalkReply,
+}
+
+pub fn kind_of(words: &[u64]) -> u64
+    requires { ⌜ length (now words) ≡ WORDS ⌝ }
+    ensures { λ n. ⌜ n ≡ kind (now (words .entry)) ⌝ }
+{
+    words[KIND_AT]
+}
+
+pub fn readers_of(words: &[u64]) -> u64
+    requires { ⌜ length (now words) ≡ WORDS ⌝ }
+    ensures { λ n. ⌜ n ≡ readers (now (words .entry)) ⌝ }
+{
+    words[READERS_AT]
+}
+
+pub fn publishers_of(words: &[u64]) -> u64
+    requires { ⌜ length (now words) ≡ WORDS ⌝ }
+    ensures { λ n. ⌜ n ≡ publishers (now (words .entry)) ⌝ }
+{
+    words[PUBLISHERS_AT]
+}
+
+pub fn slots_of(words: &[u64]) -> u64
+    requires { ⌜ length (now words) ≡ WORDS ⌝ }
+    ensures { λ n. ⌜ n ≡ slots (now (words .entry)) ⌝ }
+{
+    words[SLOTS_AT]
+}
+
+pub fn current_of(words: &[u64]) -> u64
+    requires { ⌜ length (now words) ≡ WORDS ⌝ }
+    ensures { λ n. ⌜ n ≡ current (now (words .entry)) ⌝ }
+{
+    words[CURRENT_AT]
+}
+
+pub fn version_of(words: &[u64]) -> u64
+    requires { ⌜ length (now words) ≡ WORDS ⌝ }
+    ensures { λ n. ⌜ n ≡ version (now (words .entry)) ⌝ }
+{
+    words[VERSION_AT]
+}
+
+pub fn releases_of(words: &[u64]) -> u64
+    requires { ⌜ length (now words) ≡ WORDS ⌝ }
+    ensures { λ n. ⌜ n ≡ releases (now (words .entry)) ⌝ }
+{
+    words[RELEASES_AT]
+}
+
+pub fn indicator_of(words: &[u64], i: usize) -> u64
+    requires { ⌜ (length (now words) ≡ WORDS) × (i < 2) ⌝ }
+    ensures { λ n. ⌜ n ≡ indicator (now (words .entry)) i ⌝ }
+{
+    words[INDICATORS_AT + i]
+}
+
+pub fn put_current(words: &mut [u64], n: u64)
+    requires { ⌜ length (now words) ≡ WORDS ⌝ }
+    ensures { λ _. ⌜ now (words .exit) ≡ withCurrent (now (words .entry)) n ⌝ }
+{
+    words[CURRENT_AT] = n;
+}
+
+pub fn put_version(words: &mut [u64], n: u64)
+    requires { ⌜ length (now words) ≡ WORDS ⌝ }
+    ensures { λ _. ⌜ now (words .exit) ≡ withVersion (now (words .entry)) n ⌝ }
+{
+    words[VERSION_AT] = n;
+}
+
+pub fn put_releases(words: &mut [u64], n: u64)
+    requires { ⌜ length (now words) ≡ WORDS ⌝ }
+    ensures { λ _. ⌜ now (words .exit) ≡ withReleases (now (words .entry)) n ⌝ }
+{
+    words[RELEASES_AT] = n;
+}
+
+pub fn put_indicator(words: &mut [u64], i: usize, n: u64)
+    requires { ⌜ (length (now words) ≡ WORDS) × (i < 2) ⌝ }
+    ensures { λ _. ⌜ now (words .exit) ≡ withIndicator (now (words .entry)) i n ⌝ }
+{
+    words[INDICATORS_AT + i] = n;
+}
+
+pub fn reader_at(words: &[u64], r: usize) -> Reader
+    requires { ⌜ (length (now words) ≡ WORDS) × (r < READERS-MAX) ⌝ }
+    ensures { λ x. ⌜ x ≡ readerAt (now (words .entry)) r ⌝ }
+{
+    let b = FIRST_READER + READER_WORDS * r;
+    Reader {
+        place: words[b + PLACE],
+        first: words[b + FIRST],
+        second: words[b + SECOND],
+        published: words[b + PUBLISHED],
+        picked: words[b + PICKED],
+    }
+}
+
+pub fn put_reader(words: &mut [u64], r: usize, x: Reader)
+    requires { ⌜ (length (now words) ≡ WORDS) × (r < READERS-MAX) ⌝ }
+    ensures { λ _. ⌜ now (words .exit) ≡ withReader (now (words .entry)) r x ⌝ }
+{
+    let b = FIRST_READER + READER_WORDS * r;
+    words[b + PLACE] = x.place;
+    words[b + FIRST] = x.first;
+    words[b + SECOND] = x.second;
+    words[b + PUBLISHED] = x.published;
+    words[b + PICKED] = x.picked;
+}
+
+pub fn publisher_at(words: &[u64], p: usize) -> Publisher
+    requires { ⌜ (length (now words) ≡ WORDS) × (p < PUBLISHERS-MAX) ⌝ }
+    ensures { λ x. ⌜ x ≡ publisherAt (now (words .entry)) p ⌝ }
+{
+    let b = FIRST_PUBLISHER + PUBLISHER_WORDS * p;
+    let walk = Walk {
+        mark: words[b + MARK],
+        next: words[b + NEXT],
+        looks: words[b + LOOKS],
+        waits: words[b + WAITS],
+    };
+    Publisher {
+        place: words[b + PLACE],
+        held: words[b + HELD],
+        walk: walk,
+    }
+}
+
+pub fn put_publisher(words: &mut [u64], p: usize, x: Publisher)
+    requires { ⌜ (length (now words) ≡ WORDS) × (p < PUBLISHERS-MAX) ⌝ }
+    ensures { λ _. ⌜ now (words .exit) ≡ withPublisher (now (words .entry)) p x ⌝ }
+{
+    let b = FIRST_PUBLISHER + PUBLISHER_WORDS * p;
+    words[b + PLACE] = x.place;
+    words[b + HELD] = x.held;
+    words[b + MARK] = x.walk.mark;
+    words[b + NEXT] = x.walk.next;
+    words[b + LOOKS] = x.walk.looks;
+    words[b + WAITS] = x.walk.waits;
+}
