@@ -1,0 +1,103 @@
+-- The companions of demand 3, without which a store of no use would meet it.
+use Prim.Native.Nat.{ℕ, _+_, _%_, _<_, _≤_}
+use mathlib.Core.Path.{_≡_}
+use mathlib.Core.Logic.{_≢_}
+use mathlib.Core.Bool.{Bool, true, false}
+use mathlib.Core.List.{List, [], _∷_, _++_}
+use mathlib.Core.Option.{Option, none, some}
+use lib.IntN.{ℤ}
+use lib.ListN.{getD, length}
+use Rattle.calls.specs.declared.Call.{Call}
+use Rattle.calls.specs.declared.Call.the-variants.{Enter, Look, Leave, Claim, Write, Swap, Sync, Raise, Walk, Release}
+use Rattle.calls.specs.declared.Reply.{Reply}
+use Rattle.calls.specs.declared.Reply.the-variants.{At, Left, Claimed, Walked, Refused}
+use Rattle.calls.specs.declared.WalkReply.the-variants.{Returned}
+use Rattle.calls.specs.Numbers.{TABLE, DAMAGED, MODULUS}
+use Rattle.calls.specs.Events.{Event, accepted}
+use Rattle.calls.specs.Events.Event.{_⇒_}
+use Rattle.calls.specs.Model.{modelOf}
+use Rattle.calls.specs.Told.{Told, toldBy, holds, Role, Has}
+use Rattle.calls.specs.Told.Role.{free}
+use Rattle.calls.specs.Tally.{Tally, tallyOf}
+use Rattle.calls.specs.Tally.Phase.{syncing, returned}
+use Rattle.layout.specs.Layout.{HEAD, releases, readerAt, publisherAt}
+use Rattle.statement.specs.Machine.{State, Given, Machine, Fresh, events, afterAll}
+
+-- In what the kinds differ here.
+pub record Traits : Type 0 where
+  -- the first table of a store made so
+  pub first : Given → List ℤ
+  -- how many looks of a walk pass before it returns
+  pub passes : Given → ℕ
+  -- the place that follows a reader's place
+  pub onward : ℕ → ℕ
+  -- whether a claim needs that nobody holds a slot
+  pub exclusive : Bool
+
+-- A refused call changes neither the store nor the entries, and a refused making leaves both as lent.
+pub record RefusedLeaves (M : Machine) : Type 0 where
+  pub step : (s : State) (c : Call) (n : ℕ) → M .step s c .reply ≡ Refused n → M .step s c .after ≡ s
+  pub making : (g : Given) (s : State) (n : ℕ) → M .making g s .reply ≡ Refused n → M .making g s .after ≡ s
+
+-- The reader or the publisher that a call names.
+abbrev pub readerNamed : Call → Option ℕ
+readerNamed (Enter r) = some r
+readerNamed (Look r k) = some r
+readerNamed (Leave r) = some r
+readerNamed (Claim p s) = none
+readerNamed (Write p v) = none
+readerNamed (Swap p) = none
+readerNamed (Sync p) = none
+readerNamed (Raise p) = none
+readerNamed (Walk p b) = none
+readerNamed (Release p) = none
+
+abbrev pub publisherNamed : Call → Option ℕ
+publisherNamed (Enter r) = none
+publisherNamed (Look r k) = none
+publisherNamed (Leave r) = none
+publisherNamed (Claim p s) = some p
+publisherNamed (Write p v) = some p
+publisherNamed (Swap p) = some p
+publisherNamed (Sync p) = some p
+publisherNamed (Raise p) = some p
+publisherNamed (Walk p b) = some p
+publisherNamed (Release p) = some p
+
+-- A call moves the record of the reader or publisher named and of no other; a WALK moves nothing else.
+pub record Frame (M : Machine) : Type 0 where
+  pub readers : (s : State) (c : Call) (r : ℕ) → readerNamed c ≢ some r → readerAt (M .step s c .after .words) r ≡ readerAt (s .words) r
+  pub publishers : (s : State) (c : Call) (p : ℕ) → publisherNamed c ≢ some p → publisherAt (M .step s c .after .words) p ≡ publisherAt (s .words) p
+  pub walk-head : (s : State) (p b k : ℕ) → k < HEAD → getD (M .step s (Walk p b) .after .words) k 0 ≡ getD (s .words) k 0
+  pub walk-entries : (s : State) (p b : ℕ) → M .step s (Walk p b) .after .entries ≡ s .entries
+
+-- What a state offers after a list of calls that told t and y.
+pub record Offers (M : Machine) (T : Traits) (g : Given) (t : Told) (y : Tally) (s : State) : Type 0 where
+  -- never damaged: no call is refused with 1
+  pub undamaged : (c : Call) → M .step s c .reply ≢ Refused DAMAGED
+  -- readers never wait: the next ENTER replies the next place, whatever stands between;
+  -- LOOK is accepted after the pick, and LEAVE in an open section
+  pub enters : (r : ℕ) → r < g .readers → y .place r < 5 → M .step s (Enter r) .reply ≡ At (T .onward (y .place r))
+  pub looks : (r k : ℕ) → r < g .readers → k < TABLE → y .place r ≡ 5 → accepted (M .step s (Look r k) .reply) ≡ true
+  pub leaves : (r : ℕ) → r < g .readers → 4 ≤ y .place r → M .step s (Leave r) .reply ≡ Left
+  -- a claim of a slot told free by a publisher that holds nothing, both in range, is accepted (exclusive: if nobody holds one)
+  pub claims : (p x : ℕ) → p < g .publishers → x < g .slots → Has t x free → ((z : ℕ) → holds t p z ≡ false)
+      → (T .exclusive ≡ true → (q z : ℕ) → holds t q z ≡ false) → M .step s (Claim p x) .reply ≡ Claimed x
+  -- releases is the number of accepted RELEASEs modulo 2^64
+  pub counted : releases (s .words) ≡ y .releases % MODULUS
+
+-- What stands beside demand 3 after every list of calls on a fresh state.
+pub record Beside (M : Machine) (T : Traits) (g : Given) (s : State) (cs : List Call) : Type 0 where
+  pub offers : Offers M T g (toldBy (events M s cs)) (tallyOf (events M s cs)) (afterAll M s cs)
+  -- whole tables: the model's table always has 32 entries
+  pub tables : length (modelOf (T .first g) (events M s cs) .table) ≡ TABLE
+  -- order: of a publisher's CLAIM, SWAP, SYNC, return and RELEASE the last one before a return is a SYNC ..
+  pub returns-after : (pre post : List Event) (p b l w : ℕ) → events M s cs ≡ pre ++ (Walk p b ⇒ Walked (Returned l w)) ∷ post → tallyOf pre .phase p ≡ syncing
+  -- .. and the last one before an accepted RELEASE is a return
+  pub releases-after : (pre post : List Event) (p : ℕ) (a : Reply) → events M s cs ≡ pre ++ (Release p ⇒ a) ∷ post → accepted a ≡ true → tallyOf pre .phase p ≡ returned
+  -- counts: a return has looks = readers + waits (new) or 2 + waits (old); waits is how often p's WALK replied waiting since its SYNC
+  pub looks-are : (pre post : List Event) (p b l w : ℕ) → events M s cs ≡ pre ++ (Walk p b ⇒ Walked (Returned l w)) ∷ post → l ≡ T .passes g + w
+  pub waits-are : (pre post : List Event) (p b l w : ℕ) → events M s cs ≡ pre ++ (Walk p b ⇒ Walked (Returned l w)) ∷ post → w ≡ tallyOf pre .waits p
+
+abbrev pub Companions : Machine → Traits → Type 0
+Companions M T = (s : State) (f : Fresh M s) (cs : List Call) → Beside M T (f .arguments) s cs

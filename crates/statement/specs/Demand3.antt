@@ -1,0 +1,57 @@
+-- Demand 3: one statement about the entire list of calls.
+use Prim.Native.Nat.{ℕ}
+use mathlib.Core.Path.{_≡_}
+use mathlib.Core.Bool.{Bool, true, false}
+use mathlib.Core.List.{List, [], _∷_, _++_}
+use mathlib.Core.Option.{Option, none, some}
+use lib.IntN.{ℤ}
+use Rattle.calls.specs.declared.Call.{Call}
+use Rattle.calls.specs.declared.Call.the-variants.{Look, Leave, Claim, Sync, Walk}
+use Rattle.calls.specs.declared.Reply.{Reply}
+use Rattle.calls.specs.declared.Reply.the-variants.{Pitch, Walked}
+use Rattle.calls.specs.declared.WalkReply.the-variants.{Returned}
+use Rattle.calls.specs.Events.{Event, accepted}
+use Rattle.calls.specs.Events.Event.{_⇒_}
+use Rattle.calls.specs.Model.{modelOf, entry}
+use Rattle.calls.specs.Told.{Told, toldBy, holds, Role, Has}
+use Rattle.calls.specs.Told.Role.{free}
+use Rattle.statement.specs.Machine.{State, Given, Machine, Fresh, events, afterAll, currentSlot, heldSlot, pickedSlot}
+
+-- An accepted LEAVE of r is among the events.
+pub record Left (r : ℕ) (es : List Event) : Type 0 where
+  pub before : List Event
+  pub reply : Reply
+  pub behind : List Event
+  pub here : es ≡ before ++ (Leave r ⇒ reply) ∷ behind
+  pub taken : accepted reply ≡ true
+
+-- Each slot is exactly one of current, free, or held by one publisher, and the store records it so;
+-- what each reader at place 5 picked is the slot told by the calls.
+pub record Slots (t : Told) (s : State) : Type 0 where
+  pub role : (x : ℕ) → (ρ : Role) × Has t x ρ × ((σ : Role) → Has t x σ → σ ≡ ρ)
+  pub current : t .current ≡ some (currentSlot s)
+  pub held : (p x : ℕ) → heldSlot s p x ≡ holds t p x
+  pub picked : (r : ℕ) → pickedSlot s r ≡ t .picked r
+
+-- No slot that a reader picked in a section still open is free.
+abbrev pub Picks : Told → Type 0
+Picks t = (r x : ℕ) → t .inside r ≡ true → t .picked r ≡ some x → ¬ Has t x free
+
+-- What is due after the list cs of calls on the fresh state s, where `first` is the first table.
+pub record Due (M : Machine) (first : List ℤ) (s : State) (cs : List Call) : Type 0 where
+  -- Every accepted look gave the pitch that the plain shelf gives: the entry of the table last swapped in before that reader's pick.
+  pub looks : (pre post : List Event) (r k : ℕ) (a : Reply) → events M s cs ≡ pre ++ (Look r k ⇒ a) ∷ post → accepted a ≡ true
+      → (v : ℤ) × (a ≡ Pitch v) × (entry (modelOf first pre .note r) k ≡ some v)
+  -- Each synchronise that returned did so after every section open at its call had been left.
+  pub returns : (pre mid post : List Event) (p b l w r : ℕ) (a : Reply)
+      → events M s cs ≡ pre ++ (Sync p ⇒ a) ∷ (mid ++ (Walk p b ⇒ Walked (Returned l w)) ∷ post) → accepted a ≡ true
+      → toldBy pre .inside r ≡ true → Left r mid
+  pub slots : Slots (toldBy (events M s cs)) (afterAll M s cs)
+  pub picks : Picks (toldBy (events M s cs))
+  -- By the calls alone: no accepted CLAIM is of a slot that a reader has picked in a section still open.
+  pub claims : (pre post : List Event) (p x r : ℕ) (a : Reply) → events M s cs ≡ pre ++ (Claim p x ⇒ a) ∷ post → accepted a ≡ true
+      → toldBy pre .inside r ≡ true → ¬ (toldBy pre .picked r ≡ some x)
+
+-- A store fresh from an accepted making, and any list of its calls, accepted and refused. The first table may depend on the making.
+abbrev pub Demand3 : Machine → (Given → List ℤ) → Type 0
+Demand3 M first = (s : State) (f : Fresh M s) (cs : List Call) → Due M (first (f .arguments)) s cs

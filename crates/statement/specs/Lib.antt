@@ -1,0 +1,4 @@
+pub mod Machine
+pub mod Demand3
+pub mod Companions
+pub mod Kept

@@ -1,0 +1,73 @@
+-- A kind of store as a machine over words and entries, its lists of calls, and what every store records.
+use Prim.Native.Nat.{ℕ}
+use mathlib.Core.Path.{_≡_}
+use mathlib.Core.Bool.{Bool, not, _&&_}
+use mathlib.Core.List.{List, [], _∷_}
+use mathlib.Core.Option.{Option, none, some}
+use lib.IntN.{ℤ}
+use lib.Dec.{eqb}
+use Rattle.calls.specs.declared.Call.{Call}
+use Rattle.calls.specs.declared.Reply.{Reply}
+use Rattle.calls.specs.declared.Reply.the-variants.{Made}
+use Rattle.calls.specs.Base.{pick}
+use Rattle.calls.specs.Events.{Event}
+use Rattle.calls.specs.Events.Event.{_⇒_}
+use Rattle.layout.specs.Layout.{current, readerAt, publisherAt}
+
+-- A store with its entries, as they are lent.
+pub record State : Type 0 where
+  pub words : List ℕ
+  pub entries : List ℤ
+
+abbrev pub state : List ℕ → List ℤ → State
+state w es = record { words = w; entries = es }
+
+-- Each call takes the store and hands it back with a reply.
+pub record Outcome : Type 0 where
+  pub reply : Reply
+  pub after : State
+
+abbrev pub outcome : Reply → State → Outcome
+outcome a s = record { reply = a; after = s }
+
+-- What a making is given beside the lent words and entries.
+pub record Given : Type 0 where
+  pub readers : ℕ
+  pub publishers : ℕ
+  pub slots : ℕ
+  pub version : ℕ
+
+abbrev pub given : ℕ → ℕ → ℕ → ℕ → Given
+given rs ps ss v = record { readers = rs; publishers = ps; slots = ss; version = v }
+
+-- A kind gives its making and its step, and nothing else.
+pub record Machine : Type 0 where
+  pub making : Given → State → Outcome
+  pub step : State → Call → Outcome
+
+-- Fresh from an accepted making: of some arguments, lent words and lent entries.
+pub record Fresh (M : Machine) (s : State) : Type 0 where
+  pub arguments : Given
+  pub lent : State
+  pub made : M .making arguments lent ≡ outcome Made s
+
+module _ (M : Machine) where
+  -- Each call is given the store and entries as the one before left them.
+  abbrev pub afterAll : State → List Call → State
+  afterAll s [] = s
+  afterAll s (c ∷ cs) = afterAll (M .step s c .after) cs
+
+  -- The calls of a list with their replies.
+  abbrev pub events : State → List Call → List Event
+  events s [] = []
+  events s (c ∷ cs) = (c ⇒ M .step s c .reply) ∷ events (M .step s c .after) cs
+
+-- What every store records: its current slot, what each publisher at a place other than 0 holds, what each reader at place 5 picked.
+abbrev pub currentSlot : State → ℕ
+currentSlot s = current (s .words)
+
+abbrev pub heldSlot : State → ℕ → ℕ → Bool
+heldSlot s p x = not (eqb (publisherAt (s .words) p .place) 0) && eqb (publisherAt (s .words) p .held) x
+
+abbrev pub pickedSlot : State → ℕ → Option ℕ
+pickedSlot s r = pick (eqb (readerAt (s .words) r .place) 5) (some (readerAt (s .words) r .picked)) none
