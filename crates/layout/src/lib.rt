@@ -82,7 +82,7 @@ pub struct Publisher {
 }
 
 // What a walk came to: its numbers after its looks, and its answer.
-pub struct Walked {
+pub struct Progress {
     pub walk: Walk,
     pub reply: WalkReply,
 }

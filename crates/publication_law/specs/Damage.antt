@@ -1,0 +1,55 @@
+-- The damage test (document 01's spoiled), as rows: its shared part, and where a kind adds its own.
+use Prim.Native.Nat.{ℕ, _*_}
+use mathlib.Core.Bool.{Bool, true, false, not, _&&_, _||_}
+use mathlib.Core.List.{List, [], _∷_}
+use lib.ListN.{length}
+use lib.Dec.{leb, ltb, eqb}
+use Rattle.calls.specs.Numbers.{READERS-MAX, PUBLISHERS-MAX, SLOTS-MIN, SLOTS-MAX, TABLE}
+use Rattle.calls.specs.Rows.{anyTrue, anyBelow, outside}
+use Rattle.layout.specs.declared.Reader.{Reader}
+use Rattle.layout.specs.declared.Publisher.{Publisher}
+use Rattle.layout.specs.Layout.{WORDS, kind, readers, publishers, slots, current, version}
+use Rattle.statement.specs.Machine.{State}
+use Rattle.publication_law.specs.Steps.{Versions, reader, publisher}
+
+-- What a kind adds: its number, its versions, and what spoils a reader (given the slots) and a publisher (given readers and slots).
+pub record Kind : Type 0 where
+  pub number : ℕ
+  pub versions : Versions
+  pub readerDamaged : ℕ → Reader → Bool
+  pub publisherDamaged : ℕ → ℕ → Publisher → Bool
+
+-- Another length of the words, another kind; a size outside the making rules or a wrong entries' length; current slot or version too large.
+abbrev pub headRows : Kind → State → List Bool
+headRows K s =
+    not (eqb (length (s .words)) WORDS)
+    ∷ not (eqb (kind (s .words)) (K .number))
+    ∷ outside 1 READERS-MAX (readers (s .words))
+    ∷ outside 1 PUBLISHERS-MAX (publishers (s .words))
+    ∷ outside SLOTS-MIN SLOTS-MAX (slots (s .words))
+    ∷ not (eqb (length (s .entries)) (slots (s .words) * TABLE))
+    ∷ leb (slots (s .words)) (current (s .words))
+    ∷ K .versions .tooLarge (version (s .words))
+    ∷ []
+
+-- A picked slot (place 5) too large.
+abbrev pub wrongPick : ℕ → Reader → Bool
+wrongPick slots x = eqb (x .place) 5 && leb slots (x .picked)
+
+-- A held slot (place not 0) too large; at 35 to 38 a mark of 0 or above the last, or waits above looks.
+abbrev pub publisherRows : Versions → ℕ → Publisher → List Bool
+publisherRows vs slots y =
+    (not (eqb (y .place) 0) && leb slots (y .held))
+    ∷ (leb 35 (y .place) && vs .wrongMark (y .walk .mark))
+    ∷ (leb 35 (y .place) && ltb (y .walk .looks) (y .walk .waits))
+    ∷ []
+
+-- Numbers of readers and publishers beyond the sizes are not tested.
+abbrev pub readersDamaged : Kind → State → Bool
+readersDamaged K s = anyBelow (λ r. K .readerDamaged (slots (s .words)) (reader s r)) (readers (s .words))
+
+abbrev pub publishersDamaged : Kind → State → Bool
+publishersDamaged K s = anyBelow (λ p. K .publisherDamaged (readers (s .words)) (slots (s .words)) (publisher s p)) (publishers (s .words))
+
+abbrev pub sharedDamage : Kind → State → Bool
+sharedDamage K s = anyTrue (headRows K s) || readersDamaged K s || publishersDamaged K s

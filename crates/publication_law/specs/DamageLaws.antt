@@ -1,0 +1,113 @@
+-- The damage test as facts, to and from its rows. Assumes nothing.
+use Prim.Native.Nat.{ℕ, _+_, _*_, _<_, _≤_}
+use native.Mathlib.Omega.{arith}
+use mathlib.Core.Path.{_≡_, refl, sym, _∙_}
+use mathlib.Core.Bool.{Bool, true, false, not, _&&_, _||_}
+use mathlib.Core.List.{List, [], _∷_}
+use lib.ListN.{length}
+use lib.Dec.{leb, ltb, eqb}
+use borrow.Author.Tests.{eqb-true, eq-eqb, ne-eqb, leb-false, lt-leb, le-leb, ltb-false, le-ltb, not-false}
+use Rattle.calls.specs.Numbers.{READERS-MAX, PUBLISHERS-MAX, SLOTS-MIN, SLOTS-MAX, TABLE}
+use Rattle.calls.specs.Rows.{anyTrue, anyBelow, outside}
+use Rattle.calls.specs.RowLaws.{and-false, and-not, or-false, neither, negated, within, not-outside, all-false, none-true, none-below, no-below}
+use Rattle.layout.specs.declared.Reader.{Reader}
+use Rattle.layout.specs.declared.Publisher.{Publisher}
+use Rattle.layout.specs.Layout.{WORDS, kind, readers, publishers, slots, current, version}
+use Rattle.statement.specs.Machine.{State}
+use Rattle.publication_law.specs.Steps.{Versions, reader, publisher}
+use Rattle.publication_law.specs.Damage.{Kind, headRows, publisherRows, readersDamaged, publishersDamaged, sharedDamage}
+
+pub record HeadFine (K : Kind) (s : State) : Type 0 where
+  pub long : length (s .words) ≡ WORDS
+  pub kind-is : kind (s .words) ≡ K .number
+  pub readers-low : 1 ≤ readers (s .words)
+  pub readers-high : readers (s .words) ≤ READERS-MAX
+  pub publishers-low : 1 ≤ publishers (s .words)
+  pub publishers-high : publishers (s .words) ≤ PUBLISHERS-MAX
+  pub slots-low : SLOTS-MIN ≤ slots (s .words)
+  pub slots-high : slots (s .words) ≤ SLOTS-MAX
+  pub entries-are : length (s .entries) ≡ slots (s .words) * TABLE
+  pub current-below : current (s .words) < slots (s .words)
+  pub version-fits : K .versions .tooLarge (version (s .words)) ≡ false
+
+pub record Fine (K : Kind) (s : State) : Type 0 where
+  pub head : HeadFine K s
+  pub readers-fine : (r : ℕ) → r < readers (s .words) → K .readerDamaged (slots (s .words)) (reader s r) ≡ false
+  pub publishers-fine : (p : ℕ) → p < publishers (s .words) → K .publisherDamaged (readers (s .words)) (slots (s .words)) (publisher s p) ≡ false
+
+pub fine-of : (K : Kind) (s : State) → sharedDamage K s ≡ false → Fine K s
+fine-of K s e =
+    let a = or-false (anyTrue (headRows K s) || readersDamaged K s) (publishersDamaged K s) e in
+    let b = or-false (anyTrue (headRows K s)) (readersDamaged K s) (a .0) in
+    let f = all-false (headRows K s) (b .0) in
+    let rs = within 1 READERS-MAX (readers (s .words)) (f .1 .1 .0) in
+    let ps = within 1 PUBLISHERS-MAX (publishers (s .words)) (f .1 .1 .1 .0) in
+    let ss = within SLOTS-MIN SLOTS-MAX (slots (s .words)) (f .1 .1 .1 .1 .0) in
+    record {
+      head = record {
+        long = eqb-true _ _ (not-false _ (f .0));
+        kind-is = eqb-true _ _ (not-false _ (f .1 .0));
+        readers-low = rs .0;
+        readers-high = rs .1;
+        publishers-low = ps .0;
+        publishers-high = ps .1;
+        slots-low = ss .0;
+        slots-high = ss .1;
+        entries-are = eqb-true _ _ (not-false _ (f .1 .1 .1 .1 .1 .0));
+        current-below = leb-false _ _ (f .1 .1 .1 .1 .1 .1 .0);
+        version-fits = f .1 .1 .1 .1 .1 .1 .1 .0;
+      };
+      readers-fine = λ r l. none-below (λ r. K .readerDamaged (slots (s .words)) (reader s r)) (readers (s .words)) r (b .1) l;
+      publishers-fine = λ p l. none-below (λ p. K .publisherDamaged (readers (s .words)) (slots (s .words)) (publisher s p)) (publishers (s .words)) p (a .1) l;
+    }
+
+pub fine-to : (K : Kind) (s : State) → Fine K s → sharedDamage K s ≡ false
+fine-to K s f = let h = f .head in
+    neither (anyTrue (headRows K s) || readersDamaged K s) (publishersDamaged K s)
+    (neither (anyTrue (headRows K s)) (readersDamaged K s)
+    (none-true (headRows K s) (
+      negated _ (eq-eqb _ _ (h .long)),
+      (
+        negated _ (eq-eqb _ _ (h .kind-is)),
+        (
+          not-outside 1 READERS-MAX _ (h .readers-low) (h .readers-high),
+          (
+            not-outside 1 PUBLISHERS-MAX _ (h .publishers-low) (h .publishers-high),
+            (
+              not-outside SLOTS-MIN SLOTS-MAX _ (h .slots-low) (h .slots-high),
+              (
+                negated _ (eq-eqb _ _ (h .entries-are)),
+                (lt-leb _ _ (h .current-below), (h .version-fits, tt)),
+              ),
+            ),
+          ),
+        ),
+      ),
+    ))
+    (no-below (λ r. K .readerDamaged (slots (s .words)) (reader s r)) (readers (s .words)) (f .readers-fine)))
+    (no-below (λ p. K .publisherDamaged (readers (s .words)) (slots (s .words)) (publisher s p)) (publishers (s .words)) (f .publishers-fine))
+
+-- The rows of a publisher that the kinds share.
+pub record PublisherFine (vs : Versions) (slots : ℕ) (y : Publisher) : Type 0 where
+  pub held-below : 1 ≤ y .place → y .held < slots
+  pub mark-fits : 35 ≤ y .place → vs .wrongMark (y .walk .mark) ≡ false
+  pub waits-low : 35 ≤ y .place → y .walk .waits ≤ y .walk .looks
+
+pub publisher-of : (vs : Versions) (slots : ℕ) (y : Publisher) → anyTrue (publisherRows vs slots y) ≡ false → PublisherFine vs slots y
+publisher-of vs slots y e = let f = all-false (publisherRows vs slots y) e in record {
+  held-below = λ l. leb-false _ _ (and-false (not (eqb (y .place) 0)) (leb slots (y .held)) (f .0) (rw (ne-eqb (y .place) 0 (λ z. omega arith)) refl));
+  mark-fits = λ l. and-false (leb 35 (y .place)) (vs .wrongMark (y .walk .mark)) (f .1 .0) (le-leb _ _ l);
+  waits-low = λ l. ltb-false _ _ (and-false (leb 35 (y .place)) (ltb (y .walk .looks) (y .walk .waits)) (f .1 .1 .0) (le-leb _ _ l));
+}
+
+pub publisher-to : (vs : Versions) (slots : ℕ) (y : Publisher) → PublisherFine vs slots y → anyTrue (publisherRows vs slots y) ≡ false
+publisher-to vs slots y f = none-true (publisherRows vs slots y) (
+  and-not (not (eqb (y .place) 0)) (leb slots (y .held)) (λ e. lt-leb slots (y .held) (f .held-below (some-place (y .place) e))),
+  (
+    and-not (leb 35 (y .place)) (vs .wrongMark (y .walk .mark)) (λ e. f .mark-fits (borrow.Author.Tests.leb-true 35 (y .place) e)),
+    (and-not (leb 35 (y .place)) (ltb (y .walk .looks) (y .walk .waits)) (λ e. le-ltb _ _ (f .waits-low (borrow.Author.Tests.leb-true 35 (y .place) e))), tt),
+  ),
+)
+  where
+    some-place : (n : ℕ) → not (eqb n 0) ≡ true → 1 ≤ n
+    some-place n e = let q = borrow.Author.Tests.eqb-false n 0 (borrow.Author.Tests.not-true (eqb n 0) e) in omega arith

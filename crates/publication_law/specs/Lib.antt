@@ -1,0 +1,10 @@
+pub mod Steps
+pub mod Damage
+pub mod Core
+pub mod Grace
+pub mod Single
+pub mod Tallied
+pub mod Entries
+pub mod Moves
+pub mod DamageLaws
+pub mod Invariant

@@ -1,0 +1,99 @@
+-- A step writes one record, and perhaps one number of the head: what the words then hold, by the laws of the layout. Assumes nothing.
+use Prim.Native.Nat.{ℕ, _+_, _<_, _≤_}
+use native.Mathlib.Omega.{arith}
+use mathlib.Core.Path.{_≡_, refl, sym, ap, _∙_, fun-ext}
+use mathlib.Core.Bool.{Bool, true, false}
+use mathlib.Core.List.{List}
+use lib.ListN.{getD, set, length, length-set}
+use lib.Seq.{getD-set-same, getD-set-other}
+use lib.Dec.{eqb}
+use borrow.Author.Tests.{eqb-true, eqb-false}
+use Rattle.calls.specs.Base.{pick, upd}
+use Rattle.calls.specs.Numbers.{READERS-MAX, PUBLISHERS-MAX}
+use Rattle.layout.specs.declared.Reader.{Reader}
+use Rattle.layout.specs.declared.Publisher.{Publisher}
+use Rattle.layout.specs.Layout.{HEAD, CURRENT-AT, VERSION-AT, RELEASES-AT, WORDS, current, version, releases, readerAt, publisherAt, withReader, withPublisher}
+use Rattle.layout.specs.Laws.{length-reader, length-publisher, head-reader, head-publisher, reader-head, publisher-head, reader-publisher, publisher-reader, reader-put, publisher-put}
+
+upd-field : {A B : Type 0} (f : A → B) (u v : ℕ → A) (i : ℕ) (x : A) → u ≡ upd v i x → _≡_ {A = ℕ → B} (λ j. f (u j)) (upd (λ j. f (v j)) i (f x))
+upd-field f u v i x e = fun-ext (λ j. ap (λ (w : ℕ → _). f (w j)) e ∙ go (eqb j i) j)
+  where
+    go : (b : Bool) (j : ℕ) → f (pick b x (v j)) ≡ pick b (f x) (f (v j))
+    go true j = refl
+    go false j = refl
+
+-- w′ is w with publisher p anew as y, and this current slot, version and number of releases.
+pub record MovesPublisher (w w′ : List ℕ) (p : ℕ) (y : Publisher) (cur ver rel : ℕ) : Type 0 where
+  pub long : length w′ ≡ length w
+  pub head : (k : ℕ) → k < CURRENT-AT → getD w′ k 0 ≡ getD w k 0
+  pub tail : (k : ℕ) → RELEASES-AT < k → k < HEAD → getD w′ k 0 ≡ getD w k 0
+  pub current-is : current w′ ≡ cur
+  pub version-is : version w′ ≡ ver
+  pub releases-is : releases w′ ≡ rel
+  pub readers-stay : readerAt w′ ≡ readerAt w
+  pub publishers-are : publisherAt w′ ≡ upd (publisherAt w) p y
+
+pub publisher-field : {B : Type 0} (f : Publisher → B) (w w′ : List ℕ) (p : ℕ) (y : Publisher) (cur ver rel : ℕ) → MovesPublisher w w′ p y cur ver rel
+    → _≡_ {A = ℕ → B} (λ j. f (publisherAt w′ j)) (upd (λ j. f (publisherAt w j)) p (f y))
+publisher-field f w w′ p y cur ver rel m = upd-field f (publisherAt w′) (publisherAt w) p y (m .publishers-are)
+
+pub moves-publisher : (w : List ℕ) (p : ℕ) (y : Publisher) → length w ≡ WORDS → p < PUBLISHERS-MAX
+    → MovesPublisher w (withPublisher w p y) p y (current w) (version w) (releases w)
+moves-publisher w p y len lt = record {
+  long = length-publisher w p y;
+  head = λ k l. head-publisher w p y k (omega arith);
+  tail = λ k l m. head-publisher w p y k m;
+  current-is = head-publisher w p y CURRENT-AT (omega arith);
+  version-is = head-publisher w p y VERSION-AT (omega arith);
+  releases-is = head-publisher w p y RELEASES-AT (omega arith);
+  readers-stay = reader-publisher w p y;
+  publishers-are = publisher-put (λ (x : Publisher). x) w p y len lt;
+}
+
+-- .. and one of current slot, version and releases anew besides.
+pub moves-head : (w w′ : List ℕ) (p : ℕ) (y : Publisher) (cur ver rel : ℕ) → MovesPublisher w w′ p y cur ver rel → length w ≡ WORDS → (k v : ℕ) → CURRENT-AT ≤ k → k ≤ RELEASES-AT
+    → MovesPublisher w (set w′ k v) p y (pick (eqb CURRENT-AT k) v cur) (pick (eqb VERSION-AT k) v ver) (pick (eqb RELEASES-AT k) v rel)
+moves-head w w′ p y cur ver rel m len k v low high = record {
+  long = length-set w′ k v ∙ m .long;
+  head = λ j l. getD-set-other w′ k j v 0 (λ z. omega arith) ∙ m .head j l;
+  tail = λ j a b. getD-set-other w′ k j v 0 (λ z. omega arith) ∙ m .tail j a b;
+  current-is = read CURRENT-AT cur (m .current-is);
+  version-is = read VERSION-AT ver (m .version-is);
+  releases-is = read RELEASES-AT rel (m .releases-is);
+  readers-stay = reader-head w′ k v (omega arith) ∙ m .readers-stay;
+  publishers-are = publisher-head w′ k v (omega arith) ∙ m .publishers-are;
+}
+  where
+    read : (j n : ℕ) → getD w′ j 0 ≡ n → getD (set w′ k v) j 0 ≡ pick (eqb j k) v n
+    read j n e = go (eqb j k) refl
+      where
+        go : (b : Bool) → eqb j k ≡ b → getD (set w′ k v) j 0 ≡ pick b v n
+        go true d = rw (eqb-true j k d) (getD-set-same w′ k v 0 (omega (arith, m .long)))
+        go false d = getD-set-other w′ k j v 0 (eqb-false j k d) ∙ e
+
+-- w′ is w with reader r anew as x; the indicators are a kind's own.
+pub record MovesReader (w w′ : List ℕ) (r : ℕ) (x : Reader) : Type 0 where
+  pub long : length w′ ≡ length w
+  pub head : (k : ℕ) → k ≤ RELEASES-AT → getD w′ k 0 ≡ getD w k 0
+  pub readers-are : readerAt w′ ≡ upd (readerAt w) r x
+  pub publishers-stay : publisherAt w′ ≡ publisherAt w
+
+pub reader-field : {B : Type 0} (f : Reader → B) (w w′ : List ℕ) (r : ℕ) (x : Reader) → MovesReader w w′ r x
+    → _≡_ {A = ℕ → B} (λ j. f (readerAt w′ j)) (upd (λ j. f (readerAt w j)) r (f x))
+reader-field f w w′ r x m = upd-field f (readerAt w′) (readerAt w) r x (m .readers-are)
+
+pub moves-reader : (w : List ℕ) (r : ℕ) (x : Reader) → length w ≡ WORDS → r < READERS-MAX → MovesReader w (withReader w r x) r x
+moves-reader w r x len lt = record {
+  long = length-reader w r x;
+  head = λ k l. head-reader w r x k (omega arith);
+  readers-are = reader-put (λ (y : Reader). y) w r x len lt;
+  publishers-stay = publisher-reader w r x lt;
+}
+
+pub moves-indicator : (w w′ : List ℕ) (r : ℕ) (x : Reader) → MovesReader w w′ r x → (k v : ℕ) → RELEASES-AT < k → k < HEAD → MovesReader w (set w′ k v) r x
+moves-indicator w w′ r x m k v low high = record {
+  long = length-set w′ k v ∙ m .long;
+  head = λ j l. getD-set-other w′ k j v 0 (λ z. omega arith) ∙ m .head j l;
+  readers-are = reader-head w′ k v high ∙ m .readers-are;
+  publishers-stay = publisher-head w′ k v high ∙ m .publishers-stay;
+}

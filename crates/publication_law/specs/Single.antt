@@ -1,0 +1,47 @@
+-- A publisher that holds one slot: claimed at places 1 to 33, former from 34 on. Assumes nothing.
+use Prim.Native.Nat.{ℕ, zero, suc, _+_, _-_, _<_, _≤_}
+use native.Mathlib.Omega.{arith}
+use mathlib.Core.Path.{_≡_, refl, sym, _∙_}
+use mathlib.Core.Bool.{Bool, true, false, not, _&&_, _||_}
+use lib.Dec.{leb, eqb}
+use borrow.Author.Tests.{eqb-true, eqb-false, eq-eqb, ne-eqb, leb-true, leb-false, le-leb, lt-leb}
+use Rattle.calls.specs.Base.{pick, upd}
+use Rattle.calls.specs.RowLaws.{clash, not-both}
+use Rattle.publication_law.specs.Core.{Hold, hold-map}
+
+-- The former slots of a publisher at place pl that holds hd.
+abbrev pub late : ℕ → ℕ → ℕ → Bool
+late pl hd x = leb 34 pl && eqb hd x
+
+pub late-early : (pl hd x : ℕ) → pl ≤ 33 → late pl hd x ≡ false
+late-early pl hd x l = rw (lt-leb 34 pl (omega arith)) refl
+
+pub late-same : (pl pl′ hd x : ℕ) → 34 ≤ pl → 34 ≤ pl′ → late pl′ hd x ≡ late pl hd x
+late-same pl pl′ hd x l l′ = rw (le-leb 34 pl l, le-leb 34 pl′ l′) refl
+
+pub late-swap : (pl hd cur x : ℕ) → pl ≤ 33 → late 34 cur x ≡ eqb cur x || late pl hd x
+late-swap pl hd cur x l = rw (late-early pl hd x l) (go (eqb cur x))
+  where
+    go : (b : Bool) → b ≡ b || false
+    go true = refl
+    go false = refl
+
+-- The store's own test for a slot that a publisher holds.
+pub single : (pl hd x : ℕ) → (not (eqb pl 0) && eqb hd x) ≡ ((leb 1 pl && leb pl 33) && eqb hd x) || late pl hd x
+single pl hd x = go (eqb pl 0) refl (leb 34 pl) refl (eqb hd x)
+  where
+    go : (a : Bool) → eqb pl 0 ≡ a → (b : Bool) → leb 34 pl ≡ b → (c : Bool) → (not a && c) ≡ ((leb 1 pl && leb pl 33) && c) || (b && c)
+    go true d true e c = absurd (omega (arith, eqb-true pl 0 d, leb-true 34 pl e))
+    go true d false e c = rw (lt-leb 1 pl (omega (arith, eqb-true pl 0 d))) refl
+    go false d true e c = rw (lt-leb pl 33 (omega (arith, leb-true 34 pl e)), le-leb 1 pl (omega (arith, leb-true 34 pl e))) refl
+    go false d false e true = rw (le-leb 1 pl (let q = eqb-false pl 0 d in omega arith), le-leb pl 33 (let q = leb-false 34 pl e in omega arith)) refl
+    go false d false e false = rw (le-leb 1 pl (let q = eqb-false pl 0 d in omega arith), le-leb pl 33 (let q = leb-false 34 pl e in omega arith)) refl
+
+pub single-free : (pl hd x : ℕ) → (not (eqb pl 0) && eqb hd x) ≡ false → Hold pl hd (late pl hd) x → ⊥
+single-free pl hd x free o = hold-map pl hd (late pl hd) x o
+    (λ a b e. not-both (not (eqb pl 0) && eqb hd x) (rw (ne-eqb pl 0 (λ z. omega arith), eq-eqb hd x e) refl) free)
+    (λ e. go (leb 34 pl) refl e)
+  where
+    go : (b : Bool) → leb 34 pl ≡ b → (b && eqb hd x) ≡ true → ⊥
+    go true d e = not-both (not (eqb pl 0) && eqb hd x) (rw (ne-eqb pl 0 (λ z. omega (arith, leb-true 34 pl d)), e) refl) free
+    go false d e = clash (sym e)

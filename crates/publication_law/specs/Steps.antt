@@ -1,0 +1,200 @@
+-- What the kinds share: the tests of a call in the order of document 01's table, and what an accepted call does.
+use Prim.Native.Nat.{ℕ, _+_, _-_, _*_, _%_}
+use mathlib.Core.Bool.{Bool, true, false, not, _&&_, _||_}
+use mathlib.Core.List.{List, [], _∷_}
+use lib.IntN.{ℤ, pos}
+use lib.Signed.{ltZ}
+use lib.ListN.{getD, set, length, replicate}
+use lib.Dec.{leb, ltb, eqb}
+use Rattle.calls.specs.declared.Call.{Call}
+use Rattle.calls.specs.declared.Reply.{Reply}
+use Rattle.calls.specs.declared.Reply.the-variants.{Made, At, Pitch, Left, Claimed, Written, Swapped, Synced, Raised, Shared, Walked, Freed, Refused}
+use Rattle.calls.specs.declared.WalkReply.{WalkReply}
+use Rattle.calls.specs.declared.WalkReply.the-variants.{Waiting, Spent, Quiet, Returned}
+use Rattle.calls.specs.Base.{pick}
+use Rattle.calls.specs.Numbers.{READERS-MAX, PUBLISHERS-MAX, SLOTS-MIN, SLOTS-MAX, TABLE, PITCH-LOW, PITCH-HIGH, FEATHERED, MODULUS, NUMBER-MAX, DAMAGED, BAD-READERS, BAD-PUBLISHERS, BAD-SLOTS, BAD-ENTRIES, BAD-VERSION, NO-SUCH-READER, NO-SUCH-PUBLISHER, NO-SUCH-SLOT, NO-SUCH-ENTRY, BAD-PITCH, READER-TURN, PUBLISHER-TURN, SLOT-IN-USE, BUSY, VERSION-IS-LAST, TOO-MANY-LOOKS}
+use Rattle.calls.specs.Rows.{Test, firstOf, anyBelow, outside}
+use Rattle.calls.specs.Rows.Test.{_gives_}
+use Rattle.layout.specs.declared.Reader.{Reader}
+use Rattle.layout.specs.declared.Publisher.{Publisher}
+use Rattle.layout.specs.declared.Walk.{Walk}
+use Rattle.layout.specs.declared.Progress.{Progress}
+use Rattle.layout.specs.Layout.{WORDS, readers, publishers, slots, current, version, releases, withCurrent, withVersion, withReleases, readerAt, publisherAt, withReader, withPublisher, fresh, entryAt}
+use Rattle.statement.specs.Machine.{State, state, Outcome, outcome, Given, heldSlot}
+
+-- What a kind fixes of versions and marks.
+pub record Versions : Type 0 where
+  -- a version that is too large
+  pub tooLarge : ℕ → Bool
+  -- the version at which a SYNC is refused
+  pub isLast : ℕ → Bool
+  -- a mark that a publisher at 35 to 38 cannot have
+  pub wrongMark : ℕ → Bool
+  -- the mark of a SYNC at a version
+  pub markAt : ℕ → ℕ
+  -- one before a mark
+  pub beforeMark : ℕ → ℕ
+
+-- The last version is a fixed number of each kind of store: none is above it, a mark is neither 0 nor above it, mark = version + 1.
+abbrev pub upTo : ℕ → Versions
+upTo last = record { tooLarge = λ v. ltb last v; isLast = λ v. eqb v last; wrongMark = λ m. eqb m 0 || ltb last m; markAt = λ v. v + 1; beforeMark = λ m. m - 1 }
+
+abbrev pub reader : State → ℕ → Reader
+reader s r = readerAt (s .words) r
+
+abbrev pub publisher : State → ℕ → Publisher
+publisher s p = publisherAt (s .words) p
+
+abbrev pub putReader : State → ℕ → Reader → State
+putReader s r x = state (withReader (s .words) r x) (s .entries)
+
+abbrev pub putPublisher : State → ℕ → Publisher → State
+putPublisher s p y = state (withPublisher (s .words) p y) (s .entries)
+
+abbrev pub atPlace : Publisher → ℕ → Publisher
+atPlace y n = record { place = n; held = y .held; walk = y .walk }
+
+-- The first row that applies refuses, and a refused call changes nothing; where none applies the call is accepted.
+abbrev pub decide : List Test → Outcome → State → Outcome
+decide rows o s = pick (eqb (firstOf rows) 0) o (outcome (Refused (firstOf rows)) s)
+
+-- First name: 10 no such reader; 11 no such publisher.
+abbrev pub noSuchReader : State → ℕ → Test
+noSuchReader s r = leb (readers (s .words)) r gives NO-SUCH-READER
+
+abbrev pub noSuchPublisher : State → ℕ → Test
+noSuchPublisher s p = leb (publishers (s .words)) p gives NO-SUCH-PUBLISHER
+
+-- Second argument: 12 no such slot; 13 entry above 31; 14 pitch out of range.
+abbrev pub noSuchSlot : State → ℕ → Test
+noSuchSlot s x = leb (slots (s .words)) x gives NO-SUCH-SLOT
+
+abbrev pub noSuchEntry : ℕ → Test
+noSuchEntry k = ltb 31 k gives NO-SUCH-ENTRY
+
+abbrev pub badPitch : ℤ → Test
+badPitch v = (ltZ v PITCH-LOW || ltZ PITCH-HIGH v) gives BAD-PITCH
+
+-- Turn: 20 reader, 21 publisher at a place where the call is not allowed.
+abbrev pub readerTurn : Bool → Test
+readerTurn wrong = wrong gives READER-TURN
+
+abbrev pub publisherTurn : Bool → Test
+publisherTurn wrong = wrong gives PUBLISHER-TURN
+
+-- ENTER r moves one place on (what that does is each kind's own); place 5 is the last.
+abbrev pub enterTests : State → ℕ → List Test
+enterTests s r = noSuchReader s r ∷ readerTurn (leb 5 (reader s r .place)) ∷ []
+
+-- LOOK r k (place 5) replies with entry k of the picked slot.
+abbrev pub lookTests : State → ℕ → ℕ → List Test
+lookTests s r k = noSuchReader s r ∷ noSuchEntry k ∷ readerTurn (not (eqb (reader s r .place) 5)) ∷ []
+
+abbrev pub look : State → ℕ → ℕ → Outcome
+look s r k = outcome (Pitch (getD (s .entries) (entryAt (reader s r .picked) k) (pos 0))) s
+
+-- LEAVE r (places 4, 5) goes to 0.
+abbrev pub leaveTests : State → ℕ → List Test
+leaveTests s r = noSuchReader s r ∷ readerTurn (ltb (reader s r .place) 4) ∷ []
+
+-- CLAIM p s: 0 to 1, holds s.
+-- 31 (old) another publisher not at place 0
+abbrev pub anotherBusy : State → ℕ → Bool
+anotherBusy s p = anyBelow (λ q. not (eqb q p) && not (eqb (publisher s q .place) 0)) (publishers (s .words))
+
+-- A slot is free if it is not current and no publisher at a place other than 0 holds it.
+abbrev pub inUse : State → ℕ → Bool
+inUse s x = eqb (current (s .words)) x || anyBelow (λ q. heldSlot s q x) (publishers (s .words))
+
+abbrev pub claimTests : Bool → State → ℕ → ℕ → List Test
+claimTests exclusive s p x =
+    noSuchPublisher s p ∷ noSuchSlot s x ∷ publisherTurn (not (eqb (publisher s p .place) 0))
+    ∷ ((exclusive && anotherBusy s p) gives BUSY) ∷ (inUse s x gives SLOT-IN-USE) ∷ []
+
+abbrev pub claim : State → ℕ → ℕ → Outcome
+claim s p x = outcome (Claimed x) (putPublisher s p (record { place = 1; held = x; walk = publisher s p .walk }))
+
+-- WRITE p v: stores the next entry, replies with the number written. At places 1 to 32 place - 1 entries are written.
+abbrev pub writeTests : State → ℕ → ℤ → List Test
+writeTests s p v = noSuchPublisher s p ∷ badPitch v ∷ publisherTurn (outside 1 32 (publisher s p .place)) ∷ []
+
+abbrev pub write : State → ℕ → ℤ → Outcome
+write s p v = outcome (Written (publisher s p .place)) (state
+    (withPublisher (s .words) p (atPlace (publisher s p) (publisher s p .place + 1)))
+    (set (s .entries) (entryAt (publisher s p .held) (publisher s p .place - 1)) v))
+
+-- SWAP p: 33 to 34; its slot becomes current, it holds the former one and replies with that.
+abbrev pub swapTests : State → ℕ → List Test
+swapTests s p = noSuchPublisher s p ∷ publisherTurn (not (eqb (publisher s p .place) 33)) ∷ []
+
+abbrev pub swap : State → ℕ → Outcome
+swap s p = outcome (Swapped (current (s .words))) (state
+    (withCurrent (withPublisher (s .words) p (record { place = 34; held = current (s .words); walk = publisher s p .walk })) (publisher s p .held))
+    (s .entries))
+
+-- SYNC p: 34 to 35; mark = version + 1; next, looks and waits become 0. Replies with the mark. 32 version is the last.
+abbrev pub syncTests : Versions → State → ℕ → List Test
+syncTests vs s p =
+    noSuchPublisher s p ∷ publisherTurn (not (eqb (publisher s p .place) 34)) ∷ (vs .isLast (version (s .words)) gives VERSION-IS-LAST) ∷ []
+
+abbrev pub newWalk : ℕ → Walk
+newWalk m = record { mark = m; next = 0; looks = 0; waits = 0 }
+
+abbrev pub sync : Versions → State → ℕ → Outcome
+sync vs s p = outcome (Synced (vs .markAt (version (s .words))))
+    (putPublisher s p (record { place = 35; held = publisher s p .held; walk = newWalk (vs .markAt (version (s .words))) }))
+
+-- RAISE p (at which place is each kind's own): if version = mark - 1 it becomes mark, reply raised; otherwise reply shared. Place 37 either way.
+abbrev pub raise : Versions → State → ℕ → Outcome
+raise vs s p = pick (eqb (version (s .words)) (vs .beforeMark (publisher s p .walk .mark)))
+    (outcome Raised (state (withVersion (withPublisher (s .words) p (atPlace (publisher s p) 37)) (publisher s p .walk .mark)) (s .entries)))
+    (outcome Shared (putPublisher s p (atPlace (publisher s p) 37)))
+
+-- WALK p b moves the four numbers of the publisher named and of no other. 33 looks + b above 2^64 - 1.
+abbrev pub tooManyLooks : State → ℕ → ℕ → Test
+tooManyLooks s p b = ltb NUMBER-MAX (publisher s p .walk .looks + b) gives TOO-MANY-LOOKS
+
+-- A quiet look leads to place 36, a return to 38; waiting and spent stay.
+abbrev pub placeAfter : ℕ → WalkReply → ℕ
+placeAfter place (Waiting w) = place
+placeAfter place Spent = place
+placeAfter place Quiet = 36
+placeAfter place (Returned l w) = 38
+
+abbrev pub walked : Publisher → Progress → Publisher
+walked y k = record { place = placeAfter (y .place) (k .reply); held = y .held; walk = k .walk }
+
+abbrev pub walk : State → ℕ → Progress → Outcome
+walk s p k = outcome (Walked (k .reply)) (putPublisher s p (walked (publisher s p) k))
+
+-- RELEASE p: 38 to 0, which by itself frees the held slot (its number stays), adds one to releases (modulo 2^64), replies with slot and releases.
+abbrev pub releaseTests : State → ℕ → List Test
+releaseTests s p = noSuchPublisher s p ∷ publisherTurn (not (eqb (publisher s p .place) 38)) ∷ []
+
+abbrev pub oneMore : State → ℕ
+oneMore s = (releases (s .words) + 1) % MODULUS
+
+abbrev pub release : State → ℕ → Outcome
+release s p = outcome (Freed (publisher s p .held) (oneMore s)) (state
+    (withReleases (withPublisher (s .words) p (atPlace (publisher s p) 0)) (oneMore s))
+    (s .entries))
+
+-- Making. 1 at any other length of the words, before all else;
+-- 2 readers, 3 publishers, 4 slots out of range; 5 entries' length; 6 first version above the last.
+abbrev pub makingTests : Versions → Given → State → List Test
+makingTests vs g s =
+    (not (eqb (length (s .words)) WORDS) gives DAMAGED)
+    ∷ (outside 1 READERS-MAX (g .readers) gives BAD-READERS)
+    ∷ (outside 1 PUBLISHERS-MAX (g .publishers) gives BAD-PUBLISHERS)
+    ∷ (outside SLOTS-MIN SLOTS-MAX (g .slots) gives BAD-SLOTS)
+    ∷ (not (eqb (length (s .entries)) (g .slots * TABLE)) gives BAD-ENTRIES)
+    ∷ (vs .tooLarge (g .version) gives BAD-VERSION)
+    ∷ []
+
+-- A fresh store has every entry 9000, slot 0 current, readers and publishers at place 0, the version and the sizes as given
+-- and every other number 0, but for what a kind's fresh reader x has.
+abbrev pub made : ℕ → Reader → Given → State → State
+made kind x g s = state (fresh kind (g .readers) (g .publishers) (g .slots) (g .version) x) (replicate (length (s .entries)) FEATHERED)
+
+abbrev pub makingBy : ℕ → Versions → Reader → Given → State → Outcome
+makingBy kind vs x g s = decide (makingTests vs g s) (outcome Made (made kind x g s)) s

@@ -1,0 +1,96 @@
+-- What the calls told of places, phases, waits and releases is what the store records. Assumes nothing.
+use Prim.Native.Nat.{ℕ, zero, suc, _+_, _-_, _%_, _<_, _≤_}
+use native.Mathlib.Omega.{arith}
+use mathlib.Core.Path.{_≡_, refl, sym, ap, _∙_}
+use mathlib.Core.Bool.{Bool, true, false}
+use mathlib.Core.Option.{Option, none, some}
+use lib.Dec.{leb, eqb}
+use borrow.Author.Tests.{eqb-true, eqb-false, eq-eqb, ne-eqb, leb-true, leb-false, le-leb, lt-leb}
+use Rattle.calls.specs.declared.WalkReply.{WalkReply}
+use Rattle.calls.specs.declared.WalkReply.the-variants.{Waiting, Spent, Quiet, Returned}
+use Rattle.calls.specs.Base.{pick, upd}
+use Rattle.calls.specs.Numbers.{MODULUS}
+use Rattle.calls.specs.RowLaws.{same, at-or}
+use Rattle.calls.specs.Tally.{Phase, Tally, tally₀, withPlace, withPhase, withWaits, withReleases, walked}
+use Rattle.calls.specs.Tally.Phase.{idle, writing, swapped, syncing, returned}
+
+-- The phase that a publisher's place tells.
+abbrev pub phaseAt : ℕ → Phase
+phaseAt pl = pick (eqb pl 0) idle (pick (leb pl 33) writing (pick (eqb pl 34) swapped (pick (leb pl 37) syncing returned)))
+
+pub phase-writing : (pl : ℕ) → 1 ≤ pl → pl ≤ 33 → phaseAt pl ≡ writing
+phase-writing pl l h = rw (ne-eqb pl 0 (λ z. omega arith), le-leb pl 33 h) refl
+
+pub phase-syncing : (pl : ℕ) → 35 ≤ pl → pl ≤ 37 → phaseAt pl ≡ syncing
+phase-syncing pl l h = rw (ne-eqb pl 0 (λ z. omega arith), lt-leb pl 33 (omega arith), ne-eqb pl 34 (λ z. omega arith), le-leb pl 37 h) refl
+
+-- Readers' places, publishers' places and waits, and releases.
+pub record Tallied (y : Tally) (rpl ppl pws : ℕ → ℕ) (rel : ℕ) : Type 0 where
+  pub places : (r : ℕ) → y .place r ≡ rpl r
+  pub phases : (p : ℕ) → y .phase p ≡ phaseAt (ppl p)
+  pub waits : (p : ℕ) → 35 ≤ ppl p → y .waits p ≡ pws p
+  pub releases : y .releases % MODULUS ≡ rel
+
+module _ (y : Tally) (rpl ppl pws : ℕ → ℕ) (rel : ℕ) (i : Tallied y rpl ppl pws rel) where
+  -- ENTER and LEAVE.
+  pub place-tallied : (r pl : ℕ) → Tallied (withPlace y r (some pl)) (upd rpl r pl) ppl pws rel
+  place-tallied r pl = record {
+    places = at-or r (rw (same r) refl) (λ j e. rw e (i .places j));
+    phases = i .phases;
+    waits = i .waits;
+    releases = i .releases;
+  }
+
+  -- A publisher whose phase stays.
+  pub stay-tallied : (p pl ws : ℕ) → phaseAt pl ≡ phaseAt (ppl p) → (35 ≤ pl → 35 ≤ ppl p) → (35 ≤ pl → ws ≡ pws p) → Tallied y rpl (upd ppl p pl) (upd pws p ws) rel
+  stay-tallied p pl ws e low same-waits = record {
+    places = i .places;
+    phases = at-or p (rw (same p) (i .phases p ∙ sym e)) (λ q d. rw d (i .phases q));
+    waits = at-or p (rw (same p) (λ l. i .waits p (low l) ∙ sym (same-waits l))) (λ q d. rw d (i .waits q));
+    releases = i .releases;
+  }
+
+  -- CLAIM and SWAP.
+  pub phase-tallied : (p pl ws : ℕ) (x : Phase) → x ≡ phaseAt pl → pl ≤ 34 → Tallied (withPhase y p x) rpl (upd ppl p pl) (upd pws p ws) rel
+  phase-tallied p pl ws x e low = record {
+    places = i .places;
+    phases = at-or p (rw (same p) e) (λ q d. rw d (i .phases q));
+    waits = at-or p (rw (same p) (λ l. absurd (omega arith))) (λ q d. rw d (i .waits q));
+    releases = i .releases;
+  }
+
+  pub sync-tallied : (p : ℕ) → Tallied (withWaits (withPhase y p syncing) p 0) rpl (upd ppl p 35) (upd pws p 0) rel
+  sync-tallied p = record {
+    places = i .places;
+    phases = at-or p (rw (same p) refl) (λ q d. rw d (i .phases q));
+    waits = at-or p (rw (same p) (λ l. refl)) (λ q d. rw d (i .waits q));
+    releases = i .releases;
+  }
+
+  -- A WALK that replies waiting, and one that returns.
+  pub wait-tallied : (p pl : ℕ) → phaseAt pl ≡ phaseAt (ppl p) → 35 ≤ ppl p → Tallied (withWaits y p (suc (y .waits p))) rpl (upd ppl p pl) (upd pws p (pws p + 1)) rel
+  wait-tallied p pl e low = record {
+    places = i .places;
+    phases = at-or p (rw (same p) (i .phases p ∙ sym e)) (λ q d. rw d (i .phases q));
+    waits = at-or p (rw (same p) (λ l. omega (arith, i .waits p low))) (λ q d. rw d (i .waits q));
+    releases = i .releases;
+  }
+
+  pub return-tallied : (p ws : ℕ) → 35 ≤ ppl p → ws ≡ pws p → Tallied (withPhase y p returned) rpl (upd ppl p 38) (upd pws p ws) rel
+  return-tallied p ws low e = record {
+    places = i .places;
+    phases = at-or p (rw (same p) refl) (λ q d. rw d (i .phases q));
+    waits = at-or p (rw (same p) (λ l. i .waits p low ∙ sym e)) (λ q d. rw d (i .waits q));
+    releases = i .releases;
+  }
+
+  pub release-tallied : (p ws : ℕ) → Tallied (withReleases (withPhase y p idle) (suc (y .releases))) rpl (upd ppl p 0) (upd pws p ws) ((rel + 1) % MODULUS)
+  release-tallied p ws = record {
+    places = i .places;
+    phases = at-or p (rw (same p) refl) (λ q d. rw d (i .phases q));
+    waits = at-or p (rw (same p) (λ l. absurd (omega arith))) (λ q d. rw d (i .waits q));
+    releases = omega (arith, i .releases);
+  }
+
+pub fresh-tallied : Tallied tally₀ (λ r. 0) (λ p. 0) (λ p. 0) 0
+fresh-tallied = record { places = λ r. refl; phases = λ p. refl; waits = λ p l. absurd (omega arith); releases = refl }
