@@ -99,6 +99,16 @@ first-below [] p = omega arith
 first-below ((true gives n) ∷ l) p = ltb-true n 100 (and-true (ltb 0 n) (ltb n 100) (and-true (ltb 0 n && ltb n 100) (allNumbers l) p .0) .1)
 first-below ((false gives n) ∷ l) p = first-below l (and-true (ltb 0 n && ltb n 100) (allNumbers l) p .1)
 
+-- Every number of the rows is above k.
+abbrev pub allAbove : ℕ → List Test → Bool
+allAbove k [] = true
+allAbove k ((b gives n) ∷ l) = ltb k n && allAbove k l
+
+pub first-above : (k : ℕ) (l : List Test) → allAbove k l ≡ true → firstOf l ≢ 0 → k < firstOf l
+first-above k [] p ne = absurd (ne refl)
+first-above k ((true gives n) ∷ l) p ne = ltb-true k n (and-true (ltb k n) (allAbove k l) p .0)
+first-above k ((false gives n) ∷ l) p ne = first-above k l (and-true (ltb k n) (allAbove k l) p .1) ne
+
 abbrev pub AllFalse : List Bool → Type 0
 AllFalse [] = Unit {0}
 AllFalse (b ∷ l) = (b ≡ false) × AllFalse l

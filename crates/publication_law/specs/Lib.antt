@@ -8,3 +8,6 @@ pub mod Entries
 pub mod Moves
 pub mod DamageLaws
 pub mod Invariant
+pub mod Keeps
+pub mod Decide
+pub mod Frames

@@ -1,0 +1,442 @@
+-- Demand 3 and its companions hold of the new store.
+-- Why: a reader whose section was open at a SYNC published a version below that mark, and keeps it until it leaves; so the walk does not pass it before. Assumes nothing.
+use Prim.Native.Nat.{ℕ, zero, suc, _+_, _-_, _*_, _%_, _<_, _≤_}
+use native.Mathlib.Omega.{arith}
+use mathlib.Core.Path.{_≡_, refl, sym, ap, _∙_, subst}
+use mathlib.Core.Logic.{_≢_, _⊎_, inl, inr}
+use mathlib.Core.Bool.{Bool, true, false, not, _&&_, _||_}
+use mathlib.Core.List.{List, [], _∷_}
+use mathlib.Core.Option.{Option, none, some}
+use lib.IntN.{ℤ, pos}
+use lib.ListN.{getD, length, replicate}
+use lib.Dec.{leb, ltb, eqb}
+use borrow.Author.Tests.{eqb-true, eqb-false, eq-eqb, ne-eqb, leb-true, leb-false, le-leb, lt-leb, ltb-true, ltb-false, lt-ltb, le-ltb, not-false}
+use Rattle.calls.specs.declared.Call.{Call}
+use Rattle.calls.specs.declared.Call.the-variants.{Enter, Look, Leave, Claim, Write, Swap, Sync, Raise, Walk, Release}
+use Rattle.calls.specs.declared.Reply.{Reply}
+use Rattle.calls.specs.declared.Reply.the-variants.{Made, At, Pitch, Left, Claimed, Raised, Shared, Walked, Refused}
+use Rattle.calls.specs.declared.WalkReply.{WalkReply}
+use Rattle.calls.specs.declared.WalkReply.the-variants.{Waiting, Spent, Quiet, Returned}
+use Rattle.calls.specs.Base.{pick, upd, is}
+use Rattle.calls.specs.Numbers.{READERS-MAX, PUBLISHERS-MAX, TABLE, FEATHERED, NOT-READING, KIND-NEW, DAMAGED, MODULUS, NO-SUCH-PUBLISHER, NO-SUCH-SLOT, PUBLISHER-TURN, SLOT-IN-USE}
+use Rattle.calls.specs.Rows.{Test, firstOf, anyTrue, anyBelow}
+use Rattle.calls.specs.Rows.Test.{_gives_}
+use Rattle.calls.specs.RowLaws.{clash, not-both, by-test, and-false, and-not, or-false, neither, negated, all-false, none-true, no-below, pick-split, same, at-or, AllClear, AllFalse, allNumbers, allAbove, first-above}
+use Rattle.calls.specs.Events.{accepted}
+use Rattle.calls.specs.Events.Event.{_⇒_}
+use Rattle.calls.specs.Model.{shelve, entry}
+use Rattle.calls.specs.Told.{tell, holds, Has}
+use Rattle.calls.specs.Told.Role.{free}
+use Rattle.layout.specs.declared.Reader.{Reader}
+use Rattle.layout.specs.declared.Publisher.{Publisher}
+use Rattle.layout.specs.declared.Progress.{Progress}
+use Rattle.layout.specs.declared.Walk.{Walk as WalkNumbers}
+use Rattle.layout.specs.Layout.{READERS-AT, VERSION-AT, WORDS, HEAD, readers, publishers, slots, current, version, releases, readerAt, publisherAt, withReader, withPublisher, noReader, noPublisher, fresh}
+use Rattle.layout.specs.Laws.{fresh-head, fresh-reader, fresh-publisher, head-publisher}
+use Rattle.statement.specs.Machine.{State, state, Outcome, outcome, Given, Fresh, Machine}
+use Rattle.statement.specs.Demand3.{Demand3}
+use Rattle.statement.specs.Companions.{Traits, RefusedLeaves, Frame, readerNamed, publisherNamed, Offers, Companions}
+use Rattle.statement.specs.Kept.{Pend, pending, Ghost, ghost₀, next, Back, Kept, demand3, companions}
+use Rattle.statement.specs.Kept as kept
+use Rattle.publication_law.specs.Steps.{reader, publisher, putReader, atPlace, decide, look, claimTests, raise, walked, walk, newWalk, placeAfter, made, makingTests}
+use Rattle.publication_law.specs.Damage.{publisherRows, sharedDamage, headRows}
+use Rattle.publication_law.specs.DamageLaws.{Fine, fine-of, fine-to, PublisherFine, publisher-to}
+use Rattle.publication_law.specs.Core.{Core, enter-below, enter-open, enter-pick, leave-core}
+use Rattle.publication_law.specs.Core.Hold.{by-swap}
+use Rattle.publication_law.specs.Grace.{enter-grace, leave-grace}
+use Rattle.publication_law.specs.Tallied.{place-tallied}
+use Rattle.publication_law.specs.Entries.{slotEntry}
+use Rattle.publication_law.specs.Moves.{MovesPublisher, MovesReader, moves-publisher, moves-head, moves-reader}
+use Rattle.publication_law.specs.Invariant.{Invariant, formers, CoreOf, reader-moved}
+use Rattle.publication_law.specs.Keeps.{KindLaw, up-to-mark, up-to-raised, waitsAfter, publisher-fine, claim-keeps, claim-unpicked, write-keeps, swap-keeps, sync-keeps, raise-keeps, walk-keeps, release-keeps, look-right, released-in-order, syncing-in-order, slots-right, picks-right, table-right, idle-told, free-told, made-invariant}
+use Rattle.publication_law.specs.Decide.{decided, decide-accepts, decide-leaves, decide-why}
+use Rattle.publication_law.specs.Frames.{Framed, same-framed, reader-framed, claim-framed, write-framed, swap-framed, sync-framed, raise-framed, walk-framed, release-framed}
+use Rattle.grace_version_law.specs.Steps.{LAST, versions, kind, readerRows, ownRows, damaged, onward, entered, enter, leaving, leave, asked, looksOf, tests, act, rows, step, freshReader, making, GraceVersion}
+use Rattle.grace_version_law.specs.Walks.{asked-all, Ends, Looked, looked}
+
+pub law : KindLaw kind
+law = record {
+  shared-rows = λ rs ss y e. or-false (anyTrue (ownRows rs y)) (anyTrue (publisherRows versions ss y)) e .1;
+  mark-fits = up-to-mark LAST;
+  raised-fits = up-to-raised LAST;
+}
+
+-- The kind's own numbers: what readers published, and whom a walk has still to ask.
+pub record Shown (ver : ℕ) (x : Reader) : Type 0 where
+  pub first-low : x .first ≤ ver
+  pub second-low : x .second ≤ ver
+  pub shown : 2 ≤ x .place → x .published ≤ ver
+
+-- A synchronise waits for a reader that published a version below its mark and that its walk has not asked.
+pub record Behind (n : ℕ) (x : Reader) (k : WalkNumbers) (r : ℕ) : Type 0 where
+  pub below : x .published < k .mark
+  pub unasked : (i : ℕ) → i < k .next → asked n i ≢ r
+
+pub record Own (w : Pend) (ver n : ℕ) (R : ℕ → Reader) (P : ℕ → Publisher) : Type 0 where
+  pub readers-shown : (r : ℕ) → Shown ver (R r)
+  pub behind : (p r : ℕ) → w p r ≡ true → Behind n (R r) (P p .walk) r
+  -- each look passed a reader or waited
+  pub counted : (p : ℕ) → 35 ≤ P p .place → P p .walk .looks ≡ P p .walk .next + P p .walk .waits
+
+pub record Good (z : Given) (g : Ghost) (s : State) : Type 0 where
+  pub shared : Invariant kind z g s
+  pub own : Own (g .pend) (version (s .words)) (readers (s .words)) (readerAt (s .words)) (publisherAt (s .words))
+
+-- The damage test of a publisher, from facts and to them.
+pub publisher-fits : (rs ss : ℕ) (y : Publisher) → y .place ≤ 38 → y .place ≢ 36 → (35 ≤ y .place → y .place ≤ 37 → y .walk .next < rs) → PublisherFine versions ss y
+    → kind .publisherDamaged rs ss y ≡ false
+publisher-fits rs ss y high ne below f = neither (anyTrue (ownRows rs y)) (anyTrue (publisherRows versions ss y))
+    (none-true (ownRows rs y) (
+      le-ltb 38 (y .place) high,
+      (
+        ne-eqb (y .place) 36 ne,
+        (and-not (eqb (y .place) 35 || eqb (y .place) 37) (leb rs (y .walk .next)) (λ e. lt-leb rs (y .walk .next) (by-place (eqb (y .place) 35) refl (eqb (y .place) 37) refl e)), tt),
+      ),
+    ))
+    (publisher-to versions ss y f)
+  where
+    by-place : (a : Bool) → eqb (y .place) 35 ≡ a → (b : Bool) → eqb (y .place) 37 ≡ b → (a || b) ≡ true → y .walk .next < rs
+    by-place true d b e t = below (omega (arith, eqb-true (y .place) 35 d)) (omega (arith, eqb-true (y .place) 35 d))
+    by-place false d true e t = below (omega (arith, eqb-true (y .place) 37 e)) (omega (arith, eqb-true (y .place) 37 e))
+    by-place false d false e t = clash (sym t)
+
+-- Below 35 only the held slot is tested.
+early-fits : (rs ss : ℕ) (y : Publisher) → y .place ≤ 34 → (1 ≤ y .place → y .held < ss) → kind .publisherDamaged rs ss y ≡ false
+early-fits rs ss y high held = publisher-fits rs ss y (omega arith) (λ e. omega arith) (λ a b. absurd (omega arith))
+    (record { held-below = held; mark-fits = λ l. absurd (omega arith); waits-low = λ l. absurd (omega arith) })
+
+pub next-below : (rs ss : ℕ) (y : Publisher) → kind .publisherDamaged rs ss y ≡ false → (eqb (y .place) 35 || eqb (y .place) 37) ≡ true → y .walk .next < rs
+next-below rs ss y e t =
+    let f = all-false (ownRows rs y) (or-false (anyTrue (ownRows rs y)) (anyTrue (publisherRows versions ss y)) e .0) in
+    leb-false rs (y .walk .next) (and-false (eqb (y .place) 35 || eqb (y .place) 37) (leb rs (y .walk .next)) (f .1 .1 .0) t)
+
+-- ENTER, by the place.
+module _ (ver cur : ℕ) where
+  onward-shown : (pl f s u k : ℕ) → pl ≤ 4 → Shown ver (record { place = pl; first = f; second = s; published = u; picked = k })
+      → Shown ver (onward ver cur (record { place = pl; first = f; second = s; published = u; picked = k }))
+  unfolding onward
+  onward-shown zero f s u k l o = record { first-low = omega arith; second-low = o .second-low; shown = λ q. absurd (omega arith) }
+  onward-shown (suc zero) f s u k l o = record { first-low = o .first-low; second-low = o .second-low; shown = λ q. o .first-low }
+  onward-shown (suc (suc zero)) f s u k l o = record { first-low = o .first-low; second-low = omega arith; shown = λ q. o .shown (omega arith) }
+  onward-shown (suc (suc (suc zero))) f s u k l o = record {
+    first-low = o .first-low;
+    second-low = o .second-low;
+    shown = λ q. pick-split (λ (v : ℕ). v ≤ ver) (eqb f s) (λ _. o .shown (omega arith)) (λ _. o .second-low);
+  }
+  onward-shown (suc (suc (suc (suc zero)))) f s u k l o = record { first-low = o .first-low; second-low = o .second-low; shown = λ q. o .shown (omega arith) }
+  onward-shown (suc (suc (suc (suc (suc pl))))) f s u k l o = absurd (omega arith)
+
+  pub onward-place : (pl f s u k : ℕ) → pl ≤ 4 → onward ver cur (record { place = pl; first = f; second = s; published = u; picked = k }) .place ≡ pl + 1
+  unfolding onward
+  onward-place zero f s u k l = refl
+  onward-place (suc zero) f s u k l = refl
+  onward-place (suc (suc zero)) f s u k l = refl
+  onward-place (suc (suc (suc zero))) f s u k l = refl
+  onward-place (suc (suc (suc (suc zero)))) f s u k l = refl
+  onward-place (suc (suc (suc (suc (suc pl))))) f s u k l = absurd (omega arith)
+
+  onward-picks : (pl f s u k : ℕ) → pl ≤ 4 → onward ver cur (record { place = pl; first = f; second = s; published = u; picked = k }) .place ≡ 5
+      → onward ver cur (record { place = pl; first = f; second = s; published = u; picked = k }) .picked ≡ cur
+  unfolding onward
+  onward-picks zero f s u k l five = absurd (omega arith)
+  onward-picks (suc zero) f s u k l five = absurd (omega arith)
+  onward-picks (suc (suc zero)) f s u k l five = absurd (omega arith)
+  onward-picks (suc (suc (suc zero))) f s u k l five = absurd (omega arith)
+  onward-picks (suc (suc (suc (suc zero)))) f s u k l five = refl
+  onward-picks (suc (suc (suc (suc (suc pl))))) f s u k l five = absurd (omega arith)
+
+  onward-fits : (slots pl f s u k : ℕ) → pl ≤ 4 → cur < slots → AllFalse (readerRows slots (record { place = pl; first = f; second = s; published = u; picked = k }))
+      → AllFalse (readerRows slots (onward ver cur (record { place = pl; first = f; second = s; published = u; picked = k })))
+  unfolding onward
+  onward-fits slots zero f s u k l c h = (refl, (refl, (refl, tt)))
+  onward-fits slots (suc zero) f s u k l c h = (refl, (refl, (rw (same f) refl, tt)))
+  onward-fits slots (suc (suc zero)) f s u k l c h = (refl, (refl, (h .1 .1 .0, tt)))
+  onward-fits slots (suc (suc (suc zero))) f s u k l c h = (refl, (refl, (refl, tt)))
+  onward-fits slots (suc (suc (suc (suc zero)))) f s u k l c h = (refl, (lt-leb slots cur c, (refl, tt)))
+  onward-fits slots (suc (suc (suc (suc (suc pl))))) f s u k l c h = absurd (omega arith)
+
+onward-published : (ver cur : ℕ) (x : Reader) → 4 ≤ x .place → onward ver cur x .published ≡ x .published
+unfolding onward
+onward-published ver cur x l = rw (ne-eqb (x .place) 0 (λ z. omega arith), ne-eqb (x .place) 1 (λ z. omega arith), ne-eqb (x .place) 2 (λ z. omega arith), ne-eqb (x .place) 3 (λ z. omega arith)) refl
+
+module _ (g : Ghost) (n m cur ver : ℕ) (R : ℕ → Reader) (P : ℕ → Publisher) (es : List ℤ) (i : CoreOf g n m cur R P es) (r : ℕ) (rn : r < n) where
+  enter-core : (pl : ℕ) → R r .place ≡ pl → pl ≤ 4
+      → let x : Reader = onward ver cur (record { place = pl; first = R r .first; second = R r .second; published = R r .published; picked = R r .picked }) in
+      Core (shelve (g .model) (Enter r) (At (x .place))) (tell (g .told) (Enter r) (At (x .place))) n m cur (upd (λ j. R j .place) r (x .place)) (upd (λ j. R j .picked) r (x .picked))
+      (λ p. P p .place) (λ p. P p .held) (λ p. formers (P p)) (slotEntry es)
+  unfolding onward
+  enter-core zero e l = enter-below _ _ _ _ _ _ _ _ _ _ _ i r 1 rn (omega arith) (omega arith)
+  enter-core (suc zero) e l = enter-below _ _ _ _ _ _ _ _ _ _ _ i r 2 rn (omega arith) (omega arith)
+  enter-core (suc (suc zero)) e l = enter-below _ _ _ _ _ _ _ _ _ _ _ i r 3 rn (omega arith) (omega arith)
+  enter-core (suc (suc (suc zero))) e l = enter-open _ _ _ _ _ _ _ _ _ _ _ i r rn (omega arith)
+  enter-core (suc (suc (suc (suc zero)))) e l = enter-pick _ _ _ _ _ _ _ _ _ _ _ i r rn e
+  enter-core (suc (suc (suc (suc (suc pl))))) e l = absurd (omega arith)
+
+-- The kind's own numbers, as a reader or a publisher moves.
+module _ (w : Pend) (ver n : ℕ) (R : ℕ → Reader) (P : ℕ → Publisher) (o : Own w ver n R P) where
+  reader-own : (r : ℕ) (x : Reader) (w′ : Pend) → Shown ver x → ((p q : ℕ) → w′ p q ≡ true → w p q ≡ true) → ((p : ℕ) → w′ p r ≡ true → x .published ≡ R r .published) → Own w′ ver n (upd R r x) P
+  reader-own r x w′ s sub e = record {
+    readers-shown = at-or r (rw (same r) s) (λ j d. rw d (o .readers-shown j));
+    behind = λ p. at-or r (rw (same r) (λ q. let a = o .behind p r (sub p r q) in record { below = rw (e p q) (a .below); unasked = a .unasked }))
+        (λ j d. rw d (λ q. o .behind p j (sub p j q)));
+    counted = o .counted;
+  }
+
+  publisher-own : (p ver′ : ℕ) (y : Publisher) (w′ : Pend) → ver ≤ ver′ → ((q r : ℕ) → eqb q p ≡ false → w′ q r ≡ w q r) → ((r : ℕ) → w′ p r ≡ true → Behind n (R r) (y .walk) r)
+      → (35 ≤ y .place → y .walk .looks ≡ y .walk .next + y .walk .waits) → Own w′ ver′ n R (upd P p y)
+  publisher-own p ver′ y w′ up others a c = record {
+    readers-shown = λ r. let s = o .readers-shown r in record { first-low = omega (arith, s .first-low); second-low = omega (arith, s .second-low); shown = λ q. omega (arith, s .shown q) };
+    behind = at-or p (rw (same p) a) (λ q e r. rw (e, others q r e) (o .behind q r));
+    counted = at-or p (rw (same p) c) (λ q e. rw e (o .counted q));
+  }
+
+pub all-numbers : (s : State) (c : Call) → allNumbers (rows s c) ≡ true
+all-numbers s (Enter r) = refl
+all-numbers s (Look r k) = refl
+all-numbers s (Leave r) = refl
+all-numbers s (Claim p x) = refl
+all-numbers s (Write p v) = refl
+all-numbers s (Swap p) = refl
+all-numbers s (Sync p) = refl
+all-numbers s (Raise p) = refl
+all-numbers s (Walk p b) = refl
+all-numbers s (Release p) = refl
+
+pub above-one : (s : State) (c : Call) → allAbove DAMAGED (tests s c) ≡ true
+above-one s (Enter r) = refl
+above-one s (Look r k) = refl
+above-one s (Leave r) = refl
+above-one s (Claim p x) = refl
+above-one s (Write p v) = refl
+above-one s (Swap p) = refl
+above-one s (Sync p) = refl
+above-one s (Raise p) = refl
+above-one s (Walk p b) = refl
+above-one s (Release p) = refl
+
+pub act-accepted : (s : State) (c : Call) → accepted (act s c .reply) ≡ true
+act-accepted s (Enter r) = refl
+act-accepted s (Look r k) = refl
+act-accepted s (Leave r) = refl
+act-accepted s (Claim p x) = refl
+act-accepted s (Write p v) = refl
+act-accepted s (Swap p) = refl
+act-accepted s (Sync p) = refl
+act-accepted s (Raise p) = pick-split (λ (o : Outcome). accepted (o .reply) ≡ true) (eqb (version (s .words)) (versions .beforeMark (publisher s p .walk .mark))) (λ _. refl) (λ _. refl)
+act-accepted s (Walk p b) = refl
+act-accepted s (Release p) = refl
+
+pub fine-undamaged : (s : State) → damaged s ≡ false → Fine kind s
+unfolding damaged
+fine-undamaged s e = fine-of kind s e
+
+-- Each step keeps the invariant.
+module _ (z : Given) (g : Ghost) (s : State) (i : Good z g s) where
+  After : Call → Outcome → Type 0
+  After c o = Good z (next g (c ⇒ o .reply)) (o .after)
+
+  pub undamaged-now : damaged s ≡ false
+  unfolding damaged
+  undamaged-now = fine-to kind s (i .shared .fine)
+
+  pub r64 : (r : ℕ) → r < readers (s .words) → r < READERS-MAX
+  r64 r l = omega (arith, i .shared .fine .head .readers-high)
+
+  pub p16 : (p : ℕ) → p < publishers (s .words) → p < PUBLISHERS-MAX
+  p16 p l = omega (arith, i .shared .fine .head .publishers-high)
+
+  enter-kept : (r : ℕ) → AllClear (tests s (Enter r)) → After (Enter r) (enter s r)
+  unfolding After
+  enter-kept r f =
+      let lt : r < readers (s .words) = leb-false _ _ (f .0) in
+      let l : reader s r .place ≤ 4 = let q = leb-false 5 (reader s r .place) (f .1 .0) in omega arith in
+      let m = moves-reader (s .words) r (entered s r) (i .shared .fine .head .long) (r64 r lt) in record {
+        shared = reader-moved kind z g s (i .shared) _ _ r (entered s r) m
+            (none-true (readerRows (slots (s .words)) (entered s r)) (onward-fits _ _ _ _ _ _ _ _ l (i .shared .fine .head .current-below) (all-false (readerRows (slots (s .words)) (reader s r)) (i .shared .fine .readers-fine r lt))))
+            (enter-core g _ _ _ (version (s .words)) (readerAt (s .words)) (publisherAt (s .words)) (s .entries) (i .shared .core) r lt _ refl l)
+            (enter-grace _ _ _ _ _ (i .shared .grace) r _ _ (λ o. rw (onward-place (version (s .words)) (current (s .words)) (reader s r .place) (reader s r .first) (reader s r .second) (reader s r .published) (reader s r .picked) l) (omega arith))
+            (λ five p e. i .shared .core .publishers p .apart _ (by-swap e) (onward-picks _ _ _ _ _ _ _ l five)))
+            (place-tallied _ _ _ _ _ (i .shared .tallied) r (entered s r .place));
+        own = rw (m .head VERSION-AT (omega arith), m .head READERS-AT (omega arith), m .readers-are, m .publishers-stay)
+            (reader-own _ _ _ _ _ (i .own) r (entered s r) _ (onward-shown _ _ _ _ _ _ _ l (i .own .readers-shown r)) (λ p q e. e)
+            (λ p e. onward-published _ _ (reader s r) (i .shared .grace .awaited p r e .opened)));
+      }
+
+  leave-kept : (r : ℕ) → AllClear (tests s (Leave r)) → After (Leave r) (leave s r)
+  unfolding After
+  leave-kept r f =
+      let lt : r < readers (s .words) = leb-false _ _ (f .0) in
+      let m = moves-reader (s .words) r (leaving (reader s r)) (i .shared .fine .head .long) (r64 r lt) in record {
+        shared = reader-moved kind z g s (i .shared) _ _ r (leaving (reader s r)) m refl
+            (leave-core _ _ _ _ _ _ _ _ _ _ _ (i .shared .core) r Left)
+            (leave-grace _ _ _ _ _ (i .shared .grace) (g .told) r _)
+            (place-tallied _ _ _ _ _ (i .shared .tallied) r 0);
+        own = rw (m .head VERSION-AT (omega arith), m .head READERS-AT (omega arith), m .readers-are, m .publishers-stay)
+            (reader-own _ _ _ _ _ (i .own) r (leaving (reader s r)) _ (let o = i .own .readers-shown r in record { first-low = o .first-low; second-low = o .second-low; shown = λ q. absurd (omega arith) })
+            (λ p q. pick-split (λ (b : Bool). b ≡ true → g .pend p q ≡ true) (eqb q r) (λ _ e. clash (sym e)) (λ _ e. e))
+            (λ p. rw (same r) (λ e. clash (sym e))));
+      }
+
+  -- A publisher's move that leaves the readers waited for, the version and its walk as they are.
+  idle-own : (w′ : List ℕ) (p : ℕ) (y : Publisher) (cur rel : ℕ) → MovesPublisher (s .words) w′ p y cur (version (s .words)) rel → y .walk ≡ publisher s p .walk → (35 ≤ y .place → 35 ≤ publisher s p .place)
+      → Own (g .pend) (version w′) (readers w′) (readerAt w′) (publisherAt w′)
+  idle-own w′ p y cur rel m e low = rw (m .version-is, m .head READERS-AT (omega arith), m .readers-stay, m .publishers-are)
+      (publisher-own _ _ _ _ _ (i .own) p _ y _ (omega arith) (λ q r d. refl) (λ r q. rw e (i .own .behind p r q)) (λ l. rw e (i .own .counted p (low l))))
+
+  claim-kept : (p x : ℕ) → AllClear (tests s (Claim p x)) → After (Claim p x) (act s (Claim p x))
+  unfolding After
+  claim-kept p x f =
+      let lt : p < publishers (s .words) = leb-false _ _ (f .0) in record {
+        shared = claim-keeps kind law z g s (i .shared) false p x f
+            (early-fits (readers (s .words)) (slots (s .words)) (record { place = 1; held = x; walk = publisher s p .walk }) (omega arith) (λ _. leb-false _ _ (f .1 .0)));
+        own = idle-own _ p _ _ _ (moves-publisher (s .words) p _ (i .shared .fine .head .long) (p16 p lt)) refl (λ l. absurd (omega arith));
+      }
+
+  write-kept : (p : ℕ) (v : ℤ) → AllClear (tests s (Write p v)) → After (Write p v) (act s (Write p v))
+  unfolding After
+  write-kept p v f =
+      let lt : p < publishers (s .words) = leb-false _ _ (f .0) in
+      let q = or-false (ltb (publisher s p .place) 1) (ltb 32 (publisher s p .place)) (f .1 .1 .0) in
+      let low = ltb-false (publisher s p .place) 1 (q .0) in
+      let high = ltb-false 32 (publisher s p .place) (q .1) in record {
+        shared = write-keeps kind law z g s (i .shared) p v f
+            (early-fits (readers (s .words)) (slots (s .words)) (atPlace (publisher s p) (publisher s p .place + 1)) (omega arith) (λ _. publisher-fine kind law z g s (i .shared) p lt .held-below low));
+        own = idle-own _ p _ _ _ (moves-publisher (s .words) p _ (i .shared .fine .head .long) (p16 p lt)) refl (λ l. absurd (omega arith));
+      }
+
+  swap-kept : (p : ℕ) → AllClear (tests s (Swap p)) → After (Swap p) (act s (Swap p))
+  unfolding After
+  swap-kept p f =
+      let lt : p < publishers (s .words) = leb-false _ _ (f .0) in record {
+        shared = swap-keeps kind law z g s (i .shared) p f
+            (early-fits (readers (s .words)) (slots (s .words)) (record { place = 34; held = current (s .words); walk = publisher s p .walk }) (omega arith) (λ _. i .shared .fine .head .current-below));
+        own = idle-own _ p _ _ _ (moves-head (s .words) _ p _ _ _ _ (moves-publisher (s .words) p _ (i .shared .fine .head .long) (p16 p lt)) (i .shared .fine .head .long) 4 (publisher s p .held) (omega arith) (omega arith)) refl (λ l. absurd (omega arith));
+      }
+
+  sync-kept : (p : ℕ) → AllClear (tests s (Sync p)) → After (Sync p) (act s (Sync p))
+  unfolding After
+  sync-kept p f =
+      let lt : p < publishers (s .words) = leb-false _ _ (f .0) in
+      let at34 = eqb-true (publisher s p .place) 34 (not-false _ (f .1 .0)) in
+      let h = i .shared .fine .head in
+      let m = moves-publisher (s .words) p (record { place = 35; held = publisher s p .held; walk = newWalk (version (s .words) + 1) }) (h .long) (p16 p lt) in record {
+        shared = sync-keeps kind law z g s (i .shared) p f
+            (publisher-fits (readers (s .words)) (slots (s .words)) (record { place = 35; held = publisher s p .held; walk = newWalk (version (s .words) + 1) }) (omega arith) (λ e. omega arith) (λ a b. omega (arith, h .readers-low))
+            (record {
+              held-below = λ _. publisher-fine kind law z g s (i .shared) p lt .held-below (omega arith);
+              mark-fits = λ l. up-to-mark LAST (version (s .words)) (h .version-fits) (f .1 .1 .0);
+              waits-low = λ l. omega arith;
+            }));
+        own = rw (m .version-is, m .head READERS-AT (omega arith), m .readers-stay, m .publishers-are)
+            (publisher-own _ _ _ _ _ (i .own) p _ _ _ (omega arith) (λ q r e. rw e refl)
+            (λ r. rw (same p) (λ e. let l = leb-true 4 (reader s r .place) (sym (i .shared .core .readers r .inside-is) ∙ e) in
+            record { below = omega (arith, i .own .readers-shown r .shown (omega arith)); unasked = λ j a. absurd (omega arith) }))
+            (λ l. refl));
+      }
+
+  raise-kept : (p : ℕ) → AllClear (tests s (Raise p)) → After (Raise p) (act s (Raise p))
+  unfolding After
+  raise-kept p f =
+      let lt : p < publishers (s .words) = leb-false _ _ (f .0) in
+      let at35 = eqb-true (publisher s p .place) 35 (not-false _ (f .1 .0)) in
+      let pf = publisher-fine kind law z g s (i .shared) p lt in
+      let ok = publisher-fits (readers (s .words)) (slots (s .words)) (atPlace (publisher s p) 37) (omega arith) (λ e. omega arith)
+      (λ a b. next-below _ _ (publisher s p) (i .shared .fine .publishers-fine p lt) (rw at35 refl))
+      (record { held-below = λ _. pf .held-below (omega arith); mark-fits = λ _. pf .mark-fits (omega arith); waits-low = λ _. pf .waits-low (omega arith) }) in
+      let some-mark : eqb (publisher s p .walk .mark) 0 ≡ false = or-false (eqb (publisher s p .walk .mark) 0) (ltb LAST (publisher s p .walk .mark)) (pf .mark-fits (omega arith)) .0 in
+      raise-good p (shared-raise p (raise-keeps kind law z g s (i .shared) p lt (omega arith) (omega arith) ok)) (raise-own p lt at35 some-mark)
+    where
+      shared-raise : (p : ℕ) → Invariant kind z (kept.onward g (Raise p) (raise versions s p .reply)) (raise versions s p .after) → Invariant kind z g (raise versions s p .after)
+      shared-raise p x = x
+
+      raise-own : (p : ℕ) → p < publishers (s .words) → publisher s p .place ≡ 35 → eqb (publisher s p .walk .mark) 0 ≡ false
+          → Own (g .pend) (version (raise versions s p .after .words)) (readers (raise versions s p .after .words)) (readerAt (raise versions s p .after .words)) (publisherAt (raise versions s p .after .words))
+      raise-own p lt at35 some-mark = pick-split (λ (o : Outcome). Own (g .pend) (version (o .after .words)) (readers (o .after .words)) (readerAt (o .after .words)) (publisherAt (o .after .words)))
+          (eqb (version (s .words)) (versions .beforeMark (publisher s p .walk .mark)))
+          (λ e. let m = moves-head (s .words) _ p _ _ _ _ (moves-publisher (s .words) p (atPlace (publisher s p) 37) (i .shared .fine .head .long) (p16 p lt)) (i .shared .fine .head .long) VERSION-AT (publisher s p .walk .mark) (omega arith) (omega arith) in
+          rw (m .version-is, m .head READERS-AT (omega arith), m .readers-stay, m .publishers-are)
+          (publisher-own _ _ _ _ _ (i .own) p _ _ _ (omega (arith, eqb-true (version (s .words)) (publisher s p .walk .mark - 1) e)) (λ q r d. refl) (i .own .behind p) (λ l. i .own .counted p (omega arith))))
+          (λ e. idle-own _ p (atPlace (publisher s p) 37) _ _ (moves-publisher (s .words) p _ (i .shared .fine .head .long) (p16 p lt)) refl (λ l. omega arith))
+
+      raise-good : (p : ℕ) → Invariant kind z g (raise versions s p .after)
+          → Own (g .pend) (version (raise versions s p .after .words)) (readers (raise versions s p .after .words)) (readerAt (raise versions s p .after .words)) (publisherAt (raise versions s p .after .words))
+          → Good z (next g (Raise p ⇒ raise versions s p .reply)) (raise versions s p .after)
+      raise-good p a b = pick-split (λ (o : Outcome). Good z g (raise versions s p .after) → Good z (next g (Raise p ⇒ o .reply)) (raise versions s p .after))
+          (eqb (version (s .words)) (versions .beforeMark (publisher s p .walk .mark))) (λ _ x. x) (λ _ x. x) (record { shared = a; own = b })
+
+  -- A walk from the numbers of publisher p.
+  module _ (p b : ℕ) (lt : p < publishers (s .words)) (at37 : publisher s p .place ≡ 37) where
+    pub came : Looked (s .words) (readers (s .words)) (publisher s p .walk .mark) (publisher s p .walk .next) (publisher s p .walk .looks) (publisher s p .walk .waits) (looksOf s (publisher s p .walk) b)
+    came = looked (s .words) (readers (s .words)) (publisher s p .walk .mark) (publisher s p .walk .waits) b (publisher s p .walk .next) (publisher s p .walk .looks)
+        (next-below _ _ (publisher s p) (i .shared .fine .publishers-fine p lt) (rw at37 refl))
+
+    -- A reader waited for has not been asked.
+    still-behind : (r : ℕ) → g .pend p r ≡ true → Behind (readers (s .words)) (reader s r) (looksOf s (publisher s p .walk) b .walk) r
+    still-behind r e = let a = i .own .behind p r e in record {
+      below = rw (came .mark-same) (a .below);
+      unasked = λ j l z. old a j l z (ltb j (publisher s p .walk .next)) refl;
+    }
+      where
+        old : Behind (readers (s .words)) (reader s r) (publisher s p .walk) r → (j : ℕ) → j < looksOf s (publisher s p .walk) b .walk .next → asked (readers (s .words)) j ≡ r → (d : Bool) → ltb j (publisher s p .walk .next) ≡ d → ⊥
+        old a j l z true d = a .unasked j (ltb-true _ _ d) z
+        old a j l z false d = omega (arith, a .below, subst (λ (q : ℕ). publisher s p .walk .mark ≤ readerAt (s .words) q .published) z (came .passed j (ltb-false _ _ d) l))
+
+    pub none-pending : looksOf s (publisher s p .walk) b .walk .next ≡ readers (s .words) → (r : ℕ) → g .pend p r ≡ false
+    none-pending all r = by-test (g .pend p r) (λ e.
+        let rn : r < readers (s .words) = i .shared .core .readers r .bound (omega (arith, i .shared .grace .awaited p r e .opened)) in
+        let a = asked-all (readers (s .words)) r rn in
+        still-behind r e .unasked (a .0) (omega (arith, a .1)) (a .2))
+
+    returned-all : (o : WalkReply) (nx lk wt : ℕ) → Ends (readers (s .words)) nx lk wt o → placeAfter 37 o ≡ 38 → nx ≡ readers (s .words)
+    returned-all (Waiting r) nx lk wt e z = absurd (omega arith)
+    returned-all Spent nx lk wt e z = absurd (omega arith)
+    returned-all Quiet nx lk wt e z = absurd e
+    returned-all (Returned l u) nx lk wt e z = e .0
+
+    after-fits : (o : WalkReply) (nx lk wt : ℕ) → Ends (readers (s .words)) nx lk wt o → wt ≤ lk → versions .wrongMark (looksOf s (publisher s p .walk) b .walk .mark) ≡ false
+        → kind .publisherDamaged (readers (s .words)) (slots (s .words)) (record { place = placeAfter 37 o; held = publisher s p .held; walk = record { mark = looksOf s (publisher s p .walk) b .walk .mark; next = nx; looks = lk; waits = wt } }) ≡ false
+    after-fits (Waiting r) nx lk wt e l mk = publisher-fits (readers (s .words)) (slots (s .words)) (record { place = 37; held = publisher s p .held; walk = record { mark = looksOf s (publisher s p .walk) b .walk .mark; next = nx; looks = lk; waits = wt } }) (omega arith) (λ z. omega arith) (λ c d. e) (record { held-below = λ _. publisher-fine kind law z g s (i .shared) p lt .held-below (omega arith); mark-fits = λ _. mk; waits-low = λ _. l })
+    after-fits Spent nx lk wt e l mk = publisher-fits (readers (s .words)) (slots (s .words)) (record { place = 37; held = publisher s p .held; walk = record { mark = looksOf s (publisher s p .walk) b .walk .mark; next = nx; looks = lk; waits = wt } }) (omega arith) (λ z. omega arith) (λ c d. e) (record { held-below = λ _. publisher-fine kind law z g s (i .shared) p lt .held-below (omega arith); mark-fits = λ _. mk; waits-low = λ _. l })
+    after-fits Quiet nx lk wt e l mk = absurd e
+    after-fits (Returned a c) nx lk wt e l mk = publisher-fits (readers (s .words)) (slots (s .words)) (record { place = 38; held = publisher s p .held; walk = record { mark = looksOf s (publisher s p .walk) b .walk .mark; next = nx; looks = lk; waits = wt } }) (omega arith) (λ z. omega arith) (λ c d. absurd (omega arith)) (record { held-below = λ _. publisher-fine kind law z g s (i .shared) p lt .held-below (omega arith); mark-fits = λ _. mk; waits-low = λ _. l })
+
+    walk-kept : After (Walk p b) (act s (Walk p b))
+    unfolding After
+    walk-kept =
+        let pf = publisher-fine kind law z g s (i .shared) p lt in
+        let k = looksOf s (publisher s p .walk) b in
+        let wl : k .walk .waits ≤ k .walk .looks = omega (arith, came .counted, came .ahead, pf .waits-low (omega arith)) in
+        let m = moves-publisher (s .words) p (walked (publisher s p) k) (i .shared .fine .head .long) (p16 p lt) in record {
+          shared = walk-keeps kind law z g s (i .shared) p b lt (omega arith) (omega arith) k
+              (λ e. none-pending (returned-all (k .reply) _ _ _ (came .ends) (rw at37 at e)))
+              (came .waits-are)
+              (rw at37 (after-fits (k .reply) _ _ _ (came .ends) wl (rw (came .mark-same) (pf .mark-fits (omega arith)))));
+          own = rw (m .version-is, m .head READERS-AT (omega arith), m .readers-stay, m .publishers-are)
+              (publisher-own _ _ _ _ _ (i .own) p _ _ _ (omega arith) (λ q r e. refl) still-behind (λ _. omega (arith, came .counted, i .own .counted p (omega arith))));
+        }
+
+  release-kept : (p : ℕ) → AllClear (tests s (Release p)) → After (Release p) (act s (Release p))
+  unfolding After
+  release-kept p f =
+      let lt : p < publishers (s .words) = leb-false _ _ (f .0) in record {
+        shared = release-keeps kind law z g s (i .shared) p f
+            (early-fits (readers (s .words)) (slots (s .words)) (atPlace (publisher s p) 0) (omega arith) (λ l. absurd (omega arith)));
+        own = idle-own _ p _ _ _ (moves-head (s .words) _ p _ _ _ _ (moves-publisher (s .words) p _ (i .shared .fine .head .long) (p16 p lt)) (i .shared .fine .head .long) 6 ((releases (s .words) + 1) % MODULUS) (omega arith) (omega arith)) refl (λ l. absurd (omega arith));
+      }
+
+  acted : (c : Call) → AllClear (tests s c) → After c (act s c)
+  unfolding After
+  acted (Enter r) f = enter-kept r f
+  acted (Look r k) f = record { shared = i .shared; own = i .own }
+  acted (Leave r) f = leave-kept r f
+  acted (Claim p x) f = claim-kept p x f
+  acted (Write p v) f = write-kept p v f
+  acted (Swap p) f = swap-kept p f
+  acted (Sync p) f = sync-kept p f
+  acted (Raise p) f = raise-kept p f
+  acted (Walk p b) f = walk-kept p b (leb-false _ _ (f .0)) (eqb-true _ _ (not-false _ (f .1 .0)))
+  acted (Release p) f = release-kept p f
+
+  pub stepped : (c : Call) → Good z (next g (c ⇒ step s c .reply)) (step s c .after)
+  unfolding After step
+  stepped c = decided (After c) (rows s c) (act s c) s (all-numbers s c) (λ f. acted c (f .1)) (record { shared = i .shared; own = i .own })

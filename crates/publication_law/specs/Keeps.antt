@@ -1,0 +1,331 @@
+-- Each shared step keeps the shared invariant, and what the invariant gives at the end of a list. Assumes nothing.
+use Prim.Native.Nat.{ℕ, zero, suc, _+_, _-_, _*_, _%_, _<_, _≤_}
+use native.Mathlib.Omega.{arith}
+use mathlib.Core.Path.{_≡_, refl, sym, ap, _∙_, subst, fun-ext}
+use mathlib.Core.Logic.{_≢_}
+use mathlib.Core.Bool.{Bool, true, false, not, _&&_, _||_}
+use mathlib.Core.List.{List, [], _∷_}
+use mathlib.Core.Option.{Option, none, some}
+use lib.IntN.{ℤ, pos}
+use lib.ListN.{getD, set, length, length-set, replicate, length-replicate}
+use lib.Dec.{leb, ltb, eqb}
+use borrow.Author.Tests.{eqb-true, eqb-false, eq-eqb, ne-eqb, leb-true, leb-false, le-leb, lt-leb, ltb-true, ltb-false, lt-ltb, le-ltb, not-false}
+use Rattle.calls.specs.declared.Call.{Call}
+use Rattle.calls.specs.declared.Call.the-variants.{Enter, Look, Leave, Claim, Write, Swap, Sync, Raise, Walk, Release}
+use Rattle.calls.specs.declared.Reply.{Reply}
+use Rattle.calls.specs.declared.Reply.the-variants.{Made, At, Pitch, Left, Claimed, Written, Swapped, Synced, Raised, Shared, Walked, Freed, Refused}
+use Rattle.calls.specs.declared.WalkReply.{WalkReply}
+use Rattle.calls.specs.declared.WalkReply.the-variants.{Waiting, Spent, Quiet, Returned}
+use Rattle.calls.specs.Base.{pick, upd, is}
+use Rattle.calls.specs.Numbers.{READERS-MAX, PUBLISHERS-MAX, SLOTS-MIN, SLOTS-MAX, TABLE, FEATHERED, MODULUS}
+use Rattle.calls.specs.Rows.{Test, firstOf, anyTrue, anyBelow, outside}
+use Rattle.calls.specs.Rows.Test.{_gives_}
+use Rattle.calls.specs.RowLaws.{clash, not-both, and-false, or-false, within, none-below, no-below, pick-split, same, at-or, AllClear}
+use Rattle.calls.specs.Events.{accepted}
+use Rattle.calls.specs.Model.{Model, entry}
+use Rattle.calls.specs.Told.{Told, holds, Has}
+use Rattle.calls.specs.Told.Role.{free}
+use Rattle.calls.specs.Tally.{Tally}
+use Rattle.calls.specs.Tally.Phase.{idle, writing, swapped, syncing, returned}
+use Rattle.layout.specs.declared.Reader.{Reader}
+use Rattle.layout.specs.declared.Publisher.{Publisher}
+use Rattle.layout.specs.declared.Progress.{Progress}
+use Rattle.layout.specs.Layout.{HEAD, KIND-AT, READERS-AT, PUBLISHERS-AT, SLOTS-AT, CURRENT-AT, VERSION-AT, RELEASES-AT, WORDS, kind, readers, publishers, slots, current, version, releases, readerAt, publisherAt, withReader, withPublisher, withCurrent, withVersion, withReleases, entryAt, fresh, noReader, noPublisher}
+use Rattle.layout.specs.Laws.{fresh-long, fresh-head, fresh-reader, fresh-publisher}
+use Rattle.statement.specs.Machine.{State, state, Outcome, outcome, Given, heldSlot, pickedSlot, currentSlot}
+use Rattle.statement.specs.Demand3.{Slots, Picks}
+use Rattle.statement.specs.Kept.{Pend, pending, Ghost, ghost₀, onward}
+use Rattle.publication_law.specs.Steps.{Versions, upTo, noSuchPublisher, reader, publisher, putReader, putPublisher, atPlace, lookTests, look, claimTests, claim, inUse, writeTests, write, swapTests, swap, syncTests, sync, newWalk, raise, placeAfter, walked, walk, releaseTests, release, oneMore, makingTests, made}
+use Rattle.publication_law.specs.Damage.{Kind, publisherRows}
+use Rattle.publication_law.specs.DamageLaws.{HeadFine, Fine, PublisherFine, publisher-of}
+use Rattle.publication_law.specs.Core.{Core, Hold, hold-map, claim-core, late-core, swap-core, release-core, write-core, held-is, role-core, safe-core, free-core, fresh-core}
+use Rattle.publication_law.specs.Core.Hold.{by-swap}
+use Rattle.publication_law.specs.Grace.{Grace, early-grace, wait-grace, sync-grace, nobody, release-grace, fresh-grace}
+use Rattle.publication_law.specs.Single.{late, late-early, late-same, late-swap, single, single-free}
+use Rattle.publication_law.specs.Tallied.{Tallied, phaseAt, phase-writing, phase-syncing, stay-tallied, phase-tallied, sync-tallied, wait-tallied, return-tallied, release-tallied, fresh-tallied}
+use Rattle.publication_law.specs.Entries.{slotEntry, set-entry, entry-same, slot-same}
+use Rattle.publication_law.specs.Moves.{MovesPublisher, publisher-field, moves-publisher, moves-head, MovesReader, reader-field}
+use Rattle.publication_law.specs.Invariant.{formers, Sized, Invariant, publisher-moved}
+
+-- What the shared steps need of a kind.
+pub record KindLaw (K : Kind) : Type 0 where
+  -- its test of a publisher has the shared rows
+  pub shared-rows : (rs ss : ℕ) (y : Publisher) → K .publisherDamaged rs ss y ≡ false → anyTrue (publisherRows (K .versions) ss y) ≡ false
+  -- a SYNC that is not refused gives a mark that fits, and such a mark is a version that fits
+  pub mark-fits : (v : ℕ) → K .versions .tooLarge v ≡ false → K .versions .isLast v ≡ false → K .versions .wrongMark (K .versions .markAt v) ≡ false
+  pub raised-fits : (m : ℕ) → K .versions .wrongMark m ≡ false → K .versions .tooLarge m ≡ false
+
+pub up-to-mark : (last v : ℕ) → ltb last v ≡ false → eqb v last ≡ false → (eqb (v + 1) 0 || ltb last (v + 1)) ≡ false
+up-to-mark last v a b = let l = ltb-false last v a in let ne = eqb-false v last b in rw (ne-eqb (v + 1) 0 (λ z. omega arith)) (le-ltb last (v + 1) (omega arith))
+
+pub up-to-raised : (last m : ℕ) → (eqb m 0 || ltb last m) ≡ false → ltb last m ≡ false
+up-to-raised last m e = or-false (eqb m 0) (ltb last m) e .1
+
+-- The waits after a walk's answer.
+abbrev pub waitsAfter : ℕ → WalkReply → ℕ
+waitsAfter n (Waiting r) = n + 1
+waitsAfter n Spent = n
+waitsAfter n Quiet = n
+waitsAfter n (Returned l w) = n
+
+module _ (K : Kind) (law : KindLaw K) (z : Given) (g : Ghost) (s : State) (i : Invariant K z g s) where
+  long : length (s .words) ≡ WORDS
+  long = i .fine .head .long
+
+  few : (p : ℕ) → p < publishers (s .words) → p < PUBLISHERS-MAX
+  few p l = omega (arith, i .fine .head .publishers-high)
+
+  pub publisher-fine : (p : ℕ) → p < publishers (s .words) → PublisherFine (K .versions) (slots (s .words)) (publisher s p)
+  publisher-fine p l = publisher-of (K .versions) (slots (s .words)) (publisher s p) (law .shared-rows _ _ _ (i .fine .publishers-fine p l))
+
+  -- A slot that is not in use is held by nobody.
+  unheld : (x : ℕ) → inUse s x ≡ false → (q : ℕ) → Hold (publisher s q .place) (publisher s q .held) (formers (publisher s q)) x → ⊥
+  unheld x e q o = single-free _ _ x
+      (none-below (λ q. heldSlot s q x) (publishers (s .words)) q (or-false (eqb (current (s .words)) x) _ e .1) (i .core .publishers q .bound x o)) o
+
+  not-current : (x : ℕ) → inUse s x ≡ false → current (s .words) ≢ x
+  not-current x e = eqb-false _ _ (or-false (eqb (current (s .words)) x) _ e .0)
+
+  pub claim-keeps : (e : Bool) (p x : ℕ) → AllClear (claimTests e s p x)
+      → K .publisherDamaged (readers (s .words)) (slots (s .words)) (record { place = 1; held = x; walk = publisher s p .walk }) ≡ false
+      → Invariant K z (onward g (Claim p x) (Claimed x)) (claim s p x .after)
+  claim-keeps e p x f ok =
+      let lt = leb-false (publishers (s .words)) p (f .0) in
+      let idle-now = eqb-true (publisher s p .place) 0 (not-false _ (f .1 .1 .0)) in
+      let free-slot = f .1 .1 .1 .1 .0 in
+      publisher-moved K z g s i _ _ _ p _ _ _ _ (moves-publisher (s .words) p _ long (few p lt)) refl (i .fine .head .current-below) (i .fine .head .version-fits) ok
+      (claim-core _ _ _ _ _ _ _ _ _ _ _ (i .core) p x (Claimed x) _ lt (λ a b. omega arith) (not-current x free-slot) (unheld x free-slot)
+      (λ y. sym (late-early (publisher s p .place) (publisher s p .held) y (omega arith))))
+      (early-grace _ _ _ _ _ (i .grace) p _ _ (omega arith) (omega arith))
+      (phase-tallied _ _ _ _ _ (i .tallied) p 1 _ writing refl (omega arith))
+
+  -- No accepted CLAIM is of a picked slot.
+  pub claim-unpicked : (e : Bool) (p x : ℕ) → AllClear (claimTests e s p x) → (r : ℕ) → ¬ (g .told .picked r ≡ some x)
+  claim-unpicked e p x f r d = let free-slot = f .1 .1 .1 .1 .0 in
+      safe-core _ _ _ _ _ _ _ _ _ _ _ (i .core) r x d (free-core _ _ _ _ _ _ _ _ _ _ _ (i .core) x (not-current x free-slot) (unheld x free-slot))
+
+  pub write-keeps : (p : ℕ) (v : ℤ) → AllClear (writeTests s p v)
+      → K .publisherDamaged (readers (s .words)) (slots (s .words)) (atPlace (publisher s p) (publisher s p .place + 1)) ≡ false
+      → Invariant K z (onward g (Write p v) (Written (publisher s p .place))) (write s p v .after)
+  write-keeps p v f ok =
+      let lt = leb-false (publishers (s .words)) p (f .0) in
+      let range = within 1 32 (publisher s p .place) (f .1 .1 .0) in
+      let low : 1 ≤ publisher s p .place = range .0 in
+      let high : publisher s p .place ≤ 32 = range .1 in
+      let hd = publisher-fine p lt .held-below low in
+      let room : entryAt (publisher s p .held) (publisher s p .place - 1) < length (s .entries) = omega (arith, i .fine .head .entries-are) in
+      publisher-moved K z g s i _ _ (set (s .entries) (entryAt (publisher s p .held) (publisher s p .place - 1)) v) p _ _ _ _ (moves-publisher (s .words) p _ long (few p lt)) (length-set (s .entries) _ v)
+      (i .fine .head .current-below) (i .fine .head .version-fits) ok
+      (rw (set-entry (s .entries) (publisher s p .held) (publisher s p .place - 1) v (omega arith) room)
+      (write-core _ _ _ _ _ _ _ _ _ _ _ (i .core) p v (Written (publisher s p .place)) _ low high
+      (λ y. late-early (publisher s p .place + 1) (publisher s p .held) y (omega arith) ∙ sym (late-early (publisher s p .place) (publisher s p .held) y (omega arith)))))
+      (early-grace _ _ _ _ _ (i .grace) p _ _ (omega arith) (omega arith))
+      (stay-tallied _ _ _ _ _ (i .tallied) p (publisher s p .place + 1) _ (phase-writing (publisher s p .place + 1) (omega arith) (omega arith) ∙ sym (phase-writing (publisher s p .place) low (omega arith)))
+      (λ l. absurd (omega arith)) (λ l. refl))
+
+  pub swap-keeps : (p : ℕ) → AllClear (swapTests s p)
+      → K .publisherDamaged (readers (s .words)) (slots (s .words)) (record { place = 34; held = current (s .words); walk = publisher s p .walk }) ≡ false
+      → Invariant K z (onward g (Swap p) (Swapped (current (s .words)))) (swap s p .after)
+  swap-keeps p f ok =
+      let lt = leb-false (publishers (s .words)) p (f .0) in
+      let at33 = eqb-true (publisher s p .place) 33 (not-false _ (f .1 .0)) in
+      publisher-moved K z g s i _ _ _ p _ _ _ _
+      (moves-head (s .words) _ p _ _ _ _ (moves-publisher (s .words) p _ long (few p lt)) long CURRENT-AT (publisher s p .held) (omega arith) (omega arith)) refl
+      (publisher-fine p lt .held-below (omega arith)) (i .fine .head .version-fits) ok
+      (swap-core _ _ _ _ _ _ _ _ _ _ _ (i .core) p _ (Swapped (current (s .words))) _ at33 (λ y. late-swap (publisher s p .place) (publisher s p .held) (current (s .words)) y (omega arith)))
+      (early-grace _ _ _ _ _ (i .grace) p _ _ (omega arith) (omega arith))
+      (phase-tallied _ _ _ _ _ (i .tallied) p 34 _ swapped refl (omega arith))
+
+  pub sync-keeps : (p : ℕ) → AllClear (syncTests (K .versions) s p)
+      → K .publisherDamaged (readers (s .words)) (slots (s .words)) (record { place = 35; held = publisher s p .held; walk = newWalk (K .versions .markAt (version (s .words))) }) ≡ false
+      → Invariant K z (onward g (Sync p) (Synced (K .versions .markAt (version (s .words))))) (sync (K .versions) s p .after)
+  sync-keeps p f ok =
+      let lt = leb-false (publishers (s .words)) p (f .0) in
+      let at34 = eqb-true (publisher s p .place) 34 (not-false _ (f .1 .0)) in
+      publisher-moved K z g s i _ _ _ p _ _ _ _ (moves-publisher (s .words) p _ long (few p lt)) refl (i .fine .head .current-below) (i .fine .head .version-fits) ok
+      (late-core _ _ _ _ _ _ _ _ _ _ _ (i .core) p 35 _ _ (λ a b. omega arith) (λ a b. omega arith) (λ y. late-same (publisher s p .place) 35 (publisher s p .held) y (omega arith) (omega arith)))
+      (sync-grace _ _ _ _ _ (i .grace) (g .told) p _ (λ r. i .core .readers r .inside-is))
+      (sync-tallied _ _ _ _ _ (i .tallied) p)
+
+  -- RAISE, at 35 or 36.
+  module _ (p : ℕ) (lt : p < publishers (s .words)) (low : 35 ≤ publisher s p .place) (high : publisher s p .place ≤ 36) where
+    raise-core : Core (g .model) (g .told) (readers (s .words)) (publishers (s .words)) (current (s .words)) (λ j. reader s j .place) (λ j. reader s j .picked)
+        (upd (λ q. publisher s q .place) p 37) (upd (λ q. publisher s q .held) p (publisher s p .held)) (upd (λ q. formers (publisher s q)) p (late 37 (publisher s p .held))) (slotEntry (s .entries))
+    raise-core = late-core _ _ _ _ _ _ _ _ _ _ _ (i .core) p 37 _ _ (λ a b. omega arith) (λ a b. omega arith) (λ y. late-same (publisher s p .place) 37 (publisher s p .held) y (omega arith) (omega arith))
+
+    raise-grace : Grace (g .pend) (λ j. reader s j .place) (λ j. reader s j .picked) (upd (λ q. publisher s q .place) p 37) (upd (λ q. formers (publisher s q)) p (late 37 (publisher s p .held)))
+    raise-grace = wait-grace _ _ _ _ _ (i .grace) p 37 _ low (omega arith) (omega arith) (λ e. absurd (omega arith)) (λ y. late-same (publisher s p .place) 37 (publisher s p .held) y (omega arith) (omega arith))
+
+    raise-tallied : Tallied (g .tally) (λ j. reader s j .place) (upd (λ q. publisher s q .place) p 37) (upd (λ q. publisher s q .walk .waits) p (publisher s p .walk .waits)) (releases (s .words))
+    raise-tallied = stay-tallied _ _ _ _ _ (i .tallied) p 37 _ (phase-syncing 37 (omega arith) (omega arith) ∙ sym (phase-syncing (publisher s p .place) low (omega arith))) (λ _. low) (λ _. refl)
+
+    pub raise-keeps : K .publisherDamaged (readers (s .words)) (slots (s .words)) (atPlace (publisher s p) 37) ≡ false
+        → Invariant K z (onward g (Raise p) (raise (K .versions) s p .reply)) (raise (K .versions) s p .after)
+    raise-keeps ok = pick-split (λ (o : Outcome). Invariant K z (onward g (Raise p) (o .reply)) (o .after)) (eqb (version (s .words)) (K .versions .beforeMark (publisher s p .walk .mark)))
+        (λ e. publisher-moved K z g s i _ _ _ p _ _ _ _
+        (moves-head (s .words) _ p _ _ _ _ (moves-publisher (s .words) p _ long (few p lt)) long VERSION-AT (publisher s p .walk .mark) (omega arith) (omega arith)) refl
+        (i .fine .head .current-below) (law .raised-fits _ (publisher-fine p lt .mark-fits low)) ok raise-core raise-grace raise-tallied)
+        (λ e. publisher-moved K z g s i _ _ _ p _ _ _ _ (moves-publisher (s .words) p _ long (few p lt)) refl
+        (i .fine .head .current-below) (i .fine .head .version-fits) ok raise-core raise-grace raise-tallied)
+
+  -- WALK, at 35 to 37: what it came to keeps the waits, and where it returns nobody is waited for.
+  module _ (p b : ℕ) (lt : p < publishers (s .words)) (low : 35 ≤ publisher s p .place) (high : publisher s p .place ≤ 37) where
+    walk-tallied : (o : WalkReply) (ws : ℕ) → ws ≡ waitsAfter (publisher s p .walk .waits) o
+        → Tallied (onward g (Walk p b) (Walked o) .tally) (λ j. reader s j .place) (upd (λ q. publisher s q .place) p (placeAfter (publisher s p .place) o)) (upd (λ q. publisher s q .walk .waits) p ws) (releases (s .words))
+    walk-tallied (Waiting r) ws e = rw e (wait-tallied _ _ _ _ _ (i .tallied) p (publisher s p .place) refl low)
+    walk-tallied Spent ws e = stay-tallied _ _ _ _ _ (i .tallied) p (publisher s p .place) ws refl (λ _. low) (λ _. e)
+    walk-tallied Quiet ws e = stay-tallied _ _ _ _ _ (i .tallied) p 36 ws (sym (phase-syncing (publisher s p .place) low high)) (λ _. low) (λ _. e)
+    walk-tallied (Returned l w) ws e = return-tallied _ _ _ _ _ (i .tallied) p ws low e
+
+    after-low : (o : WalkReply) → 35 ≤ placeAfter (publisher s p .place) o
+    after-low (Waiting r) = low
+    after-low Spent = low
+    after-low Quiet = omega arith
+    after-low (Returned l w) = omega arith
+
+    after-high : (o : WalkReply) → placeAfter (publisher s p .place) o ≤ 38
+    after-high (Waiting r) = omega arith
+    after-high Spent = omega arith
+    after-high Quiet = omega arith
+    after-high (Returned l w) = omega arith
+
+    pub walk-keeps : (k : Progress) → (placeAfter (publisher s p .place) (k .reply) ≡ 38 → (r : ℕ) → g .pend p r ≡ false) → k .walk .waits ≡ waitsAfter (publisher s p .walk .waits) (k .reply)
+        → K .publisherDamaged (readers (s .words)) (slots (s .words)) (walked (publisher s p) k) ≡ false
+        → Invariant K z (onward g (Walk p b) (Walked (k .reply))) (walk s p k .after)
+    walk-keeps k done ws ok =
+        let l : 35 ≤ placeAfter (publisher s p .place) (k .reply) = after-low (k .reply) in
+        publisher-moved K z g s i _ _ _ p _ _ _ _ (moves-publisher (s .words) p _ long (few p lt)) refl (i .fine .head .current-below) (i .fine .head .version-fits) ok
+        (late-core _ _ _ _ _ _ _ _ _ _ _ (i .core) p _ _ _ (λ c d. omega arith) (λ c d. omega arith) (λ y. late-same (publisher s p .place) (placeAfter (publisher s p .place) (k .reply)) (publisher s p .held) y (omega arith) (omega arith)))
+        (wait-grace _ _ _ _ _ (i .grace) p _ _ low l (after-high (k .reply)) done (λ y. late-same (publisher s p .place) (placeAfter (publisher s p .place) (k .reply)) (publisher s p .held) y (omega arith) (omega arith)))
+        (walk-tallied (k .reply) _ ws)
+
+  pub release-keeps : (p : ℕ) → AllClear (releaseTests s p)
+      → K .publisherDamaged (readers (s .words)) (slots (s .words)) (atPlace (publisher s p) 0) ≡ false
+      → Invariant K z (onward g (Release p) (Freed (publisher s p .held) (oneMore s))) (release s p .after)
+  release-keeps p f ok =
+      let lt = leb-false (publishers (s .words)) p (f .0) in
+      let at38 = eqb-true (publisher s p .place) 38 (not-false _ (f .1 .0)) in
+      publisher-moved K z g s i _ _ _ p _ _ _ _
+      (moves-head (s .words) _ p _ _ _ _ (moves-publisher (s .words) p _ long (few p lt)) long RELEASES-AT (oneMore s) (omega arith) (omega arith)) refl
+      (i .fine .head .current-below) (i .fine .head .version-fits) ok
+      (release-core _ _ _ _ _ _ _ _ _ _ _ (i .core) p _ (Freed (publisher s p .held) (oneMore s)) _ (omega arith) (nobody _ _ _ _ _ (i .grace) p at38) (λ y. refl))
+      (release-grace _ _ _ _ _ (i .grace) p _ at38)
+      (release-tallied _ _ _ _ _ (i .tallied) p _)
+
+  -- What an accepted LOOK gives is the model's entry.
+  pub look-right : (r k : ℕ) → AllClear (lookTests s r k) → entry (g .model .note r) k ≡ some (getD (s .entries) (entryAt (reader s r .picked) k) (pos 0))
+  look-right r k f =
+      let k32 : k < TABLE = let q = ltb-false 31 k (f .1 .0) in omega arith in
+      rw (lt-ltb k TABLE k32) at (i .core .readers r .noted (eqb-true _ _ (not-false _ (f .1 .1 .0))) k k32)
+
+  -- A publisher's phase at an accepted RELEASE, and at 35 to 37.
+  pub released-in-order : (p : ℕ) → AllClear (releaseTests s p) → g .tally .phase p ≡ returned
+  released-in-order p f = i .tallied .phases p ∙ rw (eqb-true (publisher s p .place) 38 (not-false _ (f .1 .0))) refl
+
+  pub syncing-in-order : (p : ℕ) → 35 ≤ publisher s p .place → publisher s p .place ≤ 37 → g .tally .phase p ≡ syncing
+  syncing-in-order p low high = i .tallied .phases p ∙ phase-syncing (publisher s p .place) low high
+
+  held-told : (p x : ℕ) → heldSlot s p x ≡ holds (g .told) p x
+  held-told p x = single (publisher s p .place) (publisher s p .held) x ∙ sym (held-is _ _ _ _ _ _ _ _ _ _ _ (i .core) p x)
+
+  pub slots-right : Slots (g .told) s
+  slots-right = record {
+    role = role-core _ _ _ _ _ _ _ _ _ _ _ (i .core);
+    current = i .core .current-is;
+    held = held-told;
+    picked = λ r. sym (i .core .readers r .picked-is);
+  }
+
+  pub picks-right : Picks (g .told)
+  picks-right r x inside e = safe-core _ _ _ _ _ _ _ _ _ _ _ (i .core) r x e
+
+  pub table-right : length (g .model .table) ≡ TABLE
+  table-right = i .core .whole
+
+  -- A publisher that is told to hold nothing is at place 0.
+  pub idle-told : (p : ℕ) → ((x : ℕ) → holds (g .told) p x ≡ false) → publisher s p .place ≡ 0
+  idle-told p f = go (eqb (publisher s p .place) 0) refl
+    where
+      go : (b : Bool) → eqb (publisher s p .place) 0 ≡ b → publisher s p .place ≡ 0
+      go true e = eqb-true _ _ e
+      go false e = absurd (not-both (heldSlot s p (publisher s p .held)) (rw (e, same (publisher s p .held)) refl) (held-told p (publisher s p .held) ∙ f (publisher s p .held)))
+
+  -- A slot that is told free is not in use.
+  pub free-told : (x : ℕ) → Has (g .told) x free → inUse s x ≡ false
+  free-told x f = rw (current-not, no-below (λ q. heldSlot s q x) (publishers (s .words)) (λ q l. held-told q x ∙ f .1 q)) refl
+    where
+      current-not : eqb (current (s .words)) x ≡ false
+      current-not = rw (i .core .current-is) at (f .0)
+
+-- A fresh store.
+module _ (K : Kind) (x : Reader) (z : Given) (s : State) (f : AllClear (makingTests (K .versions) z s)) where
+  rs : (1 ≤ z .readers) × (z .readers ≤ READERS-MAX)
+  rs = within 1 READERS-MAX (z .readers) (f .1 .0)
+
+  ps : (1 ≤ z .publishers) × (z .publishers ≤ PUBLISHERS-MAX)
+  ps = within 1 PUBLISHERS-MAX (z .publishers) (f .1 .1 .0)
+
+  ss : (SLOTS-MIN ≤ z .slots) × (z .slots ≤ SLOTS-MAX)
+  ss = within SLOTS-MIN SLOTS-MAX (z .slots) (f .1 .1 .1 .0)
+
+  w : List ℕ
+  w = fresh (K .number) (z .readers) (z .publishers) (z .slots) (z .version) x
+
+  head : (j : ℕ) → j < HEAD → getD w j 0 ≡ pick (eqb j VERSION-AT) (z .version) (pick (eqb j SLOTS-AT) (z .slots) (pick (eqb j PUBLISHERS-AT) (z .publishers) (pick (eqb j READERS-AT) (z .readers) (pick (eqb j KIND-AT) (K .number) 0))))
+  unfolding w
+  head j l = fresh-head (K .number) (z .readers) (z .publishers) (z .slots) (z .version) x j l
+
+  entries-long : length (replicate (length (s .entries)) FEATHERED) ≡ z .slots * TABLE
+  entries-long = length-replicate (length (s .entries)) FEATHERED ∙ eqb-true _ _ (not-false _ (f .1 .1 .1 .1 .0))
+
+  made-fine : K .readerDamaged (z .slots) x ≡ false → K .publisherDamaged (z .readers) (z .slots) noPublisher ≡ false → Fine K (made (K .number) x z s)
+  unfolding w
+  made-fine reader-ok publisher-ok = record {
+    head = record {
+      long = fresh-long (K .number) (z .readers) (z .publishers) (z .slots) (z .version) x;
+      kind-is = head KIND-AT (omega arith);
+      readers-low = rw (head READERS-AT (omega arith)) (rs .0);
+      readers-high = rw (head READERS-AT (omega arith)) (rs .1);
+      publishers-low = rw (head PUBLISHERS-AT (omega arith)) (ps .0);
+      publishers-high = rw (head PUBLISHERS-AT (omega arith)) (ps .1);
+      slots-low = rw (head SLOTS-AT (omega arith)) (ss .0);
+      slots-high = rw (head SLOTS-AT (omega arith)) (ss .1);
+      entries-are = rw (head SLOTS-AT (omega arith)) entries-long;
+      current-below = rw (head SLOTS-AT (omega arith), head CURRENT-AT (omega arith)) (omega (arith, ss .0));
+      version-fits = rw (head VERSION-AT (omega arith)) (f .1 .1 .1 .1 .1 .0);
+    };
+    readers-fine = rw (head READERS-AT (omega arith), head SLOTS-AT (omega arith))
+        (λ r l. rw (fresh-reader (K .number) (z .readers) (z .publishers) (z .slots) (z .version) x r, lt-ltb r READERS-MAX (omega (arith, rs .1))) reader-ok);
+    publishers-fine = rw (head READERS-AT (omega arith), head PUBLISHERS-AT (omega arith), head SLOTS-AT (omega arith))
+        (λ p l. rw (fresh-publisher (K .number) (z .readers) (z .publishers) (z .slots) (z .version) x p) publisher-ok);
+  }
+
+  reader-zero : (h : Reader → ℕ) → h x ≡ 0 → h noReader ≡ 0 → _≡_ {A = ℕ → ℕ} (λ r. h (readerAt w r)) (λ r. 0)
+  unfolding w
+  reader-zero h a b = fun-ext (λ r. ap h (fresh-reader (K .number) (z .readers) (z .publishers) (z .slots) (z .version) x r) ∙ pick-split (λ (y : Reader). h y ≡ 0) (ltb r READERS-MAX) (λ _. a) (λ _. b))
+
+  publisher-none : {B : Type 0} (h : Publisher → B) → _≡_ {A = ℕ → B} (λ p. h (publisherAt w p)) (λ p. h noPublisher)
+  unfolding w
+  publisher-none h = fun-ext (λ p. ap h (fresh-publisher (K .number) (z .readers) (z .publishers) (z .slots) (z .version) x p))
+
+  pub made-invariant : x .place ≡ 0 → x .picked ≡ 0 → K .readerDamaged (z .slots) x ≡ false → K .publisherDamaged (z .readers) (z .slots) noPublisher ≡ false
+      → Invariant K z (ghost₀ (replicate TABLE FEATHERED)) (made (K .number) x z s)
+  unfolding w
+  made-invariant a b reader-ok publisher-ok = record {
+    fine = made-fine reader-ok publisher-ok;
+    sized = record { readers-are = head READERS-AT (omega arith); publishers-are = head PUBLISHERS-AT (omega arith); slots-are = head SLOTS-AT (omega arith) };
+    core = rw (
+      head READERS-AT (omega arith),
+      head PUBLISHERS-AT (omega arith),
+      head CURRENT-AT (omega arith),
+      reader-zero (λ (y : Reader). y .place) a refl,
+      reader-zero (λ (y : Reader). y .picked) b refl,
+      publisher-none (λ (y : Publisher). y .place),
+      publisher-none (λ (y : Publisher). y .held),
+      publisher-none formers,
+    )
+        (fresh-core (replicate TABLE FEATHERED) _ _ (slotEntry (replicate (length (s .entries)) FEATHERED)) refl
+        (λ k l. entry-same TABLE k FEATHERED l ∙ ap some (sym (slot-same (length (s .entries)) k FEATHERED l (omega (arith, eqb-true (length (s .entries)) (z .slots * TABLE) (not-false _ (f .1 .1 .1 .1 .0)), ss .0))))));
+    grace = rw (reader-zero (λ (y : Reader). y .place) a refl, reader-zero (λ (y : Reader). y .picked) b refl, publisher-none (λ (y : Publisher). y .place), publisher-none formers) fresh-grace;
+    tallied = rw (head RELEASES-AT (omega arith), reader-zero (λ (y : Reader). y .place) a refl, publisher-none (λ (y : Publisher). y .place), publisher-none (λ (y : Publisher). y .walk .waits)) fresh-tallied;
+  }
