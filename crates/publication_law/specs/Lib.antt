@@ -1,5 +1,6 @@
 pub mod Steps
 pub mod Damage
+pub mod Rules
 pub mod Core
 pub mod Grace
 pub mod Single
@@ -11,3 +12,4 @@ pub mod Invariant
 pub mod Keeps
 pub mod Decide
 pub mod Frames
+pub mod Lawful

@@ -195,6 +195,3 @@ makingTests vs g s =
 -- and every other number 0, but for what a kind's fresh reader x has.
 abbrev pub made : ℕ → Reader → Given → State → State
 made kind x g s = state (fresh kind (g .readers) (g .publishers) (g .slots) (g .version) x) (replicate (length (s .entries)) FEATHERED)
-
-abbrev pub makingBy : ℕ → Versions → Reader → Given → State → Outcome
-makingBy kind vs x g s = decide (makingTests vs g s) (outcome Made (made kind x g s)) s

@@ -2,3 +2,4 @@ pub mod Machine
 pub mod Demand3
 pub mod Companions
 pub mod Kept
+pub mod Examples

@@ -1,0 +1,339 @@
+-- Demand 3 and its companions of a kind with the ten calls, from what only that kind can show: its own invariant, and that its
+-- ENTER, LEAVE, SYNC, RAISE and WALK keep it. Assumes nothing.
+use Prim.Native.Nat.{ℕ, zero, suc, _+_, _-_, _*_, _%_, _<_, _≤_}
+use native.Mathlib.Omega.{arith}
+use mathlib.Core.Path.{_≡_, refl, sym, ap, _∙_, subst}
+use mathlib.Core.Logic.{_≢_}
+use mathlib.Core.Bool.{Bool, true, false, not, _&&_, _||_}
+use mathlib.Core.List.{List, [], _∷_}
+use mathlib.Core.Option.{Option, none, some}
+use lib.IntN.{ℤ}
+use lib.ListN.{getD, set, length, length-set, replicate}
+use lib.Dec.{leb, ltb, eqb}
+use borrow.Author.Tests.{eqb-true, eq-eqb, leb-false, lt-leb, le-leb, ltb-false, le-ltb, not-false}
+use Rattle.calls.specs.declared.Call.{Call}
+use Rattle.calls.specs.declared.Call.the-variants.{Enter, Look, Leave, Claim, Write, Swap, Sync, Raise, Walk, Release}
+use Rattle.calls.specs.declared.Reply.{Reply}
+use Rattle.calls.specs.declared.Reply.the-variants.{Made, At, Pitch, Left, Claimed, Synced, Walked, Refused}
+use Rattle.calls.specs.declared.WalkReply.the-variants.{Returned}
+use Rattle.calls.specs.Base.{pick}
+use Rattle.calls.specs.Numbers.{READERS-MAX, PUBLISHERS-MAX, TABLE, FEATHERED, DAMAGED}
+use Rattle.calls.specs.Rows.{Test, firstOf, anyBelow}
+use Rattle.calls.specs.Rows.Test.{_gives_}
+use Rattle.calls.specs.RowLaws.{clash, and-not, or-false, neither, negated, within, no-below, pick-split, AllClear, allNumbers, allAbove, first-above}
+use Rattle.calls.specs.Events.{accepted}
+use Rattle.calls.specs.Events.Event.{_⇒_}
+use Rattle.calls.specs.Model.{entry}
+use Rattle.calls.specs.Told.{holds, Has}
+use Rattle.calls.specs.Told.Role.{free}
+use Rattle.calls.specs.Tally.Phase.{returned}
+use Rattle.layout.specs.declared.Reader.{Reader}
+use Rattle.layout.specs.declared.Publisher.{Publisher}
+use Rattle.layout.specs.declared.Progress.{Progress}
+use Rattle.layout.specs.Layout.{HEAD, CURRENT-AT, RELEASES-AT, WORDS, readers, publishers, slots, current, version, releases, readerAt, publisherAt, noPublisher}
+use Rattle.layout.specs.Laws.{head-publisher}
+use Rattle.statement.specs.Machine.{State, state, Outcome, outcome, Given, Machine, Fresh, afterAll}
+use Rattle.statement.specs.Demand3.{Demand3}
+use Rattle.statement.specs.Companions.{Traits, RefusedLeaves, Frame, Offers, Companions}
+use Rattle.statement.specs.Kept.{Ghost, ghost₀, onward, next, Back, Kept, demand3, companions}
+use Rattle.publication_law.specs.Steps.{reader, publisher, atPlace, decide, anotherBusy, inUse, enterTests, leaveTests, claimTests, syncTests, sync, raise, walk, oneMore, makingTests, made}
+use Rattle.publication_law.specs.Damage.{Kind, sharedDamage}
+use Rattle.publication_law.specs.Rules.{Rules, damaged, tests, act, rows, step, making, machine}
+use Rattle.publication_law.specs.DamageLaws.{Fine, fine-of, fine-to}
+use Rattle.publication_law.specs.Moves.{MovesPublisher, MovesReader, moves-publisher, moves-head}
+use Rattle.publication_law.specs.Invariant.{Invariant}
+use Rattle.publication_law.specs.Keeps.{KindLaw, publisher-fine, claim-keeps, claim-unpicked, write-keeps, swap-keeps, release-keeps, look-right, released-in-order, slots-right, picks-right, table-right, idle-told, free-told, made-invariant}
+use Rattle.publication_law.specs.Decide.{decided, decide-accepts, decide-leaves, decide-why}
+use Rattle.publication_law.specs.Frames.{Framed, same-framed, reader-framed, claim-framed, write-framed, swap-framed, sync-framed, raise-framed, walk-framed, release-framed}
+
+-- The shared invariant with a kind's own.
+pub record Good (K : Kind) (Own : Ghost → State → Type 0) (z : Given) (g : Ghost) (s : State) : Type 0 where
+  pub shared : Invariant K z g s
+  pub own : Own g s
+
+abbrev pub firstTable : List ℤ
+firstTable = replicate TABLE FEATHERED
+
+-- The traits of a kind whose walk returns after so many passed looks, and whose ENTER goes so from place to place.
+abbrev pub traitsOf : Rules → (Given → ℕ) → (ℕ → ℕ) → Traits
+traitsOf R passes onward-place = record { first = λ z. firstTable; passes = passes; onward = onward-place; exclusive = R .exclusive }
+
+pub record Lawful (R : Rules) (passes : Given → ℕ) (onward-place : ℕ → ℕ) : Type 1 where
+  pub kind-law : KindLaw (R .kind)
+  pub Own : Ghost → State → Type 0
+  pub start-own : (z : Given) (s : State) → AllClear (makingTests (R .kind .versions) z s) → Own (ghost₀ firstTable) (made (R .kind .number) (R .freshReader) z s)
+  pub fresh-out : (R .freshReader .place ≡ 0) × (R .freshReader .picked ≡ 0)
+  pub fresh-reader-fits : (ss : ℕ) → R .kind .readerDamaged ss (R .freshReader) ≡ false
+  pub fresh-publisher-fits : (rs ss : ℕ) → R .kind .publisherDamaged rs ss noPublisher ≡ false
+  pub no-further : (z : Given) (g : Ghost) (s : State) → Good (R .kind) Own z g s → R .further s ≡ false
+  -- below 35 only the held slot is tested, and a publisher's move there does not touch the kind's own invariant
+  pub early-fits : (rs ss : ℕ) (y : Publisher) → y .place ≤ 34 → (1 ≤ y .place → y .held < ss) → R .kind .publisherDamaged rs ss y ≡ false
+  pub early-own : (g g′ : Ghost) (s : State) (w′ : List ℕ) (es′ : List ℤ) (p : ℕ) (y : Publisher) (cur rel : ℕ) → Own g s → g′ .pend ≡ g .pend
+      → MovesPublisher (s .words) w′ p y cur (version (s .words)) rel → y .walk ≡ publisher s p .walk → y .place ≤ 34 → Own g′ (state w′ es′)
+  pub enter-moves : (s : State) → Fine (R .kind) s → (r : ℕ) → r < readers (s .words) → MovesReader (s .words) (R .enterWords s r) r (R .entered s r)
+  pub leave-moves : (s : State) → Fine (R .kind) s → (r : ℕ) → r < readers (s .words) → MovesReader (s .words) (R .leaveWords s r) r (R .left s r)
+  pub enter-place : (s : State) → Fine (R .kind) s → (r : ℕ) → r < readers (s .words) → reader s r .place ≤ 4 → R .entered s r .place ≡ onward-place (reader s r .place)
+  pub enter-kept : (z : Given) (g : Ghost) (s : State) → Good (R .kind) Own z g s → (r : ℕ) → AllClear (enterTests s r)
+      → Good (R .kind) Own z (onward g (Enter r) (At (R .entered s r .place))) (state (R .enterWords s r) (s .entries))
+  pub leave-kept : (z : Given) (g : Ghost) (s : State) → Good (R .kind) Own z g s → (r : ℕ) → AllClear (leaveTests s r)
+      → Good (R .kind) Own z (onward g (Leave r) Left) (state (R .leaveWords s r) (s .entries))
+  pub sync-kept : (z : Given) (g : Ghost) (s : State) → Good (R .kind) Own z g s → (p : ℕ) → AllClear (syncTests (R .kind .versions) s p)
+      → Good (R .kind) Own z (onward g (Sync p) (Synced (R .kind .versions .markAt (version (s .words))))) (sync (R .kind .versions) s p .after)
+  pub raise-kept : (z : Given) (g : Ghost) (s : State) → Good (R .kind) Own z g s → (p : ℕ) → p < publishers (s .words) → R .raisesAt (publisher s p .place) ≡ true
+      → Good (R .kind) Own z g (raise (R .kind .versions) s p .after)
+  pub walk-kept : (z : Given) (g : Ghost) (s : State) → Good (R .kind) Own z g s → (p b : ℕ) → p < publishers (s .words) → R .walksAt (publisher s p .place) ≡ true
+      → Good (R .kind) Own z (onward g (Walk p b) (Walked (R .looks s p b .reply))) (walk s p (R .looks s p b) .after)
+  pub return-shown : (z : Given) (g : Ghost) (s : State) → Good (R .kind) Own z g s → (p b l w : ℕ) → p < publishers (s .words) → R .walksAt (publisher s p .place) ≡ true
+      → R .looks s p b .reply ≡ Returned l w → Back (traitsOf R passes onward-place) z g p l w
+
+module _ (R : Rules) (passes : Given → ℕ) (onward-place : ℕ → ℕ) (L : Lawful R passes onward-place) where
+  all-numbers : (s : State) (c : Call) → allNumbers (rows R s c) ≡ true
+  all-numbers s (Enter r) = refl
+  all-numbers s (Look r k) = refl
+  all-numbers s (Leave r) = refl
+  all-numbers s (Claim p x) = refl
+  all-numbers s (Write p v) = refl
+  all-numbers s (Swap p) = refl
+  all-numbers s (Sync p) = refl
+  all-numbers s (Raise p) = refl
+  all-numbers s (Walk p b) = refl
+  all-numbers s (Release p) = refl
+
+  above-one : (s : State) (c : Call) → allAbove DAMAGED (tests R s c) ≡ true
+  above-one s (Enter r) = refl
+  above-one s (Look r k) = refl
+  above-one s (Leave r) = refl
+  above-one s (Claim p x) = refl
+  above-one s (Write p v) = refl
+  above-one s (Swap p) = refl
+  above-one s (Sync p) = refl
+  above-one s (Raise p) = refl
+  above-one s (Walk p b) = refl
+  above-one s (Release p) = refl
+
+  act-accepted : (s : State) (c : Call) → accepted (act R s c .reply) ≡ true
+  act-accepted s (Enter r) = refl
+  act-accepted s (Look r k) = refl
+  act-accepted s (Leave r) = refl
+  act-accepted s (Claim p x) = refl
+  act-accepted s (Write p v) = refl
+  act-accepted s (Swap p) = refl
+  act-accepted s (Sync p) = refl
+  act-accepted s (Raise p) = pick-split (λ (o : Outcome). accepted (o .reply) ≡ true) (eqb (version (s .words)) (R .kind .versions .beforeMark (publisher s p .walk .mark))) (λ _. refl) (λ _. refl)
+  act-accepted s (Walk p b) = refl
+  act-accepted s (Release p) = refl
+
+  pub fine-undamaged : (s : State) → damaged R s ≡ false → Fine (R .kind) s
+  unfolding damaged
+  fine-undamaged s e = fine-of (R .kind) s (or-false (sharedDamage (R .kind) s) (R .further s) e .0)
+
+  -- Each step keeps the invariant.
+  module _ (z : Given) (g : Ghost) (s : State) (i : Good (R .kind) (L .Own) z g s) where
+    After : Call → Outcome → Type 0
+    After c o = Good (R .kind) (L .Own) z (next g (c ⇒ o .reply)) (o .after)
+
+    undamaged-now : damaged R s ≡ false
+    unfolding damaged
+    undamaged-now = neither (sharedDamage (R .kind) s) (R .further s) (fine-to (R .kind) s (i .shared .fine)) (L .no-further z g s i)
+
+    long : length (s .words) ≡ WORDS
+    long = i .shared .fine .head .long
+
+    few : (p : ℕ) → p < publishers (s .words) → p < PUBLISHERS-MAX
+    few p l = omega (arith, i .shared .fine .head .publishers-high)
+
+    claim-kept : (p x : ℕ) → AllClear (tests R s (Claim p x)) → After (Claim p x) (act R s (Claim p x))
+    unfolding After
+    claim-kept p x f =
+        let y : Publisher = record { place = 1; held = x; walk = publisher s p .walk } in record {
+          shared = claim-keeps (R .kind) (L .kind-law) z g s (i .shared) (R .exclusive) p x f (L .early-fits (readers (s .words)) (slots (s .words)) y (omega arith) (λ _. leb-false _ _ (f .1 .0)));
+          own = L .early-own g _ s _ _ p y _ _ (i .own) refl (moves-publisher (s .words) p y long (few p (leb-false _ _ (f .0)))) refl (omega arith);
+        }
+
+    write-kept : (p : ℕ) (v : ℤ) → AllClear (tests R s (Write p v)) → After (Write p v) (act R s (Write p v))
+    unfolding After
+    write-kept p v f =
+        let lt : p < publishers (s .words) = leb-false _ _ (f .0) in
+        let range = within 1 32 (publisher s p .place) (f .1 .1 .0) in
+        let y : Publisher = atPlace (publisher s p) (publisher s p .place + 1) in
+        let low-now : publisher s p .place + 1 ≤ 34 = omega (arith, range .1) in record {
+          shared = write-keeps (R .kind) (L .kind-law) z g s (i .shared) p v f
+              (L .early-fits (readers (s .words)) (slots (s .words)) y low-now (λ _. publisher-fine (R .kind) (L .kind-law) z g s (i .shared) p lt .held-below (range .0)));
+          own = L .early-own g _ s _ _ p y _ _ (i .own) refl (moves-publisher (s .words) p y long (few p lt)) refl low-now;
+        }
+
+    swap-kept : (p : ℕ) → AllClear (tests R s (Swap p)) → After (Swap p) (act R s (Swap p))
+    unfolding After
+    swap-kept p f =
+        let y : Publisher = record { place = 34; held = current (s .words); walk = publisher s p .walk } in record {
+          shared = swap-keeps (R .kind) (L .kind-law) z g s (i .shared) p f (L .early-fits (readers (s .words)) (slots (s .words)) y (omega arith) (λ _. i .shared .fine .head .current-below));
+          own = L .early-own g _ s _ _ p y _ _ (i .own) refl
+              (moves-head (s .words) _ p y _ _ _ (moves-publisher (s .words) p y long (few p (leb-false _ _ (f .0)))) long CURRENT-AT (publisher s p .held) (omega arith) (omega arith)) refl (omega arith);
+        }
+
+    release-kept : (p : ℕ) → AllClear (tests R s (Release p)) → After (Release p) (act R s (Release p))
+    unfolding After
+    release-kept p f =
+        let y : Publisher = atPlace (publisher s p) 0 in record {
+          shared = release-keeps (R .kind) (L .kind-law) z g s (i .shared) p f (L .early-fits (readers (s .words)) (slots (s .words)) y (omega arith) (λ l. absurd (omega arith)));
+          own = L .early-own g _ s _ _ p y _ _ (i .own) refl
+              (moves-head (s .words) _ p y _ _ _ (moves-publisher (s .words) p y long (few p (leb-false _ _ (f .0)))) long RELEASES-AT (oneMore s) (omega arith) (omega arith)) refl (omega arith);
+        }
+
+    raised-kept : (p : ℕ) → AllClear (tests R s (Raise p)) → After (Raise p) (act R s (Raise p))
+    unfolding After
+    raised-kept p f = pick-split (λ (o : Outcome). Good (R .kind) (L .Own) z g (o .after) → Good (R .kind) (L .Own) z (next g (Raise p ⇒ o .reply)) (o .after))
+        (eqb (version (s .words)) (R .kind .versions .beforeMark (publisher s p .walk .mark))) (λ _ x. record { shared = x .shared; own = x .own }) (λ _ x. record { shared = x .shared; own = x .own })
+        (L .raise-kept z g s i p (leb-false _ _ (f .0)) (not-false _ (f .1 .0)))
+
+    acted : (c : Call) → AllClear (tests R s c) → After c (act R s c)
+    unfolding After
+    acted (Enter r) f = L .enter-kept z g s i r f
+    acted (Look r k) f = record { shared = i .shared; own = i .own }
+    acted (Leave r) f = L .leave-kept z g s i r f
+    acted (Claim p x) f = claim-kept p x f
+    acted (Write p v) f = write-kept p v f
+    acted (Swap p) f = swap-kept p f
+    acted (Sync p) f = L .sync-kept z g s i p f
+    acted (Raise p) f = raised-kept p f
+    acted (Walk p b) f = L .walk-kept z g s i p b (leb-false _ _ (f .0)) (not-false _ (f .1 .0))
+    acted (Release p) f = release-kept p f
+
+    stepped : (c : Call) → Good (R .kind) (L .Own) z (next g (c ⇒ step R s c .reply)) (step R s c .after)
+    unfolding After step
+    stepped c = decided (After c) (rows R s c) (act R s c) s (all-numbers s c) (λ f. acted c (f .1)) i
+
+    look-shelf : (r k : ℕ) → accepted (step R s (Look r k) .reply) ≡ true → (v : ℤ) × (step R s (Look r k) .reply ≡ Pitch v) × (entry (g .model .note r) k ≡ some v)
+    unfolding step
+    look-shelf r k = decided (λ (o : Outcome). accepted (o .reply) ≡ true → (v : ℤ) × (o .reply ≡ Pitch v) × (entry (g .model .note r) k ≡ some v)) (rows R s (Look r k)) (act R s (Look r k)) s refl
+        (λ f ok. (_, refl, look-right (R .kind) (L .kind-law) z g s (i .shared) r k (f .1))) (λ ok. clash (sym ok))
+
+    claim-safe : (p x r : ℕ) → accepted (step R s (Claim p x) .reply) ≡ true → ¬ (g .told .picked r ≡ some x)
+    unfolding step
+    claim-safe p x r = decided (λ (o : Outcome). accepted (o .reply) ≡ true → ¬ (g .told .picked r ≡ some x)) (rows R s (Claim p x)) (act R s (Claim p x)) s refl
+        (λ f ok. claim-unpicked (R .kind) (L .kind-law) z g s (i .shared) (R .exclusive) p x (f .1) r) (λ ok. clash (sym ok))
+
+    return-back : (p b l w : ℕ) → step R s (Walk p b) .reply ≡ Walked (Returned l w) → Back (traitsOf R passes onward-place) z g p l w
+    unfolding step
+    return-back p b l w = decided (λ (o : Outcome). o .reply ≡ Walked (Returned l w) → Back (traitsOf R passes onward-place) z g p l w) (rows R s (Walk p b)) (act R s (Walk p b)) s refl
+        (λ f q. L .return-shown z g s i p b l w (leb-false _ _ (f .1 .0)) (not-false _ (f .1 .1 .0)) (cc))
+        (λ q. absurd (let y : _≡_ {A = ℕ} 0 1 = cc in omega arith))
+
+    release-order : (p : ℕ) → accepted (step R s (Release p) .reply) ≡ true → g .tally .phase p ≡ returned
+    unfolding step
+    release-order p = decided (λ (o : Outcome). accepted (o .reply) ≡ true → g .tally .phase p ≡ returned) (rows R s (Release p)) (act R s (Release p)) s refl
+        (λ f ok. released-in-order (R .kind) (L .kind-law) z g s (i .shared) p (f .1)) (λ ok. clash (sym ok))
+
+    not-damaged : (c : Call) → step R s c .reply ≢ Refused DAMAGED
+    unfolding step
+    not-damaged c e =
+        let q = decide-why (rows R s c) (act R s c) s DAMAGED (act-accepted s c) e in
+        let d : firstOf (tests R s c) ≡ DAMAGED = rw undamaged-now at (q .0) in
+        omega (arith, first-above DAMAGED (tests R s c) (above-one s c) (λ y. omega arith))
+
+    accepts : (c : Call) → AllClear (tests R s c) → step R s c ≡ act R s c
+    unfolding step
+    accepts c f = decide-accepts (rows R s c) (act R s c) s (undamaged-now, f)
+
+    named-reader : (r : ℕ) → r < z .readers → leb (readers (s .words)) r ≡ false
+    named-reader r l = lt-leb (readers (s .words)) r (omega (arith, i .shared .sized .readers-are))
+
+    nobody-busy : (p : ℕ) → (R .exclusive ≡ true → (q x : ℕ) → holds (g .told) q x ≡ false) → (R .exclusive && anotherBusy s p) ≡ false
+    nobody-busy p f = and-not (R .exclusive) (anotherBusy s p) (λ e. no-below _ (publishers (s .words))
+        (λ q l. and-not (not (eqb q p)) (not (eqb (publisher s q .place) 0)) (λ _. negated _ (eq-eqb (publisher s q .place) 0 (idle-told (R .kind) (L .kind-law) z g s (i .shared) q (f e q))))))
+
+    offers : Offers (machine R) (traitsOf R passes onward-place) z (g .told) (g .tally) s
+    offers = record {
+      undamaged = not-damaged;
+      enters = λ r rn low.
+          let pl : g .tally .place r ≡ reader s r .place = i .shared .tallied .places r in
+          let rs : r < readers (s .words) = omega (arith, i .shared .sized .readers-are) in
+          rw (accepts (Enter r) (named-reader r rn, (lt-leb 5 (reader s r .place) (omega arith), tt)), pl) (ap At (L .enter-place s (i .shared .fine) r rs (omega arith)));
+      looks = λ r k rn k32 five.
+          rw (accepts (Look r k) (named-reader r rn, (le-ltb 31 k (omega arith), (negated _ (eq-eqb (reader s r .place) 5 (sym (i .shared .tallied .places r) ∙ five)), tt)))) refl;
+      leaves = λ r rn four. rw (accepts (Leave r) (named-reader r rn, (le-ltb (reader s r .place) 4 (omega (arith, i .shared .tallied .places r)), tt))) refl;
+      claims = λ p x pn xn fr idle others.
+          let ps : leb (publishers (s .words)) p ≡ false = lt-leb (publishers (s .words)) p (omega (arith, i .shared .sized .publishers-are)) in
+          let ss : leb (slots (s .words)) x ≡ false = lt-leb (slots (s .words)) x (omega (arith, i .shared .sized .slots-are)) in
+          let turn = negated _ (eq-eqb (publisher s p .place) 0 (idle-told (R .kind) (L .kind-law) z g s (i .shared) p idle)) in
+          rw (accepts (Claim p x) (ps, (ss, (turn, (nobody-busy p others, (free-told (R .kind) (L .kind-law) z g s (i .shared) x fr, tt)))))) refl;
+      counted = sym (i .shared .tallied .releases);
+    }
+
+  -- A fresh store has the invariant.
+  outcome-parts : (o : Outcome) (a : Reply) (s : State) → o ≡ outcome a s → (o .reply ≡ a) × (o .after ≡ s)
+  outcome-parts o a s e = (ap (λ (x : Outcome). x .reply) e, ap (λ (x : Outcome). x .after) e)
+
+  start : (s : State) (f : Fresh (machine R) s) → Good (R .kind) (L .Own) (f .arguments) (ghost₀ firstTable) s
+  unfolding making
+  start s f = decided (λ (o : Outcome). o ≡ outcome Made s → Good (R .kind) (L .Own) (f .arguments) (ghost₀ firstTable) s) (makingTests (R .kind .versions) (f .arguments) (f .lent))
+      (outcome Made (made (R .kind .number) (R .freshReader) (f .arguments) (f .lent))) (f .lent) refl
+      (λ c e. subst (λ (u : State). Good (R .kind) (L .Own) (f .arguments) (ghost₀ firstTable) u) (outcome-parts _ _ _ e .1) (record {
+        shared = made-invariant (R .kind) (R .freshReader) (f .arguments) (f .lent) c (L .fresh-out .0) (L .fresh-out .1) (L .fresh-reader-fits _) (L .fresh-publisher-fits _ _);
+        own = L .start-own (f .arguments) (f .lent) c;
+      }))
+      (λ e. absurd (let q = outcome-parts _ _ _ e .0 in let y : _≡_ {A = ℕ} 0 1 = cc in omega arith))
+      (f .made)
+
+  kept : Kept (machine R) (traitsOf R passes onward-place)
+  kept = record {
+    Inv = Good (R .kind) (L .Own);
+    start = start;
+    keep = stepped;
+    look = look-shelf;
+    claim = claim-safe;
+    back = return-back;
+    release = release-order;
+    slots = λ z g s i. slots-right (R .kind) (L .kind-law) z g s (i .shared);
+    picks = λ z g s i. picks-right (R .kind) (L .kind-law) z g s (i .shared);
+    table = λ z g s i. table-right (R .kind) (L .kind-law) z g s (i .shared);
+    offers = offers;
+  }
+
+  pub demand3-of : Demand3 (machine R) (λ z. firstTable)
+  demand3-of = demand3 (machine R) (traitsOf R passes onward-place) kept
+
+  pub companions-of : Companions (machine R) (traitsOf R passes onward-place)
+  companions-of = companions (machine R) (traitsOf R passes onward-place) kept
+
+  -- The damage test is false after every list from fresh.
+  pub never-damaged-of : (s : State) → Fresh (machine R) s → (cs : List Call) → damaged R (afterAll (machine R) s cs) ≡ false
+  never-damaged-of s f cs = go (ghost₀ firstTable) s (start s f) cs
+    where
+      go : (g : Ghost) (u : State) → Good (R .kind) (L .Own) (f .arguments) g u → (cs : List Call) → damaged R (afterAll (machine R) u cs) ≡ false
+      go g u i [] = undamaged-now (f .arguments) g u i
+      go g u i (c ∷ cs) = go (next g (c ⇒ step R u c .reply)) (step R u c .after) (stepped (f .arguments) g u i c) cs
+
+  -- A refused call or making leaves store and entries as they were.
+  pub refused-leaves-of : RefusedLeaves (machine R)
+  unfolding step making
+  refused-leaves-of = record {
+    step = λ s c n e. decide-leaves (rows R s c) (act R s c) s n (act-accepted s c) e;
+    making = λ g s n e. decide-leaves (makingTests (R .kind .versions) g s) (outcome Made (made (R .kind .number) (R .freshReader) g s)) s n refl e;
+  }
+
+  -- A call moves the record that it names, and no other.
+  framed : (s : State) (c : Call) → AllClear (rows R s c) → Framed c (s .words) (act R s c .after .words)
+  framed s (Enter r) f = reader-framed (Enter r) _ _ r _ (L .enter-moves s (fine-undamaged s (f .0)) r (leb-false _ _ (f .1 .0))) refl
+  framed s (Look r k) f = same-framed (Look r k) (s .words)
+  framed s (Leave r) f = reader-framed (Leave r) _ _ r _ (L .leave-moves s (fine-undamaged s (f .0)) r (leb-false _ _ (f .1 .0))) refl
+  framed s (Claim p x) f = claim-framed (R .kind) s (fine-undamaged s (f .0)) (R .exclusive) p x (f .1)
+  framed s (Write p v) f = write-framed (R .kind) s (fine-undamaged s (f .0)) p v (f .1)
+  framed s (Swap p) f = swap-framed (R .kind) s (fine-undamaged s (f .0)) p (f .1)
+  framed s (Sync p) f = sync-framed (R .kind) s (fine-undamaged s (f .0)) (R .kind .versions) p (f .1)
+  framed s (Raise p) f = raise-framed (R .kind) s (fine-undamaged s (f .0)) (R .kind .versions) p (leb-false _ _ (f .1 .0))
+  framed s (Walk p b) f = walk-framed (R .kind) s (fine-undamaged s (f .0)) p b (R .looks s p b) (leb-false _ _ (f .1 .0))
+  framed s (Release p) f = release-framed (R .kind) s (fine-undamaged s (f .0)) p (f .1)
+
+  step-framed : (s : State) (c : Call) → Framed c (s .words) (step R s c .after .words)
+  unfolding step
+  step-framed s c = decided (λ (o : Outcome). Framed c (s .words) (o .after .words)) (rows R s c) (act R s c) s (all-numbers s c) (framed s c) (same-framed c (s .words))
+
+  pub frame-of : Frame (machine R)
+  unfolding step
+  frame-of = record {
+    readers = λ s c r ne. step-framed s c .readers r ne;
+    publishers = λ s c p ne. step-framed s c .publishers p ne;
+    walk-head = λ s p b k l. decided (λ (o : Outcome). getD (o .after .words) k 0 ≡ getD (s .words) k 0) (rows R s (Walk p b)) (act R s (Walk p b)) s refl (λ f. head-publisher (s .words) p _ k l) refl;
+    walk-entries = λ s p b. decided (λ (o : Outcome). o .after .entries ≡ s .entries) (rows R s (Walk p b)) (act R s (Walk p b)) s refl (λ f. refl) refl;
+  }
