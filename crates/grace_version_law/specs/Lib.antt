@@ -2,4 +2,3 @@ pub mod Steps
 pub mod Walks
 pub mod Safety
 pub mod Promises
-pub mod Examples

@@ -14,7 +14,7 @@ use borrow.Author.Tests.{eqb-true, eqb-false, eq-eqb, ne-eqb, leb-true, leb-fals
 use Rattle.calls.specs.declared.Call.{Call}
 use Rattle.calls.specs.declared.Call.the-variants.{Enter, Look, Leave, Claim, Write, Swap, Sync, Raise, Walk, Release}
 use Rattle.calls.specs.declared.Reply.{Reply}
-use Rattle.calls.specs.declared.Reply.the-variants.{Made, At, Pitch, Left, Claimed, Raised, Shared, Walked, Refused}
+use Rattle.calls.specs.declared.Reply.the-variants.{At, Left, Synced, Walked}
 use Rattle.calls.specs.declared.WalkReply.{WalkReply}
 use Rattle.calls.specs.declared.WalkReply.the-variants.{Waiting, Spent, Quiet, Returned}
 use Rattle.calls.specs.Base.{pick, upd, is}
@@ -33,25 +33,22 @@ use Rattle.layout.specs.declared.Progress.{Progress}
 use Rattle.layout.specs.declared.Walk.{Walk as WalkNumbers}
 use Rattle.layout.specs.Layout.{READERS-AT, VERSION-AT, WORDS, HEAD, readers, publishers, slots, current, version, releases, readerAt, publisherAt, withReader, withPublisher, noReader, noPublisher, fresh}
 use Rattle.layout.specs.Laws.{fresh-head, fresh-reader, fresh-publisher, head-publisher}
-use Rattle.statement.specs.Machine.{State, state, Outcome, outcome, Given, Fresh, Machine}
-use Rattle.statement.specs.Demand3.{Demand3}
-use Rattle.statement.specs.Companions.{Traits, RefusedLeaves, Frame, readerNamed, publisherNamed, Offers, Companions}
-use Rattle.statement.specs.Kept.{Pend, pending, Ghost, ghost₀, next, Back, Kept, demand3, companions}
+use Rattle.statement.specs.Machine.{State, state, Outcome, outcome, Given}
+use Rattle.statement.specs.Kept.{Pend, Ghost, ghost₀, Back}
 use Rattle.statement.specs.Kept as kept
-use Rattle.publication_law.specs.Steps.{reader, publisher, putReader, atPlace, decide, look, claimTests, raise, walked, walk, newWalk, placeAfter, made, makingTests}
-use Rattle.publication_law.specs.Damage.{publisherRows, sharedDamage, headRows}
-use Rattle.publication_law.specs.DamageLaws.{Fine, fine-of, fine-to, PublisherFine, publisher-to}
+use Rattle.publication_law.specs.Steps.{reader, publisher, atPlace, enterTests, leaveTests, syncTests, sync, raise, walked, walk, newWalk, placeAfter, made}
+use Rattle.publication_law.specs.Damage.{publisherRows}
+use Rattle.publication_law.specs.DamageLaws.{PublisherFine, publisher-to}
 use Rattle.publication_law.specs.Core.{Core, enter-below, enter-open, enter-pick, leave-core}
 use Rattle.publication_law.specs.Core.Hold.{by-swap}
 use Rattle.publication_law.specs.Grace.{enter-grace, leave-grace}
 use Rattle.publication_law.specs.Tallied.{place-tallied}
 use Rattle.publication_law.specs.Entries.{slotEntry}
-use Rattle.publication_law.specs.Moves.{MovesPublisher, MovesReader, moves-publisher, moves-head, moves-reader}
-use Rattle.publication_law.specs.Invariant.{Invariant, formers, CoreOf, reader-moved}
-use Rattle.publication_law.specs.Keeps.{KindLaw, up-to-mark, up-to-raised, waitsAfter, publisher-fine, claim-keeps, claim-unpicked, write-keeps, swap-keeps, sync-keeps, raise-keeps, walk-keeps, release-keeps, look-right, released-in-order, syncing-in-order, slots-right, picks-right, table-right, idle-told, free-told, made-invariant}
-use Rattle.publication_law.specs.Decide.{decided, decide-accepts, decide-leaves, decide-why}
-use Rattle.publication_law.specs.Frames.{Framed, same-framed, reader-framed, claim-framed, write-framed, swap-framed, sync-framed, raise-framed, walk-framed, release-framed}
-use Rattle.grace_version_law.specs.Steps.{LAST, versions, kind, readerRows, ownRows, damaged, onward, entered, enter, leaving, leave, asked, looksOf, tests, act, rows, step, freshReader, making, GraceVersion}
+use Rattle.publication_law.specs.Moves.{MovesPublisher, moves-publisher, moves-head, moves-reader}
+use Rattle.publication_law.specs.Invariant.{formers, CoreOf, reader-moved}
+use Rattle.publication_law.specs.Keeps.{KindLaw, up-to-mark, up-to-raised, publisher-fine, sync-keeps, raise-keeps, walk-keeps, syncing-in-order}
+use Rattle.publication_law.specs.Lawful.{Good, Lawful, firstTable, traitsOf}
+use Rattle.grace_version_law.specs.Steps.{LAST, versions, kind, readerRows, ownRows, onward, entered, leaving, asked, looksOf, freshReader, rules}
 use Rattle.grace_version_law.specs.Walks.{asked-all, Ends, Looked, looked}
 
 pub law : KindLaw kind
@@ -78,9 +75,8 @@ pub record Own (w : Pend) (ver n : ℕ) (R : ℕ → Reader) (P : ℕ → Publis
   -- each look passed a reader or waited
   pub counted : (p : ℕ) → 35 ≤ P p .place → P p .walk .looks ≡ P p .walk .next + P p .walk .waits
 
-pub record Good (z : Given) (g : Ghost) (s : State) : Type 0 where
-  pub shared : Invariant kind z g s
-  pub own : Own (g .pend) (version (s .words)) (readers (s .words)) (readerAt (s .words)) (publisherAt (s .words))
+abbrev pub OwnOf : Ghost → State → Type 0
+OwnOf g s = Own (g .pend) (version (s .words)) (readers (s .words)) (readerAt (s .words)) (publisherAt (s .words))
 
 -- The damage test of a publisher, from facts and to them.
 pub publisher-fits : (rs ss : ℕ) (y : Publisher) → y .place ≤ 38 → y .place ≢ 36 → (35 ≤ y .place → y .place ≤ 37 → y .walk .next < rs) → PublisherFine versions ss y
@@ -126,7 +122,7 @@ module _ (ver cur : ℕ) where
   onward-shown (suc (suc (suc (suc zero)))) f s u k l o = record { first-low = o .first-low; second-low = o .second-low; shown = λ q. o .shown (omega arith) }
   onward-shown (suc (suc (suc (suc (suc pl))))) f s u k l o = absurd (omega arith)
 
-  pub onward-place : (pl f s u k : ℕ) → pl ≤ 4 → onward ver cur (record { place = pl; first = f; second = s; published = u; picked = k }) .place ≡ pl + 1
+  pub onward-place : (pl f s u k : ℕ) → pl ≤ 4 → onward ver cur (record { place = pl; first = f; second = s; published = u; picked = k }) .place ≡ suc pl
   unfolding onward
   onward-place zero f s u k l = refl
   onward-place (suc zero) f s u k l = refl
@@ -190,63 +186,15 @@ module _ (w : Pend) (ver n : ℕ) (R : ℕ → Reader) (P : ℕ → Publisher) (
     counted = at-or p (rw (same p) c) (λ q e. rw e (o .counted q));
   }
 
-pub all-numbers : (s : State) (c : Call) → allNumbers (rows s c) ≡ true
-all-numbers s (Enter r) = refl
-all-numbers s (Look r k) = refl
-all-numbers s (Leave r) = refl
-all-numbers s (Claim p x) = refl
-all-numbers s (Write p v) = refl
-all-numbers s (Swap p) = refl
-all-numbers s (Sync p) = refl
-all-numbers s (Raise p) = refl
-all-numbers s (Walk p b) = refl
-all-numbers s (Release p) = refl
-
-pub above-one : (s : State) (c : Call) → allAbove DAMAGED (tests s c) ≡ true
-above-one s (Enter r) = refl
-above-one s (Look r k) = refl
-above-one s (Leave r) = refl
-above-one s (Claim p x) = refl
-above-one s (Write p v) = refl
-above-one s (Swap p) = refl
-above-one s (Sync p) = refl
-above-one s (Raise p) = refl
-above-one s (Walk p b) = refl
-above-one s (Release p) = refl
-
-pub act-accepted : (s : State) (c : Call) → accepted (act s c .reply) ≡ true
-act-accepted s (Enter r) = refl
-act-accepted s (Look r k) = refl
-act-accepted s (Leave r) = refl
-act-accepted s (Claim p x) = refl
-act-accepted s (Write p v) = refl
-act-accepted s (Swap p) = refl
-act-accepted s (Sync p) = refl
-act-accepted s (Raise p) = pick-split (λ (o : Outcome). accepted (o .reply) ≡ true) (eqb (version (s .words)) (versions .beforeMark (publisher s p .walk .mark))) (λ _. refl) (λ _. refl)
-act-accepted s (Walk p b) = refl
-act-accepted s (Release p) = refl
-
-pub fine-undamaged : (s : State) → damaged s ≡ false → Fine kind s
-unfolding damaged
-fine-undamaged s e = fine-of kind s e
-
 -- Each step keeps the invariant.
-module _ (z : Given) (g : Ghost) (s : State) (i : Good z g s) where
-  After : Call → Outcome → Type 0
-  After c o = Good z (next g (c ⇒ o .reply)) (o .after)
-
-  pub undamaged-now : damaged s ≡ false
-  unfolding damaged
-  undamaged-now = fine-to kind s (i .shared .fine)
-
+module _ (z : Given) (g : Ghost) (s : State) (i : Good kind OwnOf z g s) where
   pub r64 : (r : ℕ) → r < readers (s .words) → r < READERS-MAX
   r64 r l = omega (arith, i .shared .fine .head .readers-high)
 
   pub p16 : (p : ℕ) → p < publishers (s .words) → p < PUBLISHERS-MAX
   p16 p l = omega (arith, i .shared .fine .head .publishers-high)
 
-  enter-kept : (r : ℕ) → AllClear (tests s (Enter r)) → After (Enter r) (enter s r)
-  unfolding After
+  enter-kept : (r : ℕ) → AllClear (enterTests s r) → Good kind OwnOf z (kept.onward g (Enter r) (At (entered s r .place))) (state (withReader (s .words) r (entered s r)) (s .entries))
   enter-kept r f =
       let lt : r < readers (s .words) = leb-false _ _ (f .0) in
       let l : reader s r .place ≤ 4 = let q = leb-false 5 (reader s r .place) (f .1 .0) in omega arith in
@@ -262,8 +210,7 @@ module _ (z : Given) (g : Ghost) (s : State) (i : Good z g s) where
             (λ p e. onward-published _ _ (reader s r) (i .shared .grace .awaited p r e .opened)));
       }
 
-  leave-kept : (r : ℕ) → AllClear (tests s (Leave r)) → After (Leave r) (leave s r)
-  unfolding After
+  leave-kept : (r : ℕ) → AllClear (leaveTests s r) → Good kind OwnOf z (kept.onward g (Leave r) Left) (state (withReader (s .words) r (leaving (reader s r))) (s .entries))
   leave-kept r f =
       let lt : r < readers (s .words) = leb-false _ _ (f .0) in
       let m = moves-reader (s .words) r (leaving (reader s r)) (i .shared .fine .head .long) (r64 r lt) in record {
@@ -277,44 +224,7 @@ module _ (z : Given) (g : Ghost) (s : State) (i : Good z g s) where
             (λ p. rw (same r) (λ e. clash (sym e))));
       }
 
-  -- A publisher's move that leaves the readers waited for, the version and its walk as they are.
-  idle-own : (w′ : List ℕ) (p : ℕ) (y : Publisher) (cur rel : ℕ) → MovesPublisher (s .words) w′ p y cur (version (s .words)) rel → y .walk ≡ publisher s p .walk → (35 ≤ y .place → 35 ≤ publisher s p .place)
-      → Own (g .pend) (version w′) (readers w′) (readerAt w′) (publisherAt w′)
-  idle-own w′ p y cur rel m e low = rw (m .version-is, m .head READERS-AT (omega arith), m .readers-stay, m .publishers-are)
-      (publisher-own _ _ _ _ _ (i .own) p _ y _ (omega arith) (λ q r d. refl) (λ r q. rw e (i .own .behind p r q)) (λ l. rw e (i .own .counted p (low l))))
-
-  claim-kept : (p x : ℕ) → AllClear (tests s (Claim p x)) → After (Claim p x) (act s (Claim p x))
-  unfolding After
-  claim-kept p x f =
-      let lt : p < publishers (s .words) = leb-false _ _ (f .0) in record {
-        shared = claim-keeps kind law z g s (i .shared) false p x f
-            (early-fits (readers (s .words)) (slots (s .words)) (record { place = 1; held = x; walk = publisher s p .walk }) (omega arith) (λ _. leb-false _ _ (f .1 .0)));
-        own = idle-own _ p _ _ _ (moves-publisher (s .words) p _ (i .shared .fine .head .long) (p16 p lt)) refl (λ l. absurd (omega arith));
-      }
-
-  write-kept : (p : ℕ) (v : ℤ) → AllClear (tests s (Write p v)) → After (Write p v) (act s (Write p v))
-  unfolding After
-  write-kept p v f =
-      let lt : p < publishers (s .words) = leb-false _ _ (f .0) in
-      let q = or-false (ltb (publisher s p .place) 1) (ltb 32 (publisher s p .place)) (f .1 .1 .0) in
-      let low = ltb-false (publisher s p .place) 1 (q .0) in
-      let high = ltb-false 32 (publisher s p .place) (q .1) in record {
-        shared = write-keeps kind law z g s (i .shared) p v f
-            (early-fits (readers (s .words)) (slots (s .words)) (atPlace (publisher s p) (publisher s p .place + 1)) (omega arith) (λ _. publisher-fine kind law z g s (i .shared) p lt .held-below low));
-        own = idle-own _ p _ _ _ (moves-publisher (s .words) p _ (i .shared .fine .head .long) (p16 p lt)) refl (λ l. absurd (omega arith));
-      }
-
-  swap-kept : (p : ℕ) → AllClear (tests s (Swap p)) → After (Swap p) (act s (Swap p))
-  unfolding After
-  swap-kept p f =
-      let lt : p < publishers (s .words) = leb-false _ _ (f .0) in record {
-        shared = swap-keeps kind law z g s (i .shared) p f
-            (early-fits (readers (s .words)) (slots (s .words)) (record { place = 34; held = current (s .words); walk = publisher s p .walk }) (omega arith) (λ _. i .shared .fine .head .current-below));
-        own = idle-own _ p _ _ _ (moves-head (s .words) _ p _ _ _ _ (moves-publisher (s .words) p _ (i .shared .fine .head .long) (p16 p lt)) (i .shared .fine .head .long) 4 (publisher s p .held) (omega arith) (omega arith)) refl (λ l. absurd (omega arith));
-      }
-
-  sync-kept : (p : ℕ) → AllClear (tests s (Sync p)) → After (Sync p) (act s (Sync p))
-  unfolding After
+  sync-kept : (p : ℕ) → AllClear (syncTests versions s p) → Good kind OwnOf z (kept.onward g (Sync p) (Synced (version (s .words) + 1))) (sync versions s p .after)
   sync-kept p f =
       let lt : p < publishers (s .words) = leb-false _ _ (f .0) in
       let at34 = eqb-true (publisher s p .place) 34 (not-false _ (f .1 .0)) in
@@ -334,35 +244,26 @@ module _ (z : Given) (g : Ghost) (s : State) (i : Good z g s) where
             (λ l. refl));
       }
 
-  raise-kept : (p : ℕ) → AllClear (tests s (Raise p)) → After (Raise p) (act s (Raise p))
-  unfolding After
-  raise-kept p f =
-      let lt : p < publishers (s .words) = leb-false _ _ (f .0) in
-      let at35 = eqb-true (publisher s p .place) 35 (not-false _ (f .1 .0)) in
+  raise-own : (p : ℕ) → p < publishers (s .words) → publisher s p .place ≡ 35 → eqb (publisher s p .walk .mark) 0 ≡ false → OwnOf g (raise versions s p .after)
+  raise-own p lt at35 some-mark = pick-split (λ (o : Outcome). OwnOf g (o .after)) (eqb (version (s .words)) (versions .beforeMark (publisher s p .walk .mark)))
+      (λ e. let m = moves-head (s .words) _ p _ _ _ _ (moves-publisher (s .words) p (atPlace (publisher s p) 37) (i .shared .fine .head .long) (p16 p lt)) (i .shared .fine .head .long) VERSION-AT (publisher s p .walk .mark) (omega arith) (omega arith) in
+      rw (m .version-is, m .head READERS-AT (omega arith), m .readers-stay, m .publishers-are)
+      (publisher-own _ _ _ _ _ (i .own) p _ _ _ (omega (arith, eqb-true (version (s .words)) (publisher s p .walk .mark - 1) e)) (λ q r d. refl) (i .own .behind p) (λ l. i .own .counted p (omega arith))))
+      (λ e. let m = moves-publisher (s .words) p (atPlace (publisher s p) 37) (i .shared .fine .head .long) (p16 p lt) in
+      rw (m .version-is, m .head READERS-AT (omega arith), m .readers-stay, m .publishers-are)
+      (publisher-own _ _ _ _ _ (i .own) p _ _ _ (omega arith) (λ q r d. refl) (i .own .behind p) (λ l. i .own .counted p (omega arith))))
+
+  raise-kept : (p : ℕ) → p < publishers (s .words) → eqb (publisher s p .place) 35 ≡ true → Good kind OwnOf z g (raise versions s p .after)
+  raise-kept p lt turn =
+      let at35 = eqb-true (publisher s p .place) 35 turn in
       let pf = publisher-fine kind law z g s (i .shared) p lt in
-      let ok = publisher-fits (readers (s .words)) (slots (s .words)) (atPlace (publisher s p) 37) (omega arith) (λ e. omega arith)
-      (λ a b. next-below _ _ (publisher s p) (i .shared .fine .publishers-fine p lt) (rw at35 refl))
-      (record { held-below = λ _. pf .held-below (omega arith); mark-fits = λ _. pf .mark-fits (omega arith); waits-low = λ _. pf .waits-low (omega arith) }) in
-      let some-mark : eqb (publisher s p .walk .mark) 0 ≡ false = or-false (eqb (publisher s p .walk .mark) 0) (ltb LAST (publisher s p .walk .mark)) (pf .mark-fits (omega arith)) .0 in
-      raise-good p (shared-raise p (raise-keeps kind law z g s (i .shared) p lt (omega arith) (omega arith) ok)) (raise-own p lt at35 some-mark)
-    where
-      shared-raise : (p : ℕ) → Invariant kind z (kept.onward g (Raise p) (raise versions s p .reply)) (raise versions s p .after) → Invariant kind z g (raise versions s p .after)
-      shared-raise p x = x
-
-      raise-own : (p : ℕ) → p < publishers (s .words) → publisher s p .place ≡ 35 → eqb (publisher s p .walk .mark) 0 ≡ false
-          → Own (g .pend) (version (raise versions s p .after .words)) (readers (raise versions s p .after .words)) (readerAt (raise versions s p .after .words)) (publisherAt (raise versions s p .after .words))
-      raise-own p lt at35 some-mark = pick-split (λ (o : Outcome). Own (g .pend) (version (o .after .words)) (readers (o .after .words)) (readerAt (o .after .words)) (publisherAt (o .after .words)))
-          (eqb (version (s .words)) (versions .beforeMark (publisher s p .walk .mark)))
-          (λ e. let m = moves-head (s .words) _ p _ _ _ _ (moves-publisher (s .words) p (atPlace (publisher s p) 37) (i .shared .fine .head .long) (p16 p lt)) (i .shared .fine .head .long) VERSION-AT (publisher s p .walk .mark) (omega arith) (omega arith) in
-          rw (m .version-is, m .head READERS-AT (omega arith), m .readers-stay, m .publishers-are)
-          (publisher-own _ _ _ _ _ (i .own) p _ _ _ (omega (arith, eqb-true (version (s .words)) (publisher s p .walk .mark - 1) e)) (λ q r d. refl) (i .own .behind p) (λ l. i .own .counted p (omega arith))))
-          (λ e. idle-own _ p (atPlace (publisher s p) 37) _ _ (moves-publisher (s .words) p _ (i .shared .fine .head .long) (p16 p lt)) refl (λ l. omega arith))
-
-      raise-good : (p : ℕ) → Invariant kind z g (raise versions s p .after)
-          → Own (g .pend) (version (raise versions s p .after .words)) (readers (raise versions s p .after .words)) (readerAt (raise versions s p .after .words)) (publisherAt (raise versions s p .after .words))
-          → Good z (next g (Raise p ⇒ raise versions s p .reply)) (raise versions s p .after)
-      raise-good p a b = pick-split (λ (o : Outcome). Good z g (raise versions s p .after) → Good z (next g (Raise p ⇒ o .reply)) (raise versions s p .after))
-          (eqb (version (s .words)) (versions .beforeMark (publisher s p .walk .mark))) (λ _ x. x) (λ _ x. x) (record { shared = a; own = b })
+      let some-mark : eqb (publisher s p .walk .mark) 0 ≡ false = or-false (eqb (publisher s p .walk .mark) 0) (ltb LAST (publisher s p .walk .mark)) (pf .mark-fits (omega arith)) .0 in record {
+        shared = raise-keeps kind law z g s (i .shared) p lt (omega arith) (omega arith)
+            (publisher-fits (readers (s .words)) (slots (s .words)) (atPlace (publisher s p) 37) (omega arith) (λ e. omega arith)
+            (λ a b. next-below _ _ (publisher s p) (i .shared .fine .publishers-fine p lt) (rw at35 refl))
+            (record { held-below = λ _. pf .held-below (omega arith); mark-fits = λ _. pf .mark-fits (omega arith); waits-low = λ _. pf .waits-low (omega arith) }));
+        own = raise-own p lt at35 some-mark;
+      }
 
   -- A walk from the numbers of publisher p.
   module _ (p b : ℕ) (lt : p < publishers (s .words)) (at37 : publisher s p .place ≡ 37) where
@@ -400,8 +301,7 @@ module _ (z : Given) (g : Ghost) (s : State) (i : Good z g s) where
     after-fits Quiet nx lk wt e l mk = absurd e
     after-fits (Returned a c) nx lk wt e l mk = publisher-fits (readers (s .words)) (slots (s .words)) (record { place = 38; held = publisher s p .held; walk = record { mark = looksOf s (publisher s p .walk) b .walk .mark; next = nx; looks = lk; waits = wt } }) (omega arith) (λ z. omega arith) (λ c d. absurd (omega arith)) (record { held-below = λ _. publisher-fine kind law z g s (i .shared) p lt .held-below (omega arith); mark-fits = λ _. mk; waits-low = λ _. l })
 
-    walk-kept : After (Walk p b) (act s (Walk p b))
-    unfolding After
+    walk-kept : Good kind OwnOf z (kept.onward g (Walk p b) (Walked (looksOf s (publisher s p .walk) b .reply))) (walk s p (looksOf s (publisher s p .walk) b) .after)
     walk-kept =
         let pf = publisher-fine kind law z g s (i .shared) p lt in
         let k = looksOf s (publisher s p .walk) b in
@@ -415,28 +315,63 @@ module _ (z : Given) (g : Ghost) (s : State) (i : Good z g s) where
               (publisher-own _ _ _ _ _ (i .own) p _ _ _ (omega arith) (λ q r e. refl) still-behind (λ _. omega (arith, came .counted, i .own .counted p (omega arith))));
         }
 
-  release-kept : (p : ℕ) → AllClear (tests s (Release p)) → After (Release p) (act s (Release p))
-  unfolding After
-  release-kept p f =
-      let lt : p < publishers (s .words) = leb-false _ _ (f .0) in record {
-        shared = release-keeps kind law z g s (i .shared) p f
-            (early-fits (readers (s .words)) (slots (s .words)) (atPlace (publisher s p) 0) (omega arith) (λ l. absurd (omega arith)));
-        own = idle-own _ p _ _ _ (moves-head (s .words) _ p _ _ _ _ (moves-publisher (s .words) p _ (i .shared .fine .head .long) (p16 p lt)) (i .shared .fine .head .long) 6 ((releases (s .words) + 1) % MODULUS) (omega arith) (omega arith)) refl (λ l. absurd (omega arith));
-      }
+-- Below 35 a publisher's move leaves the readers waited for, the version and its walk as they are.
+early-own : (g g′ : Ghost) (s : State) (w′ : List ℕ) (es′ : List ℤ) (p : ℕ) (y : Publisher) (cur rel : ℕ) → OwnOf g s → g′ .pend ≡ g .pend
+    → MovesPublisher (s .words) w′ p y cur (version (s .words)) rel → y .walk ≡ publisher s p .walk → y .place ≤ 34 → OwnOf g′ (state w′ es′)
+early-own g g′ s w′ es′ p y cur rel o same-pend m e low = rw (same-pend, m .version-is, m .head READERS-AT (omega arith), m .readers-stay, m .publishers-are)
+    (publisher-own _ _ _ _ _ o p _ y _ (omega arith) (λ q r d. refl) (λ r q. rw e (o .behind p r q)) (λ l. absurd (omega arith)))
 
-  acted : (c : Call) → AllClear (tests s c) → After c (act s c)
-  unfolding After
-  acted (Enter r) f = enter-kept r f
-  acted (Look r k) f = record { shared = i .shared; own = i .own }
-  acted (Leave r) f = leave-kept r f
-  acted (Claim p x) f = claim-kept p x f
-  acted (Write p v) f = write-kept p v f
-  acted (Swap p) f = swap-kept p f
-  acted (Sync p) f = sync-kept p f
-  acted (Raise p) f = raise-kept p f
-  acted (Walk p b) f = walk-kept p b (leb-false _ _ (f .0)) (eqb-true _ _ (not-false _ (f .1 .0)))
-  acted (Release p) f = release-kept p f
+start-own : (z : Given) (s : State) → OwnOf (ghost₀ firstTable) (made KIND-NEW freshReader z s)
+start-own z s = record {
+  readers-shown = λ r. rw (fresh-reader KIND-NEW (z .readers) (z .publishers) (z .slots) (z .version) freshReader r)
+      (pick-split (λ (x : Reader). Shown (version (made KIND-NEW freshReader z s .words)) x) (ltb r READERS-MAX)
+      (λ _. record { first-low = omega arith; second-low = omega arith; shown = λ q. absurd (omega arith) })
+      (λ _. record { first-low = omega arith; second-low = omega arith; shown = λ q. absurd (omega arith) }));
+  behind = λ p r e. clash (sym e);
+  counted = λ p. rw (fresh-publisher KIND-NEW (z .readers) (z .publishers) (z .slots) (z .version) freshReader p) (λ l. absurd (omega arith));
+}
 
-  pub stepped : (c : Call) → Good z (next g (c ⇒ step s c .reply)) (step s c .after)
-  unfolding After step
-  stepped c = decided (After c) (rows s c) (act s c) s (all-numbers s c) (λ f. acted c (f .1)) (record { shared = i .shared; own = i .own })
+-- The numbers that a return comes with.
+return-numbers : (n l w nx lk wt : ℕ) (o : WalkReply) → Ends n nx lk wt o → o ≡ Returned l w → (nx ≡ n) × (l ≡ lk) × (w ≡ wt)
+return-numbers n l w nx lk wt (Waiting r) e q = absurd (let y : _≡_ {A = ℕ} 0 1 = cc in omega arith)
+return-numbers n l w nx lk wt Spent e q = absurd (let y : _≡_ {A = ℕ} 0 1 = cc in omega arith)
+return-numbers n l w nx lk wt Quiet e q = absurd e
+return-numbers n l w nx lk wt (Returned a b) e q = let c : a ≡ l = cc in let d : b ≡ w = cc in (e .0, sym c ∙ e .1, sym d ∙ e .2)
+
+return-shown : (z : Given) (g : Ghost) (s : State) (i : Good kind OwnOf z g s) (p b l w : ℕ) → p < publishers (s .words) → eqb (publisher s p .place) 37 ≡ true
+    → looksOf s (publisher s p .walk) b .reply ≡ Returned l w → Back (traitsOf rules (λ z. z .readers) suc) z g p l w
+return-shown z g s i p b l w lt turn q =
+    let at37 = eqb-true (publisher s p .place) 37 turn in
+    let k = looksOf s (publisher s p .walk) b in
+    let o = came z g s i p b lt at37 in
+    let n = return-numbers (readers (s .words)) l w (k .walk .next) (k .walk .looks) (k .walk .waits) (k .reply) (o .ends) q in
+    let same-waits : k .walk .waits ≡ publisher s p .walk .waits = o .waits-are ∙ rw q refl in
+    record {
+      none-pending = none-pending z g s i p b lt at37 (n .0);
+      in-order = syncing-in-order kind law z g s (i .shared) p (omega arith) (omega arith);
+      looks-are = omega (arith, n .0, n .1, n .2, o .counted, i .own .counted p (omega arith), i .shared .sized .readers-are);
+      waits-are = n .2 ∙ (same-waits ∙ sym (i .shared .tallied .waits p (omega arith)));
+    }
+
+-- All that only the new store can show: a walk passes each reader, ENTER goes 1, 2, 3, 4, 5.
+pub lawful : Lawful rules (λ z. z .readers) suc
+lawful = record {
+  kind-law = law;
+  Own = OwnOf;
+  start-own = λ z s f. start-own z s;
+  fresh-out = (refl, refl);
+  fresh-reader-fits = λ ss. refl;
+  fresh-publisher-fits = λ rs ss. refl;
+  no-further = λ z g s i. refl;
+  early-fits = early-fits;
+  early-own = early-own;
+  enter-moves = λ s f r l. moves-reader (s .words) r (entered s r) (f .head .long) (omega (arith, f .head .readers-high));
+  leave-moves = λ s f r l. moves-reader (s .words) r (leaving (reader s r)) (f .head .long) (omega (arith, f .head .readers-high));
+  enter-place = λ s f r l low. onward-place (version (s .words)) (current (s .words)) (reader s r .place) (reader s r .first) (reader s r .second) (reader s r .published) (reader s r .picked) low;
+  enter-kept = enter-kept;
+  leave-kept = leave-kept;
+  sync-kept = sync-kept;
+  raise-kept = raise-kept;
+  walk-kept = λ z g s i p b lt turn. walk-kept z g s i p b lt (eqb-true (publisher s p .place) 37 turn);
+  return-shown = return-shown;
+}

@@ -13,3 +13,4 @@ pub mod Keeps
 pub mod Decide
 pub mod Frames
 pub mod Lawful
+
