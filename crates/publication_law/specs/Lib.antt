@@ -13,4 +13,3 @@ pub mod Keeps
 pub mod Decide
 pub mod Frames
 pub mod Lawful
-

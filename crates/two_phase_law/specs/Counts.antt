@@ -1,0 +1,193 @@
+-- The indicators count the readers that added to them, and one look at an indicator. Assumes nothing.
+use Prim.Native.Nat.{ℕ, zero, suc, _+_, _-_, _%_, _<_, _≤_}
+use native.Mathlib.Omega.{arith}
+use mathlib.Core.Path.{_≡_, refl, sym, _∙_}
+use mathlib.Core.Logic.{_≢_, _⊎_, inl, inr}
+use mathlib.Core.Bool.{Bool, true, false, not, _&&_, _||_}
+use mathlib.Core.List.{List, [], _∷_}
+use lib.ListN.{getD, set, length}
+use lib.Seq.{getD-set-same, getD-set-other}
+use lib.Dec.{leb, ltb, eqb}
+use borrow.Author.Tests.{eqb-true, eqb-false, eq-eqb, ne-eqb, le-leb, lt-leb, not-false}
+use Rattle.calls.specs.declared.WalkReply.{WalkReply}
+use Rattle.calls.specs.declared.WalkReply.the-variants.{Waiting, Spent, Quiet, Returned}
+use Rattle.calls.specs.Base.{pick, upd}
+use Rattle.calls.specs.Rows.{countBelow}
+use Rattle.calls.specs.RowLaws.{clash, and-false, negated, neither, or-false, pick-split, same, count-zero, count-upd}
+use Rattle.layout.specs.declared.Reader.{Reader}
+use Rattle.layout.specs.declared.Publisher.{Publisher}
+use Rattle.layout.specs.declared.Progress.{Progress}
+use Rattle.layout.specs.Layout.{HEAD, INDICATORS-AT, readers, indicator, readerAt}
+use Rattle.statement.specs.Machine.{State}
+use Rattle.publication_law.specs.Steps.{reader, publisher, placeAfter}
+use Rattle.publication_law.specs.Keeps.{waitsAfter}
+use Rattle.two_phase_law.specs.Steps.{parity, addedTo, miscounted, watched, progress, lookAt}
+
+pub two : (Q : ℕ → Type 0) → Q 0 → Q 1 → (i : ℕ) → i < 2 → Q i
+two Q a b zero l = a
+two Q a b (suc zero) l = b
+two Q a b (suc (suc i)) l = absurd (omega arith)
+
+-- Each indicator is the number of readers that added to it.
+abbrev pub Counted : ℕ → (ℕ → ℕ) → (ℕ → Reader) → Type 0
+Counted n ind R = (i : ℕ) → i < 2 → ind i ≡ countBelow (λ r. addedTo i (R r)) n
+
+pub counted-of : (s : State) → miscounted s 0 || miscounted s 1 ≡ false → Counted (readers (s .words)) (indicator (s .words)) (readerAt (s .words))
+counted-of s e = let q = or-false (miscounted s 0) (miscounted s 1) e in
+    two _ (eqb-true _ _ (not-false _ (q .0))) (eqb-true _ _ (not-false _ (q .1)))
+
+pub counted-to : (s : State) → Counted (readers (s .words)) (indicator (s .words)) (readerAt (s .words)) → miscounted s 0 || miscounted s 1 ≡ false
+counted-to s c = neither (miscounted s 0) (miscounted s 1) (negated _ (eq-eqb _ _ (c 0 (omega arith)))) (negated _ (eq-eqb _ _ (c 1 (omega arith))))
+
+-- No reader at 4 or 5 added to an indicator that is zero.
+pub none-added : (n : ℕ) (ind : ℕ → ℕ) (R : ℕ → Reader) → Counted n ind R → (i : ℕ) → i < 2 → ind i ≡ 0 → (r : ℕ) → r < n → 4 ≤ R r .place → parity (R r .first) ≢ i
+none-added n ind R c i i2 z r lt l = eqb-false (parity (R r .first)) i
+    (and-false (leb 4 (R r .place)) (eqb (parity (R r .first)) i) (count-zero (λ r. addedTo i (R r)) n r (sym (c i i2) ∙ z) lt) (le-leb 4 (R r .place) l))
+
+-- One reader anew: the counts follow.
+module _ (n : ℕ) (ind : ℕ → ℕ) (R : ℕ → Reader) (c : Counted n ind R) (r : ℕ) (rn : r < n) (x : Reader) where
+  changed : (i : ℕ) → countBelow (λ j. addedTo i (upd R r x j)) n + pick (addedTo i (R r)) 1 0 ≡ countBelow (λ j. addedTo i (R j)) n + pick (addedTo i x) 1 0
+  changed i = rw (same r) at (count-upd (λ j. addedTo i (R j)) (λ j. addedTo i (upd R r x j)) n r rn (λ j e. rw e refl))
+
+  -- It is out before and after, or inside before and after with the same version.
+  pub stays-counted : ((i : ℕ) → addedTo i x ≡ addedTo i (R r)) → Counted n ind (upd R r x)
+  stays-counted e i i2 = let q = changed i in let a = e i in let d = c i i2 in c i i2 ∙ omega (arith, rw a at q)
+
+  -- It arrives, or it leaves.
+  pub arrives-counted : (ind′ : ℕ → ℕ) → R r .place ≤ 3 → 4 ≤ x .place → ((i : ℕ) → i < 2 → ind′ i ≡ pick (eqb (parity (x .first)) i) (ind i + 1) (ind i)) → Counted n ind′ (upd R r x)
+  arrives-counted ind′ out inside e i i2 = e i i2 ∙ go (eqb (parity (x .first)) i) refl
+    where
+      go : (b : Bool) → eqb (parity (x .first)) i ≡ b → pick b (ind i + 1) (ind i) ≡ countBelow (λ j. addedTo i (upd R r x j)) n
+      go true d = let q = rw (lt-leb 4 (R r .place) (omega arith), le-leb 4 (x .place) inside, d) at (changed i) in omega (arith, c i i2)
+      go false d = let q = rw (lt-leb 4 (R r .place) (omega arith), le-leb 4 (x .place) inside, d) at (changed i) in omega (arith, c i i2)
+
+  pub leaves-counted : (ind′ : ℕ → ℕ) → 4 ≤ R r .place → x .place ≤ 3 → ((i : ℕ) → i < 2 → ind′ i ≡ pick (eqb (parity (R r .first)) i) (ind i - 1) (ind i)) → Counted n ind′ (upd R r x)
+  leaves-counted ind′ inside out e i i2 = e i i2 ∙ go (eqb (parity (R r .first)) i) refl
+    where
+      go : (b : Bool) → eqb (parity (R r .first)) i ≡ b → pick b (ind i - 1) (ind i) ≡ countBelow (λ j. addedTo i (upd R r x j)) n
+      go true d = let q = rw (le-leb 4 (R r .place) inside, lt-leb 4 (x .place) (omega arith), d) at (changed i) in omega (arith, c i i2)
+      go false d = let q = rw (le-leb 4 (R r .place) inside, lt-leb 4 (x .place) (omega arith), d) at (changed i) in omega (arith, c i i2)
+
+pub counted-same : (n : ℕ) (ind ind′ : ℕ → ℕ) (R : ℕ → Reader) → ((i : ℕ) → i < 2 → ind′ i ≡ ind i) → Counted n ind R → Counted n ind′ R
+counted-same n ind ind′ R e c i i2 = e i i2 ∙ c i i2
+
+-- An indicator stored, read anywhere.
+pub indicator-set : (w : List ℕ) (k v i : ℕ) → k < 2 → HEAD ≤ length w → indicator (set w (INDICATORS-AT + k) v) i ≡ pick (eqb k i) v (indicator w i)
+indicator-set w k v i k2 len = go (eqb k i) refl
+  where
+    go : (b : Bool) → eqb k i ≡ b → indicator (set w (INDICATORS-AT + k) v) i ≡ pick b v (indicator w i)
+    go true d = rw (← eqb-true k i d) (getD-set-same w (INDICATORS-AT + k) v 0 (omega arith))
+    go false d = getD-set-other w (INDICATORS-AT + k) (INDICATORS-AT + i) v 0 (λ e. eqb-false k i d (omega arith))
+
+-- How many of a walk's two looks have passed at a place.
+abbrev pub passedAt : ℕ → ℕ
+passedAt place = pick (eqb place 35) 0 (pick (eqb place 38) 2 1)
+
+-- What one look comes to.
+pub record Looked (count : ℕ) (y : Publisher) (k : Progress) : Type 0 where
+  pub mark-same : k .walk .mark ≡ y .walk .mark
+  -- each look passed or waited
+  pub counted : k .walk .looks + passedAt (y .place) + y .walk .waits ≡ y .walk .looks + passedAt (placeAfter (y .place) (k .reply)) + k .walk .waits
+  pub waits-are : k .walk .waits ≡ waitsAfter (y .walk .waits) (k .reply)
+  pub enough : y .walk .waits ≤ y .walk .looks → k .walk .waits ≤ k .walk .looks
+  pub quiet-zero : y .place ≡ 35 → placeAfter (y .place) (k .reply) ≢ 35 → count ≡ 0
+  pub returned-zero : y .place ≡ 37 → placeAfter (y .place) (k .reply) ≢ 37 → count ≡ 0
+  pub returns : (l w : ℕ) → k .reply ≡ Returned l w → (y .place ≢ 35) × (l ≡ k .walk .looks) × (w ≡ k .walk .waits)
+  pub low : 35 ≤ placeAfter (y .place) (k .reply)
+  pub high : placeAfter (y .place) (k .reply) ≤ 38
+
+pub look-turn : (place : ℕ) → (eqb place 35 || eqb place 37) ≡ true → (place ≡ 35) ⊎ (place ≡ 37)
+look-turn place e = go (eqb place 35) refl
+  where
+    go : (b : Bool) → eqb place 35 ≡ b → (place ≡ 35) ⊎ (place ≡ 37)
+    go true d = inl (eqb-true place 35 d)
+    go false d = inr (eqb-true place 37 (rw d at e))
+
+-- At 35 and at 37.
+module _ (count mark next looks waits held b : ℕ) where
+  at : ℕ → Publisher
+  at place = record { place = place; held = held; walk = record { mark = mark; next = next; looks = looks; waits = waits } }
+
+  clash-reply : {A : Type 0} (r l w : ℕ) → Waiting r ≡ Returned l w → A
+  clash-reply r l w e = absurd (let z : _≡_ {A = ℕ} 0 1 = cc in omega arith)
+
+  looked-35 : Looked count (at 35) (lookAt count (at 35) b)
+  unfolding lookAt at
+  looked-35 = pick-split (Looked count (at 35)) (eqb b 0)
+      (λ _. record {
+        mark-same = refl;
+        counted = refl;
+        waits-are = refl;
+        enough = λ l. l;
+        quiet-zero = λ _ n. absurd (n refl);
+        returned-zero = λ e. absurd (omega arith);
+        returns = λ l w e. absurd (let z : _≡_ {A = ℕ} 0 1 = cc in omega arith);
+        low = omega arith;
+        high = omega arith;
+      })
+      (λ _. pick-split (Looked count (at 35)) (eqb count 0)
+      (λ z. record {
+        mark-same = refl;
+        counted = omega arith;
+        waits-are = refl;
+        enough = λ l. omega arith;
+        quiet-zero = λ _ _. eqb-true count 0 z;
+        returned-zero = λ e. absurd (omega arith);
+        returns = λ l w e. absurd (let z : _≡_ {A = ℕ} 0 1 = cc in omega arith);
+        low = omega arith;
+        high = omega arith;
+      })
+      (λ _. record {
+        mark-same = refl;
+        counted = omega arith;
+        waits-are = refl;
+        enough = λ l. omega arith;
+        quiet-zero = λ _ n. absurd (n refl);
+        returned-zero = λ e. absurd (omega arith);
+        returns = λ l w e. clash-reply _ l w e;
+        low = omega arith;
+        high = omega arith;
+      }))
+
+  looked-37 : Looked count (at 37) (lookAt count (at 37) b)
+  unfolding lookAt at
+  looked-37 = pick-split (Looked count (at 37)) (eqb b 0)
+      (λ _. record {
+        mark-same = refl;
+        counted = refl;
+        waits-are = refl;
+        enough = λ l. l;
+        quiet-zero = λ e. absurd (omega arith);
+        returned-zero = λ _ n. absurd (n refl);
+        returns = λ l w e. absurd (let z : _≡_ {A = ℕ} 0 1 = cc in omega arith);
+        low = omega arith;
+        high = omega arith;
+      })
+      (λ _. pick-split (Looked count (at 37)) (eqb count 0)
+      (λ z. record {
+        mark-same = refl;
+        counted = omega arith;
+        waits-are = refl;
+        enough = λ l. omega arith;
+        quiet-zero = λ e. absurd (omega arith);
+        returned-zero = λ _ _. eqb-true count 0 z;
+        returns = λ l w e. (λ q. omega arith, (let c : looks + 1 ≡ l = cc in sym c), (let d : waits ≡ w = cc in sym d));
+        low = omega arith;
+        high = omega arith;
+      })
+      (λ _. record {
+        mark-same = refl;
+        counted = omega arith;
+        waits-are = refl;
+        enough = λ l. omega arith;
+        quiet-zero = λ e. absurd (omega arith);
+        returned-zero = λ _ n. absurd (n refl);
+        returns = λ l w e. clash-reply _ l w e;
+        low = omega arith;
+        high = omega arith;
+      }))
+
+pub looked : (count : ℕ) (y : Publisher) (b : ℕ) → (y .place ≡ 35) ⊎ (y .place ≡ 37) → Looked count y (lookAt count y b)
+unfolding at
+looked count y b (inl e) = rw (← e) at (looked-35 count (y .walk .mark) (y .walk .next) (y .walk .looks) (y .walk .waits) (y .held) b)
+looked count y b (inr e) = rw (← e) at (looked-37 count (y .walk .mark) (y .walk .next) (y .walk .looks) (y .walk .waits) (y .held) b)

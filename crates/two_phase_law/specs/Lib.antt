@@ -1,0 +1,4 @@
+pub mod Steps
+pub mod Counts
+pub mod Safety
+pub mod Promises

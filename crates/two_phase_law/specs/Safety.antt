@@ -1,0 +1,394 @@
+-- Demand 3 and its companions hold of the old store.
+-- Why: from place 36 on, a reader that a synchronise still waits for added to the other indicator, since the first was seen empty after the SYNC;
+-- so the second empty one shows that nobody is waited for. Assumes nothing.
+use Prim.Native.Nat.{ℕ, zero, suc, _+_, _-_, _*_, _%_, _<_, _≤_}
+use native.Mathlib.Omega.{arith}
+use mathlib.Core.Path.{_≡_, refl, sym, ap, _∙_, subst}
+use mathlib.Core.Logic.{_≢_, _⊎_, inl, inr}
+use mathlib.Core.Bool.{Bool, true, false, not, _&&_, _||_}
+use mathlib.Core.List.{List, [], _∷_}
+use lib.IntN.{ℤ}
+use lib.ListN.{getD, length}
+use lib.Dec.{leb, ltb, eqb}
+use borrow.Author.Tests.{eqb-true, eqb-false, eq-eqb, ne-eqb, leb-true, leb-false, le-leb, lt-leb, ltb-true, ltb-false, le-ltb, not-false}
+use Rattle.calls.specs.declared.Call.the-variants.{Enter, Leave, Sync, Raise, Walk}
+use Rattle.calls.specs.declared.Reply.the-variants.{At, Left, Synced, Walked}
+use Rattle.calls.specs.declared.WalkReply.{WalkReply}
+use Rattle.calls.specs.declared.WalkReply.the-variants.{Waiting, Spent, Quiet, Returned}
+use Rattle.calls.specs.Base.{pick, upd}
+use Rattle.calls.specs.Numbers.{READERS-MAX, PUBLISHERS-MAX, KIND-OLD}
+use Rattle.calls.specs.Rows.{anyTrue, countBelow}
+use Rattle.calls.specs.RowLaws.{clash, not-both, by-test, or-false, neither, all-false, none-true, count-none, pick-split, same, at-or, AllClear, AllFalse}
+use Rattle.calls.specs.Model.{shelve}
+use Rattle.calls.specs.Told.{tell}
+use Rattle.layout.specs.declared.Reader.{Reader}
+use Rattle.layout.specs.declared.Publisher.{Publisher}
+use Rattle.layout.specs.declared.Progress.{Progress}
+use Rattle.layout.specs.Layout.{HEAD, READERS-AT, VERSION-AT, INDICATORS-AT, readers, publishers, slots, current, version, indicator, readerAt, publisherAt, withReader, withIndicator, noReader}
+use Rattle.layout.specs.Laws.{length-reader, head-reader, fresh-head, fresh-reader, fresh-publisher}
+use Rattle.statement.specs.Machine.{State, state, Outcome, Given}
+use Rattle.statement.specs.Kept.{Pend, Ghost, ghost₀, Back}
+use Rattle.statement.specs.Kept as kept
+use Rattle.publication_law.specs.Steps.{reader, publisher, atPlace, enterTests, leaveTests, syncTests, sync, raise, walked, walk, newWalk, placeAfter, made}
+use Rattle.publication_law.specs.Damage.{publisherRows}
+use Rattle.publication_law.specs.DamageLaws.{Fine, PublisherFine, publisher-to}
+use Rattle.publication_law.specs.Core.{Core, enter-below, enter-open, enter-pick, leave-core}
+use Rattle.publication_law.specs.Core.Hold.{by-swap}
+use Rattle.publication_law.specs.Grace.{enter-grace, leave-grace}
+use Rattle.publication_law.specs.Tallied.{place-tallied}
+use Rattle.publication_law.specs.Entries.{slotEntry}
+use Rattle.publication_law.specs.Moves.{MovesPublisher, MovesReader, moves-publisher, moves-head, moves-reader, moves-indicator}
+use Rattle.publication_law.specs.Invariant.{formers, CoreOf, reader-moved}
+use Rattle.publication_law.specs.Keeps.{KindLaw, up-to-mark, up-to-raised, publisher-fine, sync-keeps, raise-keeps, walk-keeps, syncing-in-order}
+use Rattle.publication_law.specs.Lawful.{Good, Lawful, firstTable, traitsOf}
+use Rattle.two_phase_law.specs.Steps.{LAST, versions, kind, readerRows, parity, addedTo, onward, entered, enterWords, leaving, leaveWords, watched, looksOf, lookAt, rules}
+use Rattle.two_phase_law.specs.Counts.{two, Counted, counted-to, none-added, stays-counted, arrives-counted, leaves-counted, counted-same, indicator-set, passedAt, Looked, look-turn, looked}
+
+law : KindLaw kind
+law = record {
+  shared-rows = λ rs ss y e. or-false (ltb 38 (y .place)) (anyTrue (publisherRows versions ss y)) e .1;
+  mark-fits = up-to-mark LAST;
+  raised-fits = up-to-raised LAST;
+}
+
+-- The kind's own numbers: from 36 on a synchronise waits only for readers that added to the other indicator.
+record Own (w : Pend) (n : ℕ) (ind : ℕ → ℕ) (R : ℕ → Reader) (P : ℕ → Publisher) : Type 0 where
+  behind : (p r : ℕ) → w p r ≡ true → 36 ≤ P p .place → parity (R r .first) ≢ parity (P p .walk .mark)
+  -- each look passed or waited
+  looks-counted : (p : ℕ) → 35 ≤ P p .place → P p .walk .looks ≡ passedAt (P p .place) + P p .walk .waits
+  indicators : Counted n ind R
+
+abbrev OwnOf : Ghost → State → Type 0
+OwnOf g s = Own (g .pend) (readers (s .words)) (indicator (s .words)) (readerAt (s .words)) (publisherAt (s .words))
+
+-- The damage test of a publisher, from facts.
+publisher-fits : (rs ss : ℕ) (y : Publisher) → y .place ≤ 38 → PublisherFine versions ss y → kind .publisherDamaged rs ss y ≡ false
+publisher-fits rs ss y high f = neither (ltb 38 (y .place)) (anyTrue (publisherRows versions ss y)) (le-ltb 38 (y .place) high) (publisher-to versions ss y f)
+
+early-fits : (rs ss : ℕ) (y : Publisher) → y .place ≤ 34 → (1 ≤ y .place → y .held < ss) → kind .publisherDamaged rs ss y ≡ false
+early-fits rs ss y high held = publisher-fits rs ss y (omega arith)
+    (record { held-below = held; mark-fits = λ l. absurd (omega arith); waits-low = λ l. absurd (omega arith) })
+
+-- ENTER, by the place.
+module _ (ver cur : ℕ) where
+  onward-open : (pl f s u k : ℕ) → 4 ≤ pl → 4 ≤ onward ver cur (record { place = pl; first = f; second = s; published = u; picked = k }) .place
+  unfolding onward
+  onward-open pl f s u k l = rw (ne-eqb pl 0 (λ z. omega arith), ne-eqb pl 1 (λ z. omega arith)) (omega arith)
+
+  onward-picks : (pl f s u k : ℕ) → onward ver cur (record { place = pl; first = f; second = s; published = u; picked = k }) .place ≡ 5
+      → onward ver cur (record { place = pl; first = f; second = s; published = u; picked = k }) .picked ≡ cur
+  unfolding onward
+  onward-picks zero f s u k five = absurd (omega arith)
+  onward-picks (suc zero) f s u k five = absurd (omega arith)
+  onward-picks (suc (suc pl)) f s u k five = rw (ne-eqb (suc (suc pl)) 0 (λ z. omega arith), ne-eqb (suc (suc pl)) 1 (λ z. omega arith)) refl
+
+  onward-fits : (slots pl f s u k : ℕ) → cur < slots → AllFalse (readerRows slots (onward ver cur (record { place = pl; first = f; second = s; published = u; picked = k })))
+  unfolding onward
+  onward-fits slots zero f s u k c = (refl, (refl, (refl, (refl, tt))))
+  onward-fits slots (suc zero) f s u k c = (refl, (refl, (refl, (refl, tt))))
+  onward-fits slots (suc (suc pl)) f s u k c = rw (ne-eqb (suc (suc pl)) 0 (λ z. omega arith), ne-eqb (suc (suc pl)) 1 (λ z. omega arith)) (refl, (refl, (refl, (lt-leb slots cur c, tt))))
+
+-- The place that follows: 1, 4, 5.
+abbrev pub placeOn : ℕ → ℕ
+placeOn pl = pick (eqb pl 0) 1 (pick (eqb pl 1) 4 5)
+
+onward-place : (ver cur : ℕ) (x : Reader) → onward ver cur x .place ≡ placeOn (x .place)
+unfolding onward
+onward-place ver cur x = go (eqb (x .place) 0) (eqb (x .place) 1)
+  where
+    go : (a b : Bool) → pick {A = Reader} a (record { place = 1; first = ver; second = x .second; published = x .published; picked = x .picked })
+        (pick b (record { place = 4; first = x .first; second = x .second; published = x .published; picked = x .picked })
+        (record { place = 5; first = x .first; second = x .second; published = x .published; picked = cur })) .place ≡ pick a 1 (pick b 4 5)
+    go true b = refl
+    go false true = refl
+    go false false = refl
+
+onward-first : (ver cur : ℕ) (x : Reader) → 4 ≤ x .place → onward ver cur x .first ≡ x .first
+unfolding onward
+onward-first ver cur x l = rw (ne-eqb (x .place) 0 (λ z. omega arith), ne-eqb (x .place) 1 (λ z. omega arith)) refl
+
+module _ (g : Ghost) (n m cur ver : ℕ) (R : ℕ → Reader) (P : ℕ → Publisher) (es : List ℤ) (i : CoreOf g n m cur R P es) (r : ℕ) (rn : r < n) where
+  enter-core : (pl : ℕ) → R r .place ≡ pl → pl ≤ 4 → pl ≢ 2 → pl ≢ 3
+      → let x : Reader = onward ver cur (record { place = pl; first = R r .first; second = R r .second; published = R r .published; picked = R r .picked }) in
+      Core (shelve (g .model) (Enter r) (At (x .place))) (tell (g .told) (Enter r) (At (x .place))) n m cur (upd (λ j. R j .place) r (x .place)) (upd (λ j. R j .picked) r (x .picked))
+      (λ p. P p .place) (λ p. P p .held) (λ p. formers (P p)) (slotEntry es)
+  unfolding onward
+  enter-core zero e l n2 n3 = enter-below _ _ _ _ _ _ _ _ _ _ _ i r 1 rn (omega arith) (omega arith)
+  enter-core (suc zero) e l n2 n3 = enter-open _ _ _ _ _ _ _ _ _ _ _ i r rn (omega arith)
+  enter-core (suc (suc zero)) e l n2 n3 = absurd (n2 refl)
+  enter-core (suc (suc (suc zero))) e l n2 n3 = absurd (n3 refl)
+  enter-core (suc (suc (suc (suc zero)))) e l n2 n3 = enter-pick _ _ _ _ _ _ _ _ _ _ _ i r rn e
+  enter-core (suc (suc (suc (suc (suc pl))))) e l n2 n3 = absurd (omega arith)
+
+-- The words after an ENTER and a LEAVE.
+enter-moves : (s : State) → Fine kind s → (r : ℕ) → r < readers (s .words) → MovesReader (s .words) (enterWords s r) r (entered s r)
+enter-moves s f r l =
+    let m = moves-reader (s .words) r (entered s r) (f .head .long) (omega (arith, f .head .readers-high)) in
+    pick-split (λ (w : List ℕ). MovesReader (s .words) w r (entered s r)) (eqb (reader s r .place) 1)
+    (λ _. moves-indicator _ _ r _ m (INDICATORS-AT + parity (reader s r .first)) _ (omega arith) (omega arith)) (λ _. m)
+
+leave-moves : (s : State) → Fine kind s → (r : ℕ) → r < readers (s .words) → MovesReader (s .words) (leaveWords s r) r (leaving (reader s r))
+leave-moves s f r l = moves-indicator _ _ r _ (moves-reader (s .words) r (leaving (reader s r)) (f .head .long) (omega (arith, f .head .readers-high)))
+    (INDICATORS-AT + parity (reader s r .first)) _ (omega arith) (omega arith)
+
+-- The indicators after a reader is written, and with one of them anew.
+reader-indicator : (w : List ℕ) (r : ℕ) (x : Reader) (i : ℕ) → i < 2 → indicator (withReader w r x) i ≡ indicator w i
+reader-indicator w r x i l = head-reader w r x (INDICATORS-AT + i) (omega arith)
+
+changed-indicator : (w : List ℕ) → HEAD ≤ length w → (r : ℕ) (x : Reader) (k : ℕ) → k < 2 → (d : ℕ → ℕ) (i : ℕ) → i < 2
+    → indicator (withIndicator (withReader w r x) k (d (indicator w k))) i ≡ pick (eqb k i) (d (indicator w i)) (indicator w i)
+changed-indicator w len r x k k2 d i i2 = indicator-set (withReader w r x) k (d (indicator w k)) i k2 (rw (length-reader w r x) len) ∙ go (eqb k i) refl
+  where
+    go : (b : Bool) → eqb k i ≡ b → pick b (d (indicator w k)) (indicator (withReader w r x) i) ≡ pick b (d (indicator w i)) (indicator w i)
+    go true e = rw (eqb-true k i e) refl
+    go false e = reader-indicator w r x i i2
+
+-- The kind's own numbers, as a reader or a publisher moves.
+module _ (w : Pend) (n : ℕ) (ind : ℕ → ℕ) (R : ℕ → Reader) (P : ℕ → Publisher) (o : Own w n ind R P) where
+  reader-own : (r : ℕ) (x : Reader) (w′ : Pend) (ind′ : ℕ → ℕ) → ((p q : ℕ) → w′ p q ≡ true → w p q ≡ true) → ((p : ℕ) → w′ p r ≡ true → x .first ≡ R r .first) → Counted n ind′ (upd R r x) → Own w′ n ind′ (upd R r x) P
+  reader-own r x w′ ind′ sub e c = record {
+    behind = λ p. at-or r (rw (same r) (λ q. rw (e p q) (o .behind p r (sub p r q)))) (λ j d. rw d (λ q. o .behind p j (sub p j q)));
+    looks-counted = o .looks-counted;
+    indicators = c;
+  }
+
+  publisher-own : (p : ℕ) (y : Publisher) (w′ : Pend) (ind′ : ℕ → ℕ) → ((q r : ℕ) → eqb q p ≡ false → w′ q r ≡ w q r) → ((i : ℕ) → i < 2 → ind′ i ≡ ind i)
+      → ((r : ℕ) → w′ p r ≡ true → 36 ≤ y .place → parity (R r .first) ≢ parity (y .walk .mark))
+      → (35 ≤ y .place → y .walk .looks ≡ passedAt (y .place) + y .walk .waits) → Own w′ n ind′ R (upd P p y)
+  publisher-own p y w′ ind′ others same-ind a c = record {
+    behind = at-or p (rw (same p) a) (λ q e r. rw (e, others q r e) (o .behind q r));
+    looks-counted = at-or p (rw (same p) c) (λ q e. rw e (o .looks-counted q));
+    indicators = counted-same n ind ind′ R same-ind (o .indicators);
+  }
+
+-- Each of the kind's own steps keeps the invariant.
+module _ (z : Given) (g : Ghost) (s : State) (i : Good kind OwnOf z g s) where
+  p16 : (p : ℕ) → p < publishers (s .words) → p < PUBLISHERS-MAX
+  p16 p l = omega (arith, i .shared .fine .head .publishers-high)
+
+  head-long : HEAD ≤ length (s .words)
+  head-long = omega (arith, i .shared .fine .head .long)
+
+  -- ENTER from 0, from 1 and from 4: what is counted of reader r.
+  out-added : (x : Reader) (k : ℕ) → x .place ≤ 3 → addedTo k x ≡ false
+  out-added x k l = rw (lt-leb 4 (x .place) (omega arith)) refl
+
+  in-added : (x : Reader) (k : ℕ) → 4 ≤ x .place → addedTo k x ≡ eqb (parity (x .first)) k
+  in-added x k l = rw (le-leb 4 (x .place) l) refl
+
+  same-counted : (r : ℕ) (x : Reader) → r < readers (s .words) → ((k : ℕ) → addedTo k x ≡ addedTo k (reader s r)) → Counted (readers (s .words)) (indicator (withReader (s .words) r x)) (upd (readerAt (s .words)) r x)
+  same-counted r x rn e = counted-same (readers (s .words)) (indicator (s .words)) (indicator (withReader (s .words) r x)) (upd (readerAt (s .words)) r x) (λ k k2. reader-indicator (s .words) r x k k2)
+      (stays-counted (readers (s .words)) (indicator (s .words)) (readerAt (s .words)) (i .own .indicators) r rn x e)
+
+  arrived : (r pl : ℕ) → r < readers (s .words) → reader s r .place ≡ pl → pl ≤ 4 → pl ≢ 2 → pl ≢ 3 → Counted (readers (s .words)) (indicator (enterWords s r)) (upd (readerAt (s .words)) r (entered s r))
+  unfolding onward
+  arrived r zero rn e l n2 n3 =
+      let x : Reader = record { place = 1; first = version (s .words); second = reader s r .second; published = reader s r .published; picked = reader s r .picked } in
+      rw (eq-eqb (reader s r .place) 0 e, ne-eqb (reader s r .place) 1 (λ q. omega arith)) (same-counted r x rn (λ k. sym (out-added (reader s r) k (omega arith))))
+  arrived r (suc zero) rn e l n2 n3 = rw (ne-eqb (reader s r .place) 0 (λ q. omega arith), eq-eqb (reader s r .place) 1 e)
+      (arrives-counted _ (indicator (s .words)) (readerAt (s .words)) (i .own .indicators) r rn _ _ (omega arith) (omega arith)
+      (λ k k2. changed-indicator (s .words) head-long r _ (parity (reader s r .first)) (omega arith) (λ n. n + 1) k k2))
+  arrived r (suc (suc zero)) rn e l n2 n3 = absurd (n2 refl)
+  arrived r (suc (suc (suc zero))) rn e l n2 n3 = absurd (n3 refl)
+  arrived r (suc (suc (suc (suc zero)))) rn e l n2 n3 =
+      let x : Reader = record { place = 5; first = reader s r .first; second = reader s r .second; published = reader s r .published; picked = current (s .words) } in
+      rw (ne-eqb (reader s r .place) 0 (λ q. omega arith), ne-eqb (reader s r .place) 1 (λ q. omega arith)) (same-counted r x rn (λ k. sym (in-added (reader s r) k (omega arith))))
+  arrived r (suc (suc (suc (suc (suc pl))))) rn e l n2 n3 = absurd (omega arith)
+
+  enter-kept : (r : ℕ) → AllClear (enterTests s r) → Good kind OwnOf z (kept.onward g (Enter r) (At (entered s r .place))) (state (enterWords s r) (s .entries))
+  enter-kept r f =
+      let lt : r < readers (s .words) = leb-false _ _ (f .0) in
+      let l : reader s r .place ≤ 4 = let q = leb-false 5 (reader s r .place) (f .1 .0) in omega arith in
+      let rf = all-false (readerRows (slots (s .words)) (reader s r)) (i .shared .fine .readers-fine r lt) in
+      let n2 = eqb-false (reader s r .place) 2 (rf .1 .0) in
+      let n3 = eqb-false (reader s r .place) 3 (rf .1 .1 .0) in
+      let m = enter-moves s (i .shared .fine) r lt in record {
+        shared = reader-moved kind z g s (i .shared) _ _ r (entered s r) m
+            (none-true (readerRows (slots (s .words)) (entered s r)) (onward-fits _ _ _ _ _ _ _ _ (i .shared .fine .head .current-below)))
+            (enter-core g _ _ _ (version (s .words)) (readerAt (s .words)) (publisherAt (s .words)) (s .entries) (i .shared .core) r lt _ refl l n2 n3)
+            (enter-grace _ _ _ _ _ (i .shared .grace) r _ _ (onward-open (version (s .words)) (current (s .words)) (reader s r .place) (reader s r .first) (reader s r .second) (reader s r .published) (reader s r .picked))
+            (λ five p e. i .shared .core .publishers p .apart _ (by-swap e) (onward-picks _ _ _ _ _ _ _ five)))
+            (place-tallied _ _ _ _ _ (i .shared .tallied) r (entered s r .place));
+        own = rw (m .head READERS-AT (omega arith), m .readers-are, m .publishers-stay)
+            (reader-own _ _ _ _ _ (i .own) r (entered s r) _ _ (λ p q e. e) (λ p e. onward-first _ _ (reader s r) (i .shared .grace .awaited p r e .opened))
+            (arrived r _ lt refl l n2 n3));
+      }
+
+  leave-kept : (r : ℕ) → AllClear (leaveTests s r) → Good kind OwnOf z (kept.onward g (Leave r) Left) (state (leaveWords s r) (s .entries))
+  leave-kept r f =
+      let lt : r < readers (s .words) = leb-false _ _ (f .0) in
+      let inside : 4 ≤ reader s r .place = ltb-false _ _ (f .1 .0) in
+      let m = leave-moves s (i .shared .fine) r lt in record {
+        shared = reader-moved kind z g s (i .shared) _ _ r (leaving (reader s r)) m refl
+            (leave-core _ _ _ _ _ _ _ _ _ _ _ (i .shared .core) r Left)
+            (leave-grace _ _ _ _ _ (i .shared .grace) (g .told) r _)
+            (place-tallied _ _ _ _ _ (i .shared .tallied) r 0);
+        own = rw (m .head READERS-AT (omega arith), m .readers-are, m .publishers-stay)
+            (reader-own _ _ _ _ _ (i .own) r (leaving (reader s r)) _ _
+            (λ p q. pick-split (λ (b : Bool). b ≡ true → g .pend p q ≡ true) (eqb q r) (λ _ e. clash (sym e)) (λ _ e. e))
+            (λ p. rw (same r) (λ e. clash (sym e)))
+            (leaves-counted _ (indicator (s .words)) (readerAt (s .words)) (i .own .indicators) r lt _ _ inside (omega arith)
+            (λ k k2. changed-indicator (s .words) head-long r _ (parity (reader s r .first)) (omega arith) (λ n. n - 1) k k2)));
+      }
+
+  -- A publisher's move.
+  moved-own : (g′ : Ghost) (w′ : List ℕ) (es′ : List ℤ) (p : ℕ) (y : Publisher) (cur ver rel : ℕ) → MovesPublisher (s .words) w′ p y cur ver rel → ((q r : ℕ) → eqb q p ≡ false → g′ .pend q r ≡ g .pend q r)
+      → ((r : ℕ) → g′ .pend p r ≡ true → 36 ≤ y .place → parity (reader s r .first) ≢ parity (y .walk .mark))
+      → (35 ≤ y .place → y .walk .looks ≡ passedAt (y .place) + y .walk .waits) → OwnOf g′ (state w′ es′)
+  moved-own g′ w′ es′ p y cur ver rel m others a c = rw (m .head READERS-AT (omega arith), m .readers-stay, m .publishers-are)
+      (publisher-own _ _ _ _ _ (i .own) p y _ _ others (λ k k2. m .tail (INDICATORS-AT + k) (omega arith) (omega arith)) a c)
+
+  sync-kept : (p : ℕ) → AllClear (syncTests versions s p) → Good kind OwnOf z (kept.onward g (Sync p) (Synced (version (s .words) + 1))) (sync versions s p .after)
+  sync-kept p f =
+      let lt : p < publishers (s .words) = leb-false _ _ (f .0) in
+      let at34 = eqb-true (publisher s p .place) 34 (not-false _ (f .1 .0)) in
+      let h = i .shared .fine .head in
+      let y : Publisher = record { place = 35; held = publisher s p .held; walk = newWalk (version (s .words) + 1) } in record {
+        shared = sync-keeps kind law z g s (i .shared) p f
+            (publisher-fits (readers (s .words)) (slots (s .words)) y (omega arith)
+            (record {
+              held-below = λ _. publisher-fine kind law z g s (i .shared) p lt .held-below (omega arith);
+              mark-fits = λ l. up-to-mark LAST (version (s .words)) (h .version-fits) (f .1 .1 .0);
+              waits-low = λ l. omega arith;
+            }));
+        own = moved-own (kept.onward g (Sync p) (Synced (version (s .words) + 1))) _ (s .entries) p y _ _ _ (moves-publisher (s .words) p y (h .long) (p16 p lt)) (λ q r e. rw e refl) (λ r e l. absurd (omega arith)) (λ l. refl);
+      }
+
+  raise-kept : (p : ℕ) → p < publishers (s .words) → eqb (publisher s p .place) 36 ≡ true → Good kind OwnOf z g (raise versions s p .after)
+  raise-kept p lt turn =
+      let at36 = eqb-true (publisher s p .place) 36 turn in
+      let pf = publisher-fine kind law z g s (i .shared) p lt in
+      let y : Publisher = atPlace (publisher s p) 37 in
+      let m = moves-publisher (s .words) p y (i .shared .fine .head .long) (p16 p lt) in
+      let counted : publisher s p .walk .looks ≡ 1 + publisher s p .walk .waits = rw at36 at (i .own .looks-counted p (omega arith)) in record {
+        shared = raise-keeps kind law z g s (i .shared) p lt (omega arith) (omega arith)
+            (publisher-fits (readers (s .words)) (slots (s .words)) y (omega arith)
+            (record { held-below = λ _. pf .held-below (omega arith); mark-fits = λ _. pf .mark-fits (omega arith); waits-low = λ _. pf .waits-low (omega arith) }));
+        own = pick-split (λ (o : Outcome). OwnOf g (o .after)) (eqb (version (s .words)) (versions .beforeMark (publisher s p .walk .mark)))
+            (λ e. moved-own g _ (s .entries) p y _ _ _ (moves-head (s .words) _ p y _ _ _ m (i .shared .fine .head .long) VERSION-AT (publisher s p .walk .mark) (omega arith) (omega arith))
+            (λ q r d. refl) (λ r q _. i .own .behind p r q (omega arith)) (λ _. counted))
+            (λ e. moved-own g _ (s .entries) p y _ _ _ m (λ q r d. refl) (λ r q _. i .own .behind p r q (omega arith)) (λ _. counted));
+      }
+
+  -- A look of publisher p.
+  module _ (p b : ℕ) (lt : p < publishers (s .words)) (turn : (publisher s p .place ≡ 35) ⊎ (publisher s p .place ≡ 37)) where
+    came : Looked (indicator (s .words) (watched (publisher s p))) (publisher s p) (looksOf s (publisher s p) b)
+    came = looked (indicator (s .words) (watched (publisher s p))) (publisher s p) b turn
+
+    low : 35 ≤ publisher s p .place
+    low = go turn
+      where
+        go : (publisher s p .place ≡ 35) ⊎ (publisher s p .place ≡ 37) → 35 ≤ publisher s p .place
+        go (inl e) = omega arith
+        go (inr e) = omega arith
+
+    high : publisher s p .place ≤ 37
+    high = go turn
+      where
+        go : (publisher s p .place ≡ 35) ⊎ (publisher s p .place ≡ 37) → publisher s p .place ≤ 37
+        go (inl e) = omega arith
+        go (inr e) = omega arith
+
+    -- A reader that is waited for did not add to an indicator that is zero.
+    not-added : (k : ℕ) → k < 2 → indicator (s .words) k ≡ 0 → (r : ℕ) → g .pend p r ≡ true → parity (reader s r .first) ≢ k
+    not-added k k2 e r q = let a = i .shared .grace .awaited p r q in
+        none-added _ (indicator (s .words)) (readerAt (s .words)) (i .own .indicators) k k2 e r (i .shared .core .readers r .bound (omega (arith, a .opened))) (a .opened)
+
+    after-behind : (r : ℕ) → g .pend p r ≡ true → 36 ≤ placeAfter (publisher s p .place) (looksOf s (publisher s p) b .reply) → parity (reader s r .first) ≢ parity (publisher s p .walk .mark)
+    after-behind r q l = go turn
+      where
+        go : (publisher s p .place ≡ 35) ⊎ (publisher s p .place ≡ 37) → parity (reader s r .first) ≢ parity (publisher s p .walk .mark)
+        go (inl at35) = not-added (parity (publisher s p .walk .mark)) (omega arith)
+            (rw (eq-eqb (publisher s p .place) 35 at35) at (came .quiet-zero at35 (λ e. omega arith))) r q
+        go (inr at37) = i .own .behind p r q (omega arith)
+
+    none-pending : placeAfter (publisher s p .place) (looksOf s (publisher s p) b .reply) ≡ 38 → (r : ℕ) → g .pend p r ≡ false
+    none-pending done r = by-test (g .pend p r) (λ q. go turn q)
+      where
+        go : (publisher s p .place ≡ 35) ⊎ (publisher s p .place ≡ 37) → g .pend p r ≡ true → ⊥
+        go (inl at35) q = not-35 (looksOf s (publisher s p) b .reply) refl at35 done
+          where
+            not-35 : (o : WalkReply) → looksOf s (publisher s p) b .reply ≡ o → publisher s p .place ≡ 35 → placeAfter (publisher s p .place) o ≡ 38 → ⊥
+            not-35 (Waiting w) e a d = omega arith
+            not-35 Spent e a d = omega arith
+            not-35 Quiet e a d = omega arith
+            not-35 (Returned l w) e a d = came .returns l w e .0 a
+        go (inr at37) q =
+            let x = i .own .behind p r q (omega arith) in
+            let y = not-added (1 - parity (publisher s p .walk .mark)) (omega arith) (rw (ne-eqb (publisher s p .place) 35 (λ e. omega arith)) at (came .returned-zero at37 (λ e. omega arith))) r q in
+            omega arith
+
+    walk-kept : Good kind OwnOf z (kept.onward g (Walk p b) (Walked (looksOf s (publisher s p) b .reply))) (walk s p (looksOf s (publisher s p) b) .after)
+    walk-kept =
+        let pf = publisher-fine kind law z g s (i .shared) p lt in
+        let k = looksOf s (publisher s p) b in
+        let y : Publisher = walked (publisher s p) k in record {
+          shared = walk-keeps kind law z g s (i .shared) p b lt low high k none-pending (came .waits-are)
+              (publisher-fits (readers (s .words)) (slots (s .words)) y (came .high)
+              (record { held-below = λ _. pf .held-below (omega (arith, low)); mark-fits = λ _. rw (came .mark-same) (pf .mark-fits low); waits-low = λ _. came .enough (pf .waits-low low) }));
+          own = moved-own (kept.onward g (Walk p b) (Walked (k .reply))) _ (s .entries) p y _ _ _ (moves-publisher (s .words) p y (i .shared .fine .head .long) (p16 p lt)) (λ q r e. refl)
+              (λ r q l. rw (came .mark-same) (after-behind r q l)) (λ _. omega (arith, came .counted, i .own .looks-counted p low));
+        }
+
+    return-shown : (l w : ℕ) → looksOf s (publisher s p) b .reply ≡ Returned l w → Back (traitsOf rules (λ z. 2) placeOn) z g p l w
+    return-shown l w q =
+        let n = came .returns l w q in
+        let at37 : publisher s p .place ≡ 37 = second turn (n .0) in
+        let same-waits : looksOf s (publisher s p) b .walk .waits ≡ publisher s p .walk .waits = came .waits-are ∙ rw q refl in
+        let one : passedAt (publisher s p .place) ≡ 1 = rw at37 refl in
+        let both : passedAt (placeAfter (publisher s p .place) (looksOf s (publisher s p) b .reply)) ≡ 2 = rw q refl in
+        record {
+          none-pending = none-pending (rw q refl);
+          in-order = syncing-in-order kind law z g s (i .shared) p low high;
+          looks-are = omega (arith, n .1, n .2, came .counted, i .own .looks-counted p low);
+          waits-are = n .2 ∙ (same-waits ∙ sym (i .shared .tallied .waits p low));
+        }
+      where
+        second : (publisher s p .place ≡ 35) ⊎ (publisher s p .place ≡ 37) → publisher s p .place ≢ 35 → publisher s p .place ≡ 37
+        second (inl e) ne = absurd (ne e)
+        second (inr e) ne = e
+
+early-own : (g g′ : Ghost) (s : State) (w′ : List ℕ) (es′ : List ℤ) (p : ℕ) (y : Publisher) (cur rel : ℕ) → OwnOf g s → g′ .pend ≡ g .pend
+    → MovesPublisher (s .words) w′ p y cur (version (s .words)) rel → y .walk ≡ publisher s p .walk → y .place ≤ 34 → OwnOf g′ (state w′ es′)
+early-own g g′ s w′ es′ p y cur rel o same-pend m e low = rw (same-pend, m .head READERS-AT (omega arith), m .readers-stay, m .publishers-are)
+    (publisher-own _ _ _ _ _ o p y _ _ (λ q r d. refl) (λ k k2. m .tail (INDICATORS-AT + k) (omega arith) (omega arith)) (λ r q l. absurd (omega arith)) (λ l. absurd (omega arith)))
+
+start-own : (z : Given) (s : State) → OwnOf (ghost₀ firstTable) (made KIND-OLD noReader z s)
+start-own z s = record {
+  behind = λ p r e. clash (sym e);
+  looks-counted = λ p. rw (fresh-publisher KIND-OLD (z .readers) (z .publishers) (z .slots) (z .version) noReader p) (λ l. absurd (omega arith));
+  indicators = two _ (zero-indicator 0 (omega arith) refl) (zero-indicator 1 (omega arith) refl);
+}
+  where
+    w : List ℕ
+    w = made KIND-OLD noReader z s .words
+
+    none : (k r : ℕ) → addedTo k (readerAt w r) ≡ false
+    none k r = rw (fresh-reader KIND-OLD (z .readers) (z .publishers) (z .slots) (z .version) noReader r) (pick-split (λ (x : Reader). addedTo k x ≡ false) (ltb r READERS-MAX) (λ _. refl) (λ _. refl))
+
+    zero-indicator : (k : ℕ) → k < 2 → _≡_ {A = ℕ} (pick (eqb (INDICATORS-AT + k) VERSION-AT) (z .version) (pick (eqb (INDICATORS-AT + k) 3) (z .slots) (pick (eqb (INDICATORS-AT + k) 2) (z .publishers) (pick (eqb (INDICATORS-AT + k) 1) (z .readers) (pick (eqb (INDICATORS-AT + k) 0) KIND-OLD 0))))) 0
+        → indicator w k ≡ countBelow (λ r. addedTo k (readerAt w r)) (readers w)
+    zero-indicator k k2 e = fresh-head KIND-OLD (z .readers) (z .publishers) (z .slots) (z .version) noReader (INDICATORS-AT + k) (omega arith) ∙ (e ∙ sym (count-none (λ r. addedTo k (readerAt w r)) (readers w) (λ r l. none k r)))
+
+-- All that only the old store can show: a walk passes two looks, ENTER goes 1, 4, 5.
+pub lawful : Lawful rules (λ z. 2) placeOn
+lawful = record {
+  kind-law = law;
+  Own = OwnOf;
+  start-own = λ z s f. start-own z s;
+  fresh-out = (refl, refl);
+  fresh-reader-fits = λ ss. refl;
+  fresh-publisher-fits = λ rs ss. refl;
+  no-further = λ z g s i. counted-to s (i .own .indicators);
+  early-fits = early-fits;
+  early-own = early-own;
+  enter-moves = enter-moves;
+  leave-moves = leave-moves;
+  enter-place = λ s f r l low. onward-place (version (s .words)) (current (s .words)) (reader s r);
+  enter-kept = enter-kept;
+  leave-kept = leave-kept;
+  sync-kept = sync-kept;
+  raise-kept = raise-kept;
+  walk-kept = λ z g s i p b lt turn. walk-kept z g s i p b lt (look-turn (publisher s p .place) turn);
+  return-shown = λ z g s i p b l w lt turn. return-shown z g s i p b lt (look-turn (publisher s p .place) turn) l w;
+}

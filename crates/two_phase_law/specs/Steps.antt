@@ -1,0 +1,114 @@
+-- The old store (Two-Phase with one publisher): what it fixes of the damage test and of the ten calls. `rules` gathers it; publication_law has the rest.
+-- A reader's second and published version and a walk's next have no use here: they are 0 from the making on and not tested.
+use Prim.Native.Nat.{ℕ, _+_, _-_, _%_}
+use mathlib.Core.Bool.{Bool, true, false, not, _&&_, _||_}
+use mathlib.Core.List.{List, [], _∷_}
+use lib.Dec.{leb, ltb, eqb}
+use Rattle.calls.specs.declared.WalkReply.{WalkReply}
+use Rattle.calls.specs.declared.WalkReply.the-variants.{Waiting, Spent, Quiet, Returned}
+use Rattle.calls.specs.Base.{pick}
+use Rattle.calls.specs.Numbers.{KIND-OLD}
+use Rattle.calls.specs.Rows.{anyTrue, countBelow}
+use Rattle.layout.specs.declared.Reader.{Reader}
+use Rattle.layout.specs.declared.Publisher.{Publisher}
+use Rattle.layout.specs.declared.Progress.{Progress}
+use Rattle.layout.specs.Layout.{readers, current, version, indicator, withIndicator, withReader, noReader}
+use Rattle.statement.specs.Machine.{State, Machine}
+use Rattle.publication_law.specs.Steps.{Versions, upTo, reader, publisher}
+use Rattle.publication_law.specs.Damage.{Kind, wrongPick, publisherRows}
+use Rattle.publication_law.specs.Rules.{Rules, machine}
+
+-- The last version: 2^63 - 1.
+abbrev pub LAST : ℕ
+LAST = 9223372036854775807
+
+abbrev pub versions : Versions
+versions = upTo LAST
+
+-- A place that the kind does not have (2 and 3 are the new store's); a picked slot too large.
+abbrev pub readerRows : ℕ → Reader → List Bool
+readerRows slots x = ltb 5 (x .place) ∷ eqb (x .place) 2 ∷ eqb (x .place) 3 ∷ wrongPick slots x ∷ []
+
+abbrev pub kind : Kind
+kind = record {
+  number = KIND-OLD;
+  versions = versions;
+  readerDamaged = λ slots x. anyTrue (readerRows slots x);
+  -- a place that the kind does not have
+  publisherDamaged = λ readers slots y. ltb 38 (y .place) || anyTrue (publisherRows versions slots y);
+}
+
+-- The indicator that a reader adds to is that of the parity (0 or 1) of its loaded version.
+abbrev pub parity : ℕ → ℕ
+parity n = n % 2
+
+-- A reader at 4 or 5 that added to indicator i.
+abbrev pub addedTo : ℕ → Reader → Bool
+addedTo i x = leb 4 (x .place) && eqb (parity (x .first)) i
+
+-- An indicator unlike the number of readers at 4 or 5 that added to it.
+abbrev pub miscounted : State → ℕ → Bool
+miscounted s i = not (eqb (indicator (s .words) i) (countBelow (λ r. addedTo i (reader s r)) (readers (s .words))))
+
+-- ENTER r: 0 to 1 loads the version; 1 to 4 adds one to the indicator of its parity; 4 to 5 picks.
+unfoldable pub onward : ℕ → ℕ → Reader → Reader
+onward version current x =
+    pick (eqb (x .place) 0) (record { place = 1; first = version; second = x .second; published = x .published; picked = x .picked })
+    (pick (eqb (x .place) 1) (record { place = 4; first = x .first; second = x .second; published = x .published; picked = x .picked })
+    (record { place = 5; first = x .first; second = x .second; published = x .published; picked = current }))
+
+abbrev pub entered : State → ℕ → Reader
+entered s r = onward (version (s .words)) (current (s .words)) (reader s r)
+
+abbrev pub enterWords : State → ℕ → List ℕ
+enterWords s r =
+    let w = withReader (s .words) r (entered s r) in
+    let i = parity (reader s r .first) in
+    pick (eqb (reader s r .place) 1) (withIndicator w i (indicator (s .words) i + 1)) w
+
+-- LEAVE r goes to 0 and takes one from the indicator that r added to. The slot that was picked stays in its word, and counts no more.
+abbrev pub leaving : Reader → Reader
+leaving x = record { place = 0; first = x .first; second = x .second; published = x .published; picked = x .picked }
+
+abbrev pub leaveWords : State → ℕ → List ℕ
+leaveWords s r =
+    let i = parity (reader s r .first) in
+    withIndicator (withReader (s .words) r (leaving (reader s r))) i (indicator (s .words) i - 1)
+
+-- WALK p b, at most one look. At 35 at indicator (mark mod 2), at 37 at the other.
+abbrev pub watched : Publisher → ℕ
+watched y = pick (eqb (y .place) 35) (parity (y .walk .mark)) (1 - parity (y .walk .mark))
+
+abbrev pub progress : Publisher → ℕ → ℕ → WalkReply → Progress
+progress y looks waits a = record { walk = record { mark = y .walk .mark; next = y .walk .next; looks = looks; waits = waits }; reply = a }
+
+-- At 35 zero gives quiet and place 36; at 37 zero gives returned and place 38. Nonzero: waits rises, waiting with the indicator's number.
+-- Spent exactly if b = 0. Every look, passed or not, adds one to looks.
+unfoldable pub lookAt : ℕ → Publisher → ℕ → Progress
+lookAt count y b =
+    pick (eqb b 0) (progress y (y .walk .looks) (y .walk .waits) Spent)
+    (pick (eqb count 0)
+    (progress y (y .walk .looks + 1) (y .walk .waits) (pick (eqb (y .place) 35) Quiet (Returned (y .walk .looks + 1) (y .walk .waits))))
+    (progress y (y .walk .looks + 1) (y .walk .waits + 1) (Waiting (watched y))))
+
+abbrev pub looksOf : State → Publisher → ℕ → Progress
+looksOf s y b = lookAt (indicator (s .words) (watched y)) y b
+
+-- 31 another publisher not at place 0; RAISE p at 36; WALK p b at 35 and 37.
+abbrev pub rules : Rules
+rules = record {
+  kind = kind;
+  further = λ s. miscounted s 0 || miscounted s 1;
+  freshReader = noReader;
+  entered = entered;
+  enterWords = enterWords;
+  left = λ s r. leaving (reader s r);
+  leaveWords = leaveWords;
+  exclusive = true;
+  raisesAt = λ place. eqb place 36;
+  walksAt = λ place. eqb place 35 || eqb place 37;
+  looks = λ s p b. looksOf s (publisher s p) b;
+}
+
+abbrev pub TwoPhase : Machine
+TwoPhase = machine rules
