@@ -2,3 +2,4 @@ pub mod Steps
 pub mod Walks
 pub mod Safety
 pub mod Promises
+pub mod Examples

@@ -56,7 +56,9 @@ atPlace y n = record { place = n; held = y .held; walk = y .walk }
 
 -- The first row that applies refuses, and a refused call changes nothing; where none applies the call is accepted.
 abbrev pub decide : List Test → Outcome → State → Outcome
-decide rows o s = pick (eqb (firstOf rows) 0) o (outcome (Refused (firstOf rows)) s)
+decide rows o s =
+    let n = firstOf rows in
+    pick (eqb n 0) o (outcome (Refused n) s)
 
 -- First name: 10 no such reader; 11 no such publisher.
 abbrev pub noSuchReader : State → ℕ → Test
@@ -119,9 +121,9 @@ abbrev pub writeTests : State → ℕ → ℤ → List Test
 writeTests s p v = noSuchPublisher s p ∷ badPitch v ∷ publisherTurn (outside 1 32 (publisher s p .place)) ∷ []
 
 abbrev pub write : State → ℕ → ℤ → Outcome
-write s p v = outcome (Written (publisher s p .place)) (state
-    (withPublisher (s .words) p (atPlace (publisher s p) (publisher s p .place + 1)))
-    (set (s .entries) (entryAt (publisher s p .held) (publisher s p .place - 1)) v))
+write s p v =
+    let y = publisher s p in
+    outcome (Written (y .place)) (state (withPublisher (s .words) p (atPlace y (y .place + 1))) (set (s .entries) (entryAt (y .held) (y .place - 1)) v))
 
 -- SWAP p: 33 to 34; its slot becomes current, it holds the former one and replies with that.
 abbrev pub swapTests : State → ℕ → List Test
