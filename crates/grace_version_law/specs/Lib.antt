@@ -3,3 +3,4 @@ pub mod Walks
 pub mod Safety
 pub mod Promises
 pub mod Examples
+pub mod Refuted

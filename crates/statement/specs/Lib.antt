@@ -3,3 +3,4 @@ pub mod Demand3
 pub mod Companions
 pub mod Kept
 pub mod Examples
+pub mod Refute

@@ -1,0 +1,108 @@
+-- Two-Phase as published, with several publishers, breaks demand 3: document 01's trap as a run. Assumes nothing.
+use Prim.Native.Nat.{ℕ, _+_}
+use mathlib.Core.Path.{_≡_, refl, ap, _∙_}
+use mathlib.Core.Bool.{Bool, true, false, not, _&&_}
+use mathlib.Core.List.{List, [], _∷_, _++_}
+use lib.IntN.{ℤ, pos}
+use lib.Dec.{ltb, eqb}
+use Rattle.calls.specs.declared.Call.{Call}
+use Rattle.calls.specs.declared.Call.the-variants.{Enter, Look, Leave, Claim, Write, Swap, Sync, Raise, Walk, Release}
+use Rattle.calls.specs.declared.Reply.{Reply}
+use Rattle.calls.specs.declared.Reply.the-variants.{Synced, Raised, Walked}
+use Rattle.calls.specs.declared.WalkReply.the-variants.{Spent, Returned}
+use Rattle.calls.specs.Base.{pick}
+use Rattle.calls.specs.Rows.{anyBelow, countBelow}
+use Rattle.calls.specs.Events.{Event}
+use Rattle.calls.specs.Events.Event.{_⇒_}
+use Rattle.calls.specs.Told.{toldBy}
+use Rattle.layout.specs.Layout.{publishers, version, indicator, readerAt, publisherAt, withReader, withPublisher, withReaders, fresh}
+use Rattle.statement.specs.Machine.{State, Outcome, outcome, Given, given, Machine, Fresh, events, afterAll}
+use Rattle.statement.specs.Demand3.{Demand3}
+use Rattle.statement.specs.Examples.{lentFor, enters, tableOf, published}
+use Rattle.statement.specs.Refute.{someLeave, not-left, events-append}
+use Rattle.publication_law.specs.Steps.{publisher, putPublisher, atPlace}
+use Rattle.publication_law.specs.Rules.{Rules, damaged, step, making}
+use Rattle.publication_law.specs.Lawful.{firstTable}
+use Rattle.two_phase_law.specs.Steps.{onward, watched, lookAt, rules}
+
+-- Several publishers: no 31.
+several : Rules
+several = record {
+  kind = rules .kind;
+  further = rules .further;
+  freshReader = rules .freshReader;
+  entered = rules .entered;
+  enterWords = rules .enterWords;
+  left = rules .left;
+  leaveWords = rules .leaveWords;
+  exclusive = false;
+  raisesAt = rules .raisesAt;
+  walksAt = rules .walksAt;
+  looks = rules .looks;
+}
+
+-- Line 21: while the first indicator is not empty, a walk whose version has become its mark breaks off the first wait; the second one follows.
+breaksOff : State → ℕ → Bool
+unfolding several
+breaksOff s p = not (damaged several s) && (ltb p (publishers (s .words)) && (eqb (publisher s p .place) 35
+    && (not (eqb (indicator (s .words) (watched (publisher s p))) 0) && eqb (version (s .words)) (publisher s p .walk .mark))))
+
+publishedStep : State → Call → Outcome
+unfolding several breaksOff
+publishedStep s (Enter r) = step several s (Enter r)
+publishedStep s (Look r k) = step several s (Look r k)
+publishedStep s (Leave r) = step several s (Leave r)
+publishedStep s (Claim p x) = step several s (Claim p x)
+publishedStep s (Write p v) = step several s (Write p v)
+publishedStep s (Swap p) = step several s (Swap p)
+publishedStep s (Sync p) = step several s (Sync p)
+publishedStep s (Raise p) = step several s (Raise p)
+publishedStep s (Walk p b) = pick (breaksOff s p) (outcome (Walked Spent) (putPublisher s p (atPlace (publisher s p) 37))) (step several s (Walk p b))
+publishedStep s (Release p) = step several s (Release p)
+
+pub Published : Machine
+unfolding several breaksOff publishedStep
+Published = record { making = making several; step = publishedStep }
+
+-- One reader, two publishers, three slots, version 0.
+small : Given
+small = given 1 2 3 0
+
+start : State
+unfolding small several
+start = making several small (lentFor small) .after
+
+-- V is publisher 0, U publisher 1. The reader loads 0; V publishes at version 0 and at version 1, where it sees indicator 0 empty;
+-- the reader arrives there and picks; U swaps ..
+before : List Call
+before = Enter 0 ∷ (published 0 1 (pos 100) ++ (Sync 0 ∷ Walk 0 1 ∷ Raise 0 ∷ Walk 0 1 ∷ Release 0 ∷ (published 0 0 (pos 200) ++ (Sync 0 ∷ Walk 0 1 ∷ (tableOf 1 2 (pos 300)
+    ++ (Enter 0 ∷ Enter 0 ∷ Swap 1 ∷ []))))))
+
+-- .. and synchronises with mark 2; V raises; U takes line 21's break, finds indicator 1 empty and returns.
+trap : List Call
+trap = Sync 1 ∷ Raise 0 ∷ Walk 1 1 ∷ Walk 1 1 ∷ []
+
+trapped : List Event
+trapped = (Sync 1 ⇒ Synced 2) ∷ (Raise 0 ⇒ Raised) ∷ (Walk 1 1 ⇒ Walked Spent) ∷ (Walk 1 1 ⇒ Walked (Returned 1 0)) ∷ []
+
+trap-events : events Published (afterAll Published start before) trap ≡ trapped
+unfolding Published publishedStep breaksOff several start small before trap trapped readerAt publisherAt withReader withPublisher withReaders fresh anyBelow countBelow damaged onward lookAt step making
+trap-events = refl
+
+-- The reader's section is open then ..
+reader-inside : toldBy (events Published start before) .inside 0 ≡ true
+unfolding Published publishedStep breaksOff several start small before readerAt publisherAt withReader withPublisher withReaders fresh anyBelow countBelow damaged onward lookAt step making
+reader-inside = refl
+
+start-fresh : Fresh Published start
+unfolding Published several start small making
+start-fresh = record { arguments = small; lent = lentFor small; made = refl }
+
+-- .. and nobody leaves before U returns.
+pub published-refuted : Demand3 Published (λ z. firstTable) → ⊥
+unfolding someLeave trapped
+published-refuted d =
+    let mid : List Event = (Raise 0 ⇒ Raised) ∷ (Walk 1 1 ⇒ Walked Spent) ∷ [] in
+    not-left 0 mid refl
+    (d start start-fresh (before ++ trap) .returns (events Published start before) mid [] 1 1 1 0 0 (Synced 2)
+    (events-append Published start before trap ∙ ap (λ (es : List Event). events Published start before ++ es) trap-events) refl reader-inside)
