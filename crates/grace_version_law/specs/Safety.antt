@@ -46,7 +46,7 @@ use Rattle.publication_law.specs.Tallied.{place-tallied}
 use Rattle.publication_law.specs.Entries.{slotEntry}
 use Rattle.publication_law.specs.Moves.{MovesPublisher, moves-publisher, moves-head, moves-reader}
 use Rattle.publication_law.specs.Invariant.{formers, CoreOf, reader-moved}
-use Rattle.publication_law.specs.Keeps.{KindLaw, up-to-mark, up-to-raised, publisher-fine, sync-keeps, raise-keeps, walk-keeps, syncing-in-order}
+use Rattle.publication_law.specs.Keeps.{KindLaw, VersionsLaw, up-to-law, publisher-fine, sync-keeps, raise-keeps, walk-keeps, syncing-in-order}
 use Rattle.publication_law.specs.Lawful.{Good, Lawful, firstTable, traitsOf}
 use Rattle.grace_version_law.specs.Steps.{LAST, versions, kind, readerRows, ownRows, onward, entered, leaving, asked, looksOf, freshReader, rules}
 use Rattle.grace_version_law.specs.Walks.{asked-all, Ends, Looked, looked}
@@ -54,8 +54,7 @@ use Rattle.grace_version_law.specs.Walks.{asked-all, Ends, Looked, looke
 pub law : KindLaw kind
 law = record {
   shared-rows = λ rs ss y e. or-false (anyTrue (ownRows rs y)) (anyTrue (publisherRows versions ss y)) e .1;
-  mark-fits = up-to-mark LAST;
-  raised-fits = up-to-raised LAST;
+  versions-law = up-to-law LAST;
 }
 
 -- The kind's own numbers: what readers published, and whom a walk has still to ask.
@@ -234,7 +233,7 @@ module _ (z : Given) (g : Ghost) (s : State) (i : Good kind OwnOf z g s) where
             (publisher-fits (readers (s .words)) (slots (s .words)) (record { place = 35; held = publisher s p .held; walk = newWalk (version (s .words) + 1) }) (omega arith) (λ e. omega arith) (λ a b. omega (arith, h .readers-low))
             (record {
               held-below = λ _. publisher-fine kind law z g s (i .shared) p lt .held-below (omega arith);
-              mark-fits = λ l. up-to-mark LAST (version (s .words)) (h .version-fits) (f .1 .1 .0);
+              mark-fits = λ l. law .versions-law .mark-fits (version (s .words)) (h .version-fits) (f .1 .1 .0);
               waits-low = λ l. omega arith;
             }));
         own = rw (m .version-is, m .head READERS-AT (omega arith), m .readers-stay, m .publishers-are)

@@ -71,5 +71,5 @@ module _ (w : List ℕ) (n mark waits : ℕ) where
   looked (suc b) next looks l = pick-split (Looked w n mark next looks waits) (ltb (readerAt w (asked n next) .published) mark)
       (λ _. record { mark-same = refl; ahead = omega arith; passed = λ i a c. absurd (omega arith); ends = l; counted = omega arith; waits-are = refl })
       (λ e. pick-split (Looked w n mark next looks waits) (leb n (next + 1))
-      (λ d. passed-one next looks _ (ltb-false _ _ e) (last-passed next looks l (leb-true n (next + 1) d)))
-      (λ d. passed-one next looks _ (ltb-false _ _ e) (looked b (next + 1) (looks + 1) (leb-false n (next + 1) d))))
+      (λ d. passed-one next looks _ (omega (arith, ltb-false)) (last-passed next looks l (leb-true n (next + 1) d)))
+      (λ d. passed-one next looks _ (omega (arith, ltb-false)) (looked b (next + 1) (looks + 1) (leb-false n (next + 1) d))))

@@ -20,7 +20,7 @@ use Rattle.calls.specs.Base.{pick, upd, is}
 use Rattle.calls.specs.Numbers.{READERS-MAX, PUBLISHERS-MAX, SLOTS-MIN, SLOTS-MAX, TABLE, FEATHERED, MODULUS}
 use Rattle.calls.specs.Rows.{Test, firstOf, anyTrue, anyBelow, outside}
 use Rattle.calls.specs.Rows.Test.{_gives_}
-use Rattle.calls.specs.RowLaws.{clash, not-both, and-false, or-false, within, none-below, no-below, pick-split, same, at-or, AllClear}
+use Rattle.calls.specs.RowLaws.{clash, not-both, and-false, or-false, neither, within, none-below, no-below, pick-split, same, at-or, AllClear}
 use Rattle.calls.specs.Events.{accepted}
 use Rattle.calls.specs.Model.{Model, entry}
 use Rattle.calls.specs.Told.{Told, holds, Has}
@@ -47,19 +47,25 @@ use Rattle.publication_law.specs.Entries.{slotEntry, set-entry, entry-sa
 use Rattle.publication_law.specs.Moves.{MovesPublisher, publisher-field, moves-publisher, moves-head, MovesReader, reader-field}
 use Rattle.publication_law.specs.Invariant.{formers, Sized, Invariant, publisher-moved}
 
--- What the shared steps need of a kind.
+-- What the shared steps need of a kind's versions: one before a mark is the version that it was made at;
+-- a SYNC that is not refused gives a mark that fits, and such a mark is a version that fits.
+pub record VersionsLaw (vs : Versions) : Type 0 where
+  pub before-mark : (v : ℕ) → vs .beforeMark (vs .markAt v) ≡ v
+  pub mark-fits : (v : ℕ) → vs .tooLarge v ≡ false → vs .isLast v ≡ false → vs .wrongMark (vs .markAt v) ≡ false
+  pub raised-fits : (m : ℕ) → vs .wrongMark m ≡ false → vs .tooLarge m ≡ false
+
+pub up-to-law : (last : ℕ) → VersionsLaw (upTo last)
+up-to-law last = record {
+  before-mark = λ v. omega arith;
+  mark-fits = λ v a b. let l = ltb-false last v a in let ne = eqb-false v last b in
+      neither (eqb (upTo last .markAt v) 0) (ltb last (upTo last .markAt v)) (ne-eqb (upTo last .markAt v) 0 (λ z. omega arith)) (le-ltb last (upTo last .markAt v) (omega arith));
+  raised-fits = λ m e. or-false (eqb m 0) (ltb last m) e .1;
+}
+
+-- .. and of its test of a publisher: it has the shared rows.
 pub record KindLaw (K : Kind) : Type 0 where
-  -- its test of a publisher has the shared rows
+  pub versions-law : VersionsLaw (K .versions)
   pub shared-rows : (rs ss : ℕ) (y : Publisher) → K .publisherDamaged rs ss y ≡ false → anyTrue (publisherRows (K .versions) ss y) ≡ false
-  -- a SYNC that is not refused gives a mark that fits, and such a mark is a version that fits
-  pub mark-fits : (v : ℕ) → K .versions .tooLarge v ≡ false → K .versions .isLast v ≡ false → K .versions .wrongMark (K .versions .markAt v) ≡ false
-  pub raised-fits : (m : ℕ) → K .versions .wrongMark m ≡ false → K .versions .tooLarge m ≡ false
-
-pub up-to-mark : (last v : ℕ) → ltb last v ≡ false → eqb v last ≡ false → (eqb (v + 1) 0 || ltb last (v + 1)) ≡ false
-up-to-mark last v a b = let l = ltb-false last v a in let ne = eqb-false v last b in rw (ne-eqb (v + 1) 0 (λ z. omega arith)) (le-ltb last (v + 1) (omega arith))
-
-pub up-to-raised : (last m : ℕ) → (eqb m 0 || ltb last m) ≡ false → ltb last m ≡ false
-up-to-raised last m e = or-false (eqb m 0) (ltb last m) e .1
 
 -- The waits after a walk's answer.
 abbrev pub waitsAfter : ℕ → WalkReply → ℕ
@@ -164,7 +170,7 @@ module _ (K : Kind) (law : KindLaw K) (z : Given) (g : Ghost) (s : State) (i : I
     raise-keeps ok = pick-split (λ (o : Outcome). Invariant K z (onward g (Raise p) (o .reply)) (o .after)) (eqb (version (s .words)) (K .versions .beforeMark (publisher s p .walk .mark)))
         (λ e. publisher-moved K z g s i _ _ _ p _ _ _ _
         (moves-head (s .words) _ p _ _ _ _ (moves-publisher (s .words) p _ long (few p lt)) long VERSION-AT (publisher s p .walk .mark) (omega arith) (omega arith)) refl
-        (i .fine .head .current-below) (law .raised-fits _ (publisher-fine p lt .mark-fits low)) ok raise-core raise-grace raise-tallied)
+        (i .fine .head .current-below) (law .versions-law .raised-fits _ (publisher-fine p lt .mark-fits low)) ok raise-core raise-grace raise-tallied)
         (λ e. publisher-moved K z g s i _ _ _ p _ _ _ _ (moves-publisher (s .words) p _ long (few p lt)) refl
         (i .fine .head .current-below) (i .fine .head .version-fits) ok raise-core raise-grace raise-tallied)
 

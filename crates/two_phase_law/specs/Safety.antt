@@ -39,7 +39,7 @@ use Rattle.publication_law.specs.Tallied.{place-tallied}
 use Rattle.publication_law.specs.Entries.{slotEntry}
 use Rattle.publication_law.specs.Moves.{MovesPublisher, MovesReader, moves-publisher, moves-head, moves-reader, moves-indicator}
 use Rattle.publication_law.specs.Invariant.{formers, CoreOf, reader-moved}
-use Rattle.publication_law.specs.Keeps.{KindLaw, up-to-mark, up-to-raised, publisher-fine, sync-keeps, raise-keeps, walk-keeps, syncing-in-order}
+use Rattle.publication_law.specs.Keeps.{KindLaw, VersionsLaw, up-to-law, publisher-fine, sync-keeps, raise-keeps, walk-keeps, syncing-in-order}
 use Rattle.publication_law.specs.Lawful.{Good, Lawful, firstTable, traitsOf}
 use Rattle.two_phase_law.specs.Steps.{LAST, versions, kind, readerRows, parity, addedTo, onward, entered, enterWords, leaving, leaveWords, watched, looksOf, lookAt, rules}
 use Rattle.two_phase_law.specs.Counts.{two, Counted, counted-to, none-added, stays-counted, arrives-counted, leaves-counted, counted-same, indicator-set, passedAt, Looked, look-turn, looked}
@@ -47,8 +47,7 @@ use Rattle.two_phase_law.specs.Counts.{two, Counted, counted-to, none-ad
 law : KindLaw kind
 law = record {
   shared-rows = λ rs ss y e. or-false (ltb 38 (y .place)) (anyTrue (publisherRows versions ss y)) e .1;
-  mark-fits = up-to-mark LAST;
-  raised-fits = up-to-raised LAST;
+  versions-law = up-to-law LAST;
 }
 
 -- The kind's own numbers: from 36 on a synchronise waits only for readers that added to the other indicator.
@@ -248,7 +247,7 @@ module _ (z : Given) (g : Ghost) (s : State) (i : Good kind OwnOf z g s) where
             (publisher-fits (readers (s .words)) (slots (s .words)) y (omega arith)
             (record {
               held-below = λ _. publisher-fine kind law z g s (i .shared) p lt .held-below (omega arith);
-              mark-fits = λ l. up-to-mark LAST (version (s .words)) (h .version-fits) (f .1 .1 .0);
+              mark-fits = λ l. law .versions-law .mark-fits (version (s .words)) (h .version-fits) (f .1 .1 .0);
               waits-low = λ l. omega arith;
             }));
         own = moved-own (kept.onward g (Sync p) (Synced (version (s .words) + 1))) _ (s .entries) p y _ _ _ (moves-publisher (s .words) p y (h .long) (p16 p lt)) (λ q r e. rw e refl) (λ r e l. absurd (omega arith)) (λ l. refl);
