@@ -10,13 +10,13 @@ use lib.IntN.{ℤ, pos}
 use lib.ListN.{getD, set, length, length-set, replicate, length-replicate}
 use lib.Seq.{getD-set-same, getD-set-other, set-getD}
 use lib.Dec.{ltb, eqb}
-use borrow.Author.Tests.{eqb-true, eqb-false, ltb-true, ltb-false, lt-ltb, le-ltb}
+use borrow.Author.Tests.{eqb-true, eqb-false, ne-eqb, ltb-true, ltb-false, lt-ltb, le-ltb}
 use Rattle.layout.specs.declared.Reader.{Reader}
 use Rattle.layout.specs.declared.Publisher.{Publisher}
 use Rattle.calls.specs.Base.{pick, upd}
 use Rattle.calls.specs.Numbers.{READERS-MAX, PUBLISHERS-MAX, TABLE}
 use Rattle.calls.specs.RowLaws.{pick-same}
-use Rattle.layout.specs.Layout.{KIND-AT, READERS-AT, PUBLISHERS-AT, SLOTS-AT, CURRENT-AT, VERSION-AT, HEAD, READER-WORDS, PUBLISHER-WORDS, FIRST-PUBLISHER, WORDS, readerOf, readerWords, publisherOf, publisherWords, noReader, noPublisher, putWords, readerAt, publisherAt, withReader, withPublisher, withReaders, fresh, entryAt}
+use Rattle.layout.specs.Layout.{INDICATORS-AT, INDICATORS, indicator, withIndicator, KIND-AT, READERS-AT, PUBLISHERS-AT, SLOTS-AT, CURRENT-AT, VERSION-AT, HEAD, READER-WORDS, PUBLISHER-WORDS, FIRST-PUBLISHER, WORDS, readerOf, readerWords, publisherOf, publisherWords, noReader, noPublisher, putWords, readerAt, publisherAt, withReader, withPublisher, withReaders, fresh, entryAt}
 
 -- Words put in a row.
 pub length-put : (vs w : List ℕ) (b i : ℕ) → length (putWords w b i vs) ≡ length w
@@ -87,6 +87,30 @@ reader-head w k v lt = fun-ext (λ j. reader-by (set w k v) w j (λ l i m. getD-
 
 pub publisher-head : (w : List ℕ) (k v : ℕ) → k < HEAD → publisherAt (set w k v) ≡ publisherAt w
 publisher-head w k v lt = fun-ext (λ j. publisher-by (set w k v) w j (λ l i m. getD-set-other w k (FIRST-PUBLISHER + PUBLISHER-WORDS * j + i) v 0 (λ z. omega arith)))
+
+-- The indicators, where the head agrees; with a record anew; and with one of them anew.
+pub indicator-by : (v w : List ℕ) → ((k : ℕ) → INDICATORS-AT ≤ k → k < HEAD → getD v k 0 ≡ getD w k 0) → indicator v ≡ indicator w
+unfolding indicator
+indicator-by v w e = fun-ext (λ i. go i (ltb i INDICATORS) refl)
+  where
+    go : (i : ℕ) (b : Bool) → ltb i INDICATORS ≡ b → pick b (getD v (INDICATORS-AT + i) 0) 0 ≡ pick b (getD w (INDICATORS-AT + i) 0) 0
+    go i true d = let l = ltb-true i INDICATORS d in e (INDICATORS-AT + i) (omega arith) (omega arith)
+    go i false d = refl
+
+pub indicator-reader : (w : List ℕ) (r : ℕ) (x : Reader) → indicator (withReader w r x) ≡ indicator w
+indicator-reader w r x = indicator-by (withReader w r x) w (λ k a b. head-reader w r x k b)
+
+pub indicator-put : (w : List ℕ) (k v : ℕ) → k < INDICATORS → HEAD ≤ length w → (i : ℕ) → indicator (withIndicator w k v) i ≡ pick (eqb k i) v (indicator w i)
+unfolding indicator
+indicator-put w k v low len i = go (eqb k i) refl
+  where
+    other : (b : Bool) → eqb k i ≡ false → pick b (getD (set w (INDICATORS-AT + k) v) (INDICATORS-AT + i) 0) 0 ≡ pick b (getD w (INDICATORS-AT + i) 0) 0
+    other true d = getD-set-other w (INDICATORS-AT + k) (INDICATORS-AT + i) v 0 (λ e. eqb-false k i d (omega arith))
+    other false d = refl
+
+    go : (b : Bool) → eqb k i ≡ b → pick (ltb i INDICATORS) (getD (set w (INDICATORS-AT + k) v) (INDICATORS-AT + i) 0) 0 ≡ pick b v (pick (ltb i INDICATORS) (getD w (INDICATORS-AT + i) 0) 0)
+    go true d = rw (← eqb-true k i d, lt-ltb k INDICATORS low) (getD-set-same w (INDICATORS-AT + k) v 0 (omega arith))
+    go false d = other (ltb i INDICATORS) d
 
 -- A record of one sort written leaves those of the other.
 pub reader-publisher : (w : List ℕ) (p : ℕ) (x : Publisher) → readerAt (withPublisher w p x) ≡ readerAt w
@@ -277,6 +301,15 @@ module _ (k rs ps ss v : ℕ) (x : Reader) where
   unfolding u0 u1 u2 u3 u4
   fresh-publisher j = rw (fresh-is, publisher-head u4 VERSION-AT v (omega arith), publisher-head u3 SLOTS-AT ss (omega arith), publisher-head u2 PUBLISHERS-AT ps (omega arith), publisher-head u1 READERS-AT rs (omega arith), publisher-head u0 KIND-AT k (omega arith), readers-publisher READERS-MAX (replicate WORDS 0) x (omega arith))
       (blank-publisher WORDS j)
+
+  pub fresh-indicator : (i : ℕ) → indicator (fresh k rs ps ss v x) i ≡ 0
+  unfolding indicator
+  fresh-indicator i = go (ltb i INDICATORS) refl
+    where
+      go : (b : Bool) → ltb i INDICATORS ≡ b → _≡_ {A = ℕ} (pick b (getD (fresh k rs ps ss v x) (INDICATORS-AT + i) 0) 0) 0
+      go true d = let l = ltb-true i INDICATORS d in
+          rw (fresh-head (INDICATORS-AT + i) (omega arith), ne-eqb (INDICATORS-AT + i) VERSION-AT (λ z. omega arith), ne-eqb (INDICATORS-AT + i) SLOTS-AT (λ z. omega arith), ne-eqb (INDICATORS-AT + i) PUBLISHERS-AT (λ z. omega arith), ne-eqb (INDICATORS-AT + i) READERS-AT (λ z. omega arith), ne-eqb (INDICATORS-AT + i) KIND-AT (λ z. omega arith)) refl
+      go false d = refl
 
 -- A record put back as it was read changes nothing.
 put-same : (w : List ℕ) (b i : ℕ) (vs : List ℕ) → ((k : ℕ) → k < length vs → getD w (b + (i + k)) 0 ≡ getD vs k 0) → putWords w b i vs ≡ w

@@ -35,8 +35,12 @@ RELEASES-AT = 6
 abbrev pub INDICATORS-AT : ℕ
 INDICATORS-AT = 7
 
+-- How many indicators there are.
+abbrev pub INDICATORS : ℕ
+INDICATORS = 2
+
 abbrev pub HEAD : ℕ
-HEAD = 9
+HEAD = INDICATORS-AT + INDICATORS
 
 -- The records.
 abbrev pub READER-WORDS : ℕ
@@ -73,8 +77,9 @@ version w = getD w VERSION-AT 0
 abbrev pub releases : List ℕ → ℕ
 releases w = getD w RELEASES-AT 0
 
-abbrev pub indicator : List ℕ → ℕ → ℕ
-indicator w i = getD w (INDICATORS-AT + i) 0
+-- Indicator i; a number beyond the two has none, and reads as 0.
+unfoldable pub indicator : List ℕ → ℕ → ℕ
+indicator w i = pick (ltb i INDICATORS) (getD w (INDICATORS-AT + i) 0) 0
 
 abbrev pub withCurrent : List ℕ → ℕ → List ℕ
 withCurrent w n = set w CURRENT-AT n

@@ -5,7 +5,7 @@ ghost use mathlib.Core.Path.{_≡_};
 ghost use Prim.Native.Nat.{_<_};
 ghost use lib.ListN.{length};
 ghost use Rattle.calls.specs.Numbers.{READERS-MAX, PUBLISHERS-MAX};
-ghost use Rattle.layout.specs.Layout.{WORDS, kind, readers, publishers, slots, current, version, releases, indicator, withCurrent, withVersion, withReleases, withIndicator, readerAt, publisherAt, withReader, withPublisher};
+ghost use Rattle.layout.specs.Layout.{WORDS, INDICATORS, kind, readers, publishers, slots, current, version, releases, indicator, withCurrent, withVersion, withReleases, withIndicator, readerAt, publisherAt, withReader, withPublisher};
 use calls::WalkReply;
 
 // The length of a store's words.
@@ -137,7 +137,7 @@ pub fn releases_of(words: &[u64]) -> u64
 }
 
 pub fn indicator_of(words: &[u64], i: usize) -> u64
-    requires { ⌜ (length (now words) ≡ WORDS) × (i < 2) ⌝ }
+    requires { ⌜ (length (now words) ≡ WORDS) × (i < INDICATORS) ⌝ }
     ensures { λ n. ⌜ n ≡ indicator (now (words .entry)) i ⌝ }
 {
     words[INDICATORS_AT + i]
@@ -165,7 +165,7 @@ pub fn put_releases(words: &mut [u64], n: u64)
 }
 
 pub fn put_indicator(words: &mut [u64], i: usize, n: u64)
-    requires { ⌜ (length (now words) ≡ WORDS) × (i < 2) ⌝ }
+    requires { ⌜ (length (now words) ≡ WORDS) × (i < INDICATORS) ⌝ }
     ensures { λ _. ⌜ now (words .exit) ≡ withIndicator (now (words .entry)) i n ⌝ }
 {
     words[INDICATORS_AT + i] = n;

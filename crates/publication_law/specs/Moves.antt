@@ -12,8 +12,8 @@ use Rattle.calls.specs.Base.{pick, upd}
 use Rattle.calls.specs.Numbers.{READERS-MAX, PUBLISHERS-MAX}
 use Rattle.layout.specs.declared.Reader.{Reader}
 use Rattle.layout.specs.declared.Publisher.{Publisher}
-use Rattle.layout.specs.Layout.{HEAD, CURRENT-AT, VERSION-AT, RELEASES-AT, WORDS, current, version, releases, readerAt, publisherAt, withReader, withPublisher}
-use Rattle.layout.specs.Laws.{length-reader, length-publisher, head-reader, head-publisher, reader-head, publisher-head, reader-publisher, publisher-reader, reader-put, publisher-put}
+use Rattle.layout.specs.Layout.{HEAD, INDICATORS-AT, indicator, CURRENT-AT, VERSION-AT, RELEASES-AT, WORDS, current, version, releases, readerAt, publisherAt, withReader, withPublisher}
+use Rattle.layout.specs.Laws.{length-reader, length-publisher, head-reader, head-publisher, reader-head, publisher-head, reader-publisher, publisher-reader, reader-put, publisher-put, indicator-by}
 
 upd-field : {A B : Type 0} (f : A → B) (u v : ℕ → A) (i : ℕ) (x : A) → u ≡ upd v i x → _≡_ {A = ℕ → B} (λ j. f (u j)) (upd (λ j. f (v j)) i (f x))
 upd-field f u v i x e = fun-ext (λ j. ap (λ (w : ℕ → _). f (w j)) e ∙ go (eqb j i) j)
@@ -26,7 +26,7 @@ upd-field f u v i x e = fun-ext (λ j. ap (λ (w : ℕ → _). f (w j)) e ∙ go
 pub record MovesPublisher (w w′ : List ℕ) (p : ℕ) (y : Publisher) (cur ver rel : ℕ) : Type 0 where
   pub long : length w′ ≡ length w
   pub head : (k : ℕ) → k < CURRENT-AT → getD w′ k 0 ≡ getD w k 0
-  pub tail : (k : ℕ) → RELEASES-AT < k → k < HEAD → getD w′ k 0 ≡ getD w k 0
+  pub indicators-stay : indicator w′ ≡ indicator w
   pub current-is : current w′ ≡ cur
   pub version-is : version w′ ≡ ver
   pub releases-is : releases w′ ≡ rel
@@ -42,7 +42,7 @@ pub moves-publisher : (w : List ℕ) (p : ℕ) (y : Publisher) → length w ≡ 
 moves-publisher w p y len lt = record {
   long = length-publisher w p y;
   head = λ k l. head-publisher w p y k (omega arith);
-  tail = λ k l m. head-publisher w p y k m;
+  indicators-stay = indicator-by (withPublisher w p y) w (λ k a b. head-publisher w p y k b);
   current-is = head-publisher w p y CURRENT-AT (omega arith);
   version-is = head-publisher w p y VERSION-AT (omega arith);
   releases-is = head-publisher w p y RELEASES-AT (omega arith);
@@ -56,7 +56,7 @@ pub moves-head : (w w′ : List ℕ) (p : ℕ) (y : Publisher) (cur ver rel : �
 moves-head w w′ p y cur ver rel m len k v low high = record {
   long = length-set w′ k v ∙ m .long;
   head = λ j l. getD-set-other w′ k j v 0 (λ z. omega arith) ∙ m .head j l;
-  tail = λ j a b. getD-set-other w′ k j v 0 (λ z. omega arith) ∙ m .tail j a b;
+  indicators-stay = indicator-by (set w′ k v) w′ (λ j a b. getD-set-other w′ k j v 0 (λ z. omega arith)) ∙ m .indicators-stay;
   current-is = read CURRENT-AT cur (m .current-is);
   version-is = read VERSION-AT ver (m .version-is);
   releases-is = read RELEASES-AT rel (m .releases-is);

@@ -6,7 +6,6 @@ use mathlib.Core.Logic.{_≢_, _⊎_, inl, inr}
 use mathlib.Core.Bool.{Bool, true, false, not, _&&_, _||_}
 use mathlib.Core.List.{List, [], _∷_}
 use lib.ListN.{getD, set, length}
-use lib.Seq.{getD-set-same, getD-set-other}
 use lib.Dec.{leb, ltb, eqb}
 use borrow.Author.Tests.{eqb-true, eqb-false, eq-eqb, ne-eqb, le-leb, lt-leb, not-false}
 use Rattle.calls.specs.declared.WalkReply.{WalkReply}
@@ -17,7 +16,7 @@ use Rattle.calls.specs.RowLaws.{clash, and-false, negated, neither, or-false, p
 use Rattle.layout.specs.declared.Reader.{Reader}
 use Rattle.layout.specs.declared.Publisher.{Publisher}
 use Rattle.layout.specs.declared.Progress.{Progress}
-use Rattle.layout.specs.Layout.{HEAD, INDICATORS-AT, readers, indicator, readerAt}
+use Rattle.layout.specs.Layout.{readers, indicator, readerAt}
 use Rattle.statement.specs.Machine.{State}
 use Rattle.publication_law.specs.Steps.{reader, publisher, placeAfter}
 use Rattle.publication_law.specs.Keeps.{waitsAfter}
@@ -67,17 +66,6 @@ module _ (n : ℕ) (ind : ℕ → ℕ) (R : ℕ → Reader) (c : Counted n ind R
       go : (b : Bool) → eqb (parity (R r .first)) i ≡ b → pick b (ind i - 1) (ind i) ≡ countBelow (λ j. addedTo i (upd R r x j)) n
       go true d = let q = rw (le-leb 4 (R r .place) inside, lt-leb 4 (x .place) (omega arith), d) at (changed i) in omega (arith, c i i2)
       go false d = let q = rw (le-leb 4 (R r .place) inside, lt-leb 4 (x .place) (omega arith), d) at (changed i) in omega (arith, c i i2)
-
-pub counted-same : (n : ℕ) (ind ind′ : ℕ → ℕ) (R : ℕ → Reader) → ((i : ℕ) → i < 2 → ind′ i ≡ ind i) → Counted n ind R → Counted n ind′ R
-counted-same n ind ind′ R e c i i2 = e i i2 ∙ c i i2
-
--- An indicator stored, read anywhere.
-pub indicator-set : (w : List ℕ) (k v i : ℕ) → k < 2 → HEAD ≤ length w → indicator (set w (INDICATORS-AT + k) v) i ≡ pick (eqb k i) v (indicator w i)
-indicator-set w k v i k2 len = go (eqb k i) refl
-  where
-    go : (b : Bool) → eqb k i ≡ b → indicator (set w (INDICATORS-AT + k) v) i ≡ pick b v (indicator w i)
-    go true d = rw (← eqb-true k i d) (getD-set-same w (INDICATORS-AT + k) v 0 (omega arith))
-    go false d = getD-set-other w (INDICATORS-AT + k) (INDICATORS-AT + i) v 0 (λ e. eqb-false k i d (omega arith))
 
 -- How many of a walk's two looks have passed at a place.
 abbrev pub passedAt : ℕ → ℕ

@@ -10,7 +10,7 @@ use Rattle.calls.specs.declared.Reply.{Reply}
 use Rattle.calls.specs.declared.Reply.the-variants.{Made, At, Left, Written, Synced, Raised, Walked, Refused}
 use Rattle.calls.specs.declared.WalkReply.the-variants.{Waiting, Spent, Quiet, Returned}
 use Rattle.calls.specs.Rows.{anyBelow, countBelow}
-use Rattle.layout.specs.Layout.{readerAt, publisherAt, withReader, withPublisher, withReaders, fresh}
+use Rattle.layout.specs.Layout.{indicator, readerAt, publisherAt, withReader, withPublisher, withReaders, fresh}
 use Rattle.statement.specs.Machine.{Given, given}
 use Rattle.statement.specs.Examples.{Example, Holds, lentFor, stateAfter, enters, published}
 use Rattle.statement.specs.Examples.Example.{shows, unchanged}
@@ -61,12 +61,12 @@ pub record Bench : Type 0 where
 
 -- The reply of P6's call, at the state that it starts from.
 p6-spent : step rules (stateAfter TwoPhase (making rules (given 1 1 2 0) (lentFor (given 1 1 2 0)) .after) (published 0 1 (pos 100) ++ (Sync 0 ∷ Walk 0 1 ∷ Raise 0 ∷ []))) (Walk 0 0) .reply ≡ Walked Spent
-unfolding readerAt publisherAt withReader withPublisher withReaders fresh anyBelow countBelow damaged onward lookAt step making
+unfolding indicator readerAt publisherAt withReader withPublisher withReaders fresh anyBelow countBelow damaged onward lookAt step making
 p6-spent = refl
 
 p6-same : Holds P6-unchanged
 p6-same = old-walk-zero _ 0 p6-spent
 
 pub bench : Bench
-unfolding readerAt publisherAt withReader withPublisher withReaders fresh anyBelow countBelow damaged onward lookAt step making
+unfolding indicator readerAt publisherAt withReader withPublisher withReaders fresh anyBelow countBelow damaged onward lookAt step making
 bench = record { p5 = refl; p6 = refl; p6-unchanged = p6-same; p9 = refl; p10 = refl; p11 = refl }

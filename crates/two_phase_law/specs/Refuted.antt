@@ -86,12 +86,12 @@ trapped : List Event
 trapped = (Sync 1 ⇒ Synced 2) ∷ (Raise 0 ⇒ Raised) ∷ (Walk 1 1 ⇒ Walked Spent) ∷ (Walk 1 1 ⇒ Walked (Returned 1 0)) ∷ []
 
 trap-events : events Published (afterAll Published start before) trap ≡ trapped
-unfolding Published publishedStep breaksOff several start small before trap trapped readerAt publisherAt withReader withPublisher withReaders fresh anyBelow countBelow damaged onward lookAt step making
+unfolding Published publishedStep breaksOff several start small before trap trapped indicator readerAt publisherAt withReader withPublisher withReaders fresh anyBelow countBelow damaged onward lookAt step making
 trap-events = refl
 
 -- The reader's section is open then ..
 reader-inside : toldBy (events Published start before) .inside 0 ≡ true
-unfolding Published publishedStep breaksOff several start small before readerAt publisherAt withReader withPublisher withReaders fresh anyBelow countBelow damaged onward lookAt step making
+unfolding Published publishedStep breaksOff several start small before indicator readerAt publisherAt withReader withPublisher withReaders fresh anyBelow countBelow damaged onward lookAt step making
 reader-inside = refl
 
 start-fresh : Fresh Published start

@@ -24,8 +24,8 @@ use Rattle.calls.specs.Told.{tell}
 use Rattle.layout.specs.declared.Reader.{Reader}
 use Rattle.layout.specs.declared.Publisher.{Publisher}
 use Rattle.layout.specs.declared.Progress.{Progress}
-use Rattle.layout.specs.Layout.{HEAD, READERS-AT, VERSION-AT, INDICATORS-AT, readers, publishers, slots, current, version, indicator, readerAt, publisherAt, withReader, withIndicator, noReader}
-use Rattle.layout.specs.Laws.{length-reader, head-reader, fresh-head, fresh-reader, fresh-publisher}
+use Rattle.layout.specs.Layout.{HEAD, INDICATORS, READERS-AT, VERSION-AT, INDICATORS-AT, readers, publishers, slots, current, version, indicator, readerAt, publisherAt, withReader, withIndicator, noReader}
+use Rattle.layout.specs.Laws.{length-reader, indicator-reader, indicator-put, fresh-indicator, fresh-reader, fresh-publisher}
 use Rattle.statement.specs.Machine.{State, state, Outcome, Given}
 use Rattle.statement.specs.Kept.{Pend, Ghost, ghost₀, Back}
 use Rattle.statement.specs.Kept as kept
@@ -42,7 +42,7 @@ use Rattle.publication_law.specs.Invariant.{formers, CoreOf, reader-moved}
 use Rattle.publication_law.specs.Keeps.{KindLaw, VersionsLaw, up-to-law, publisher-fine, sync-keeps, raise-keeps, walk-keeps, syncing-in-order}
 use Rattle.publication_law.specs.Lawful.{Good, Lawful, firstTable, traitsOf}
 use Rattle.two_phase_law.specs.Steps.{LAST, versions, kind, readerRows, parity, addedTo, onward, entered, enterWords, leaving, leaveWords, watched, looksOf, lookAt, rules}
-use Rattle.two_phase_law.specs.Counts.{two, Counted, counted-to, none-added, stays-counted, arrives-counted, leaves-counted, counted-same, indicator-set, passedAt, Looked, look-turn, looked}
+use Rattle.two_phase_law.specs.Counts.{Counted, counted-to, none-added, stays-counted, arrives-counted, leaves-counted, passedAt, Looked, look-turn, looked}
 
 law : KindLaw kind
 law = record {
@@ -130,17 +130,14 @@ leave-moves : (s : State) → Fine kind s → (r : ℕ) → r < readers (s .word
 leave-moves s f r l = moves-indicator _ _ r _ (moves-reader (s .words) r (leaving (reader s r)) (f .head .long) (omega (arith, f .head .readers-high)))
     (INDICATORS-AT + parity (reader s r .first)) _ (omega arith) (omega arith)
 
--- The indicators after a reader is written, and with one of them anew.
-reader-indicator : (w : List ℕ) (r : ℕ) (x : Reader) (i : ℕ) → i < 2 → indicator (withReader w r x) i ≡ indicator w i
-reader-indicator w r x i l = head-reader w r x (INDICATORS-AT + i) (omega arith)
-
-changed-indicator : (w : List ℕ) → HEAD ≤ length w → (r : ℕ) (x : Reader) (k : ℕ) → k < 2 → (d : ℕ → ℕ) (i : ℕ) → i < 2
+-- The indicators after a reader is written, with one of them anew.
+changed-indicator : (w : List ℕ) → HEAD ≤ length w → (r : ℕ) (x : Reader) (k : ℕ) → k < INDICATORS → (d : ℕ → ℕ) (i : ℕ)
     → indicator (withIndicator (withReader w r x) k (d (indicator w k))) i ≡ pick (eqb k i) (d (indicator w i)) (indicator w i)
-changed-indicator w len r x k k2 d i i2 = indicator-set (withReader w r x) k (d (indicator w k)) i k2 (rw (length-reader w r x) len) ∙ go (eqb k i) refl
+changed-indicator w len r x k low d i = indicator-put (withReader w r x) k (d (indicator w k)) low (rw (length-reader w r x) len) i ∙ rw (indicator-reader w r x) (go (eqb k i) refl)
   where
-    go : (b : Bool) → eqb k i ≡ b → pick b (d (indicator w k)) (indicator (withReader w r x) i) ≡ pick b (d (indicator w i)) (indicator w i)
+    go : (b : Bool) → eqb k i ≡ b → pick b (d (indicator w k)) (indicator w i) ≡ pick b (d (indicator w i)) (indicator w i)
     go true e = rw (eqb-true k i e) refl
-    go false e = reader-indicator w r x i i2
+    go false e = refl
 
 -- The kind's own numbers, as a reader or a publisher moves.
 module _ (w : Pend) (n : ℕ) (ind : ℕ → ℕ) (R : ℕ → Reader) (P : ℕ → Publisher) (o : Own w n ind R P) where
@@ -151,13 +148,13 @@ module _ (w : Pend) (n : ℕ) (ind : ℕ → ℕ) (R : ℕ → Reader) (P : ℕ 
     indicators = c;
   }
 
-  publisher-own : (p : ℕ) (y : Publisher) (w′ : Pend) (ind′ : ℕ → ℕ) → ((q r : ℕ) → eqb q p ≡ false → w′ q r ≡ w q r) → ((i : ℕ) → i < 2 → ind′ i ≡ ind i)
+  publisher-own : (p : ℕ) (y : Publisher) (w′ : Pend) → ((q r : ℕ) → eqb q p ≡ false → w′ q r ≡ w q r)
       → ((r : ℕ) → w′ p r ≡ true → 36 ≤ y .place → parity (R r .first) ≢ parity (y .walk .mark))
-      → (35 ≤ y .place → y .walk .looks ≡ passedAt (y .place) + y .walk .waits) → Own w′ n ind′ R (upd P p y)
-  publisher-own p y w′ ind′ others same-ind a c = record {
+      → (35 ≤ y .place → y .walk .looks ≡ passedAt (y .place) + y .walk .waits) → Own w′ n ind R (upd P p y)
+  publisher-own p y w′ others a c = record {
     behind = at-or p (rw (same p) a) (λ q e r. rw (e, others q r e) (o .behind q r));
     looks-counted = at-or p (rw (same p) c) (λ q e. rw e (o .looks-counted q));
-    indicators = counted-same n ind ind′ R same-ind (o .indicators);
+    indicators = o .indicators;
   }
 
 -- Each of the kind's own steps keeps the invariant.
@@ -176,8 +173,7 @@ module _ (z : Given) (g : Ghost) (s : State) (i : Good kind OwnOf z g s) where
   in-added x k l = rw (le-leb 4 (x .place) l) refl
 
   same-counted : (r : ℕ) (x : Reader) → r < readers (s .words) → ((k : ℕ) → addedTo k x ≡ addedTo k (reader s r)) → Counted (readers (s .words)) (indicator (withReader (s .words) r x)) (upd (readerAt (s .words)) r x)
-  same-counted r x rn e = counted-same (readers (s .words)) (indicator (s .words)) (indicator (withReader (s .words) r x)) (upd (readerAt (s .words)) r x) (λ k k2. reader-indicator (s .words) r x k k2)
-      (stays-counted (readers (s .words)) (indicator (s .words)) (readerAt (s .words)) (i .own .indicators) r rn x e)
+  same-counted r x rn e = rw (indicator-reader (s .words) r x) (stays-counted (readers (s .words)) (indicator (s .words)) (readerAt (s .words)) (i .own .indicators) r rn x e)
 
   arrived : (r pl : ℕ) → r < readers (s .words) → reader s r .place ≡ pl → pl ≤ 4 → pl ≢ 2 → pl ≢ 3 → Counted (readers (s .words)) (indicator (enterWords s r)) (upd (readerAt (s .words)) r (entered s r))
   unfolding onward
@@ -186,7 +182,7 @@ module _ (z : Given) (g : Ghost) (s : State) (i : Good kind OwnOf z g s) where
       rw (eq-eqb (reader s r .place) 0 e, ne-eqb (reader s r .place) 1 (λ q. omega arith)) (same-counted r x rn (λ k. sym (out-added (reader s r) k (omega arith))))
   arrived r (suc zero) rn e l n2 n3 = rw (ne-eqb (reader s r .place) 0 (λ q. omega arith), eq-eqb (reader s r .place) 1 e)
       (arrives-counted _ (indicator (s .words)) (readerAt (s .words)) (i .own .indicators) r rn _ _ (omega arith) (omega arith)
-      (λ k k2. changed-indicator (s .words) head-long r _ (parity (reader s r .first)) (omega arith) (λ n. n + 1) k k2))
+      (λ k _. changed-indicator (s .words) head-long r _ (parity (reader s r .first)) (omega arith) (λ n. n + 1) k))
   arrived r (suc (suc zero)) rn e l n2 n3 = absurd (n2 refl)
   arrived r (suc (suc (suc zero))) rn e l n2 n3 = absurd (n3 refl)
   arrived r (suc (suc (suc (suc zero)))) rn e l n2 n3 =
@@ -227,15 +223,15 @@ module _ (z : Given) (g : Ghost) (s : State) (i : Good kind OwnOf z g s) where
             (λ p q. pick-split (λ (b : Bool). b ≡ true → g .pend p q ≡ true) (eqb q r) (λ _ e. clash (sym e)) (λ _ e. e))
             (λ p. rw (same r) (λ e. clash (sym e)))
             (leaves-counted _ (indicator (s .words)) (readerAt (s .words)) (i .own .indicators) r lt _ _ inside (omega arith)
-            (λ k k2. changed-indicator (s .words) head-long r _ (parity (reader s r .first)) (omega arith) (λ n. n - 1) k k2)));
+            (λ k _. changed-indicator (s .words) head-long r _ (parity (reader s r .first)) (omega arith) (λ n. n - 1) k)));
       }
 
   -- A publisher's move.
   moved-own : (g′ : Ghost) (w′ : List ℕ) (es′ : List ℤ) (p : ℕ) (y : Publisher) (cur ver rel : ℕ) → MovesPublisher (s .words) w′ p y cur ver rel → ((q r : ℕ) → eqb q p ≡ false → g′ .pend q r ≡ g .pend q r)
       → ((r : ℕ) → g′ .pend p r ≡ true → 36 ≤ y .place → parity (reader s r .first) ≢ parity (y .walk .mark))
       → (35 ≤ y .place → y .walk .looks ≡ passedAt (y .place) + y .walk .waits) → OwnOf g′ (state w′ es′)
-  moved-own g′ w′ es′ p y cur ver rel m others a c = rw (m .head READERS-AT (omega arith), m .readers-stay, m .publishers-are)
-      (publisher-own _ _ _ _ _ (i .own) p y _ _ others (λ k k2. m .tail (INDICATORS-AT + k) (omega arith) (omega arith)) a c)
+  moved-own g′ w′ es′ p y cur ver rel m others a c = rw (m .head READERS-AT (omega arith), m .indicators-stay, m .readers-stay, m .publishers-are)
+      (publisher-own _ _ _ _ _ (i .own) p y _ others a c)
 
   sync-kept : (p : ℕ) → AllClear (syncTests versions s p) → Good kind OwnOf z (kept.onward g (Sync p) (Synced (version (s .words) + 1))) (sync versions s p .after)
   sync-kept p f =
@@ -349,14 +345,14 @@ module _ (z : Given) (g : Ghost) (s : State) (i : Good kind OwnOf z g s) where
 
 early-own : (g g′ : Ghost) (s : State) (w′ : List ℕ) (es′ : List ℤ) (p : ℕ) (y : Publisher) (cur rel : ℕ) → OwnOf g s → g′ .pend ≡ g .pend
     → MovesPublisher (s .words) w′ p y cur (version (s .words)) rel → y .walk ≡ publisher s p .walk → y .place ≤ 34 → OwnOf g′ (state w′ es′)
-early-own g g′ s w′ es′ p y cur rel o same-pend m e low = rw (same-pend, m .head READERS-AT (omega arith), m .readers-stay, m .publishers-are)
-    (publisher-own _ _ _ _ _ o p y _ _ (λ q r d. refl) (λ k k2. m .tail (INDICATORS-AT + k) (omega arith) (omega arith)) (λ r q l. absurd (omega arith)) (λ l. absurd (omega arith)))
+early-own g g′ s w′ es′ p y cur rel o same-pend m e low = rw (same-pend, m .head READERS-AT (omega arith), m .indicators-stay, m .readers-stay, m .publishers-are)
+    (publisher-own _ _ _ _ _ o p y _ (λ q r d. refl) (λ r q l. absurd (omega arith)) (λ l. absurd (omega arith)))
 
 start-own : (z : Given) (s : State) → OwnOf (ghost₀ firstTable) (made KIND-OLD noReader z s)
 start-own z s = record {
   behind = λ p r e. clash (sym e);
   looks-counted = λ p. rw (fresh-publisher KIND-OLD (z .readers) (z .publishers) (z .slots) (z .version) noReader p) (λ l. absurd (omega arith));
-  indicators = two _ (zero-indicator 0 (omega arith) refl) (zero-indicator 1 (omega arith) refl);
+  indicators = λ k _. fresh-indicator KIND-OLD (z .readers) (z .publishers) (z .slots) (z .version) noReader k ∙ sym (count-none (λ r. addedTo k (readerAt w r)) (readers w) (λ r l. none k r));
 }
   where
     w : List ℕ
@@ -364,10 +360,6 @@ start-own z s = record {
 
     none : (k r : ℕ) → addedTo k (readerAt w r) ≡ false
     none k r = rw (fresh-reader KIND-OLD (z .readers) (z .publishers) (z .slots) (z .version) noReader r) (pick-split (λ (x : Reader). addedTo k x ≡ false) (ltb r READERS-MAX) (λ _. refl) (λ _. refl))
-
-    zero-indicator : (k : ℕ) → k < 2 → _≡_ {A = ℕ} (pick (eqb (INDICATORS-AT + k) VERSION-AT) (z .version) (pick (eqb (INDICATORS-AT + k) 3) (z .slots) (pick (eqb (INDICATORS-AT + k) 2) (z .publishers) (pick (eqb (INDICATORS-AT + k) 1) (z .readers) (pick (eqb (INDICATORS-AT + k) 0) KIND-OLD 0))))) 0
-        → indicator w k ≡ countBelow (λ r. addedTo k (readerAt w r)) (readers w)
-    zero-indicator k k2 e = fresh-head KIND-OLD (z .readers) (z .publishers) (z .slots) (z .version) noReader (INDICATORS-AT + k) (omega arith) ∙ (e ∙ sym (count-none (λ r. addedTo k (readerAt w r)) (readers w) (λ r l. none k r)))
 
 -- All that only the old store can show: a walk passes two looks, ENTER goes 1, 4, 5.
 pub lawful : Lawful rules (λ z. 2) placeOn
