@@ -23,6 +23,9 @@ asked-below n i l = l
 pub asked-all : (n r : ℕ) → r < n → (i : ℕ) × (i < n) × (asked n i ≡ r)
 asked-all n r l = (r, l, refl)
 
+not-below : (a b c : ℕ) → c ≤ b → ltb a b ≡ false → c ≤ a
+not-below a b c l e = omega (arith, ltb-false a b e)
+
 -- What an answer says of the numbers that it comes with.
 abbrev pub Ends : ℕ → ℕ → ℕ → ℕ → WalkReply → Type 0
 Ends n next looks waits (Waiting r) = next < n
@@ -54,7 +57,13 @@ module _ (w : List ℕ) (n mark waits : ℕ) where
       go i b true d a = rw (eqb-true i next d) e
       go i b false d a = o .passed i (let ne = eqb-false i next d in omega arith) b
 
-  -- the last reader passed
+  -- A look that does not pass ends the walk's slice; one that passes goes on with k.
+  one-look : (waiting : Bool) (next looks : ℕ) (k : Progress) → next < n → (waiting ≡ false → mark ≤ readerAt w (asked n next) .published) → Looked w n mark (next + 1) (looks + 1) waits k
+      → Looked w n mark next looks waits (pick waiting (progress mark next (looks + 1) (waits + 1) (Waiting (asked n next))) k)
+  one-look true next looks k l e o = record { mark-same = refl; ahead = omega arith; passed = λ i a c. absurd (omega arith); ends = l; counted = omega arith; waits-are = refl }
+  one-look false next looks k l e o = passed-one next looks k (e refl) o
+
+  -- The last reader passed.
   last-passed : (next looks : ℕ) → next < n → n ≤ next + 1 → Looked w n mark (next + 1) (looks + 1) waits (progress mark (next + 1) (looks + 1) waits (Returned (looks + 1) waits))
   last-passed next looks l le = record {
     mark-same = refl;
@@ -68,8 +77,7 @@ module _ (w : List ℕ) (n mark waits : ℕ) where
   pub looked : (b next looks : ℕ) → next < n → Looked w n mark next looks waits (looksFrom w n mark waits b next looks)
   unfolding looksFrom
   looked zero next looks l = record { mark-same = refl; ahead = omega arith; passed = λ i a c. absurd (omega arith); ends = l; counted = refl; waits-are = refl }
-  looked (suc b) next looks l = pick-split (Looked w n mark next looks waits) (ltb (readerAt w (asked n next) .published) mark)
-      (λ _. record { mark-same = refl; ahead = omega arith; passed = λ i a c. absurd (omega arith); ends = l; counted = omega arith; waits-are = refl })
-      (λ e. pick-split (Looked w n mark next looks waits) (leb n (next + 1))
-      (λ d. passed-one next looks _ (omega (arith, ltb-false)) (last-passed next looks l (leb-true n (next + 1) d)))
-      (λ d. passed-one next looks _ (omega (arith, ltb-false)) (looked b (next + 1) (looks + 1) (leb-false n (next + 1) d))))
+  looked (suc b) next looks l = one-look _ next looks _ l (not-below _ _ mark (omega arith))
+      (pick-split (Looked w n mark (next + 1) (looks + 1) waits) (leb n (next + 1))
+      (λ d. last-passed next looks l (leb-true n (next + 1) d))
+      (λ d. looked b (next + 1) (looks + 1) (leb-false n (next + 1) d)))
