@@ -1,4 +1,4 @@
--- Document 01's number and values of each reply, as C gets them: three numbers of 64 bits.
+-- The number and values of each reply, as C gets them, three numbers of 64 bits: document 01's number for a refusal, ours from 100 up for the rest.
 use Prim.Native.Nat.{ℕ, _-_}
 use lib.IntN.{ℤ, pos, negsuc}
 use Rattle.calls.specs.declared.Reply.{Reply}

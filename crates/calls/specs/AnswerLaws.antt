@@ -1,4 +1,4 @@
--- Two different replies never have the same three numbers: a reply can be read back from its answer. Assumes nothing.
+-- Two different replies, with pitches of 64 bits and refusals below 100, never have the same three numbers: a reply can be read back. Assumes nothing.
 use Prim.Native.Nat.{ℕ, zero, suc, _-_, _<_}
 use native.Mathlib.Omega.{arith}
 use mathlib.Core.Path.{_≡_, refl, sym, ap, _∙_}

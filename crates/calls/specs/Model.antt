@@ -4,10 +4,12 @@ use mathlib.Core.Bool.{Bool, true, false}
 use mathlib.Core.List.{List, [], _∷_, _++_}
 use mathlib.Core.Option.{Option, none, some}
 use lib.IntN.{ℤ}
+use lib.ListN.{replicate}
 use Rattle.calls.specs.declared.Call.{Call}
 use Rattle.calls.specs.declared.Call.the-variants.{Enter, Look, Leave, Claim, Write, Swap, Sync, Raise, Walk, Release}
 use Rattle.calls.specs.declared.Reply.{Reply}
 use Rattle.calls.specs.Base.{pick, upd, is}
+use Rattle.calls.specs.Numbers.{TABLE, FEATHERED}
 use Rattle.calls.specs.Events.{Event, placeOf, foldEvents}
 
 -- It has one table, a note per reader and a draft per publisher.
@@ -15,6 +17,10 @@ pub record Model : Type 0 where
   pub table : List ℤ
   pub note : ℕ → List ℤ
   pub draft : ℕ → List ℤ
+
+-- One table (first all 9000).
+abbrev pub firstTable : List ℤ
+firstTable = replicate TABLE FEATHERED
 
 -- At first: the first table, no notes and no drafts.
 abbrev pub model₀ : List ℤ → Model

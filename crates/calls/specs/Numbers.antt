@@ -46,7 +46,7 @@ KIND-NEW = 1
 abbrev pub KIND-OLD : ℕ
 KIND-OLD = 2
 
--- Refused, by where it is checked.
+-- Refusal numbers.
 abbrev pub DAMAGED : ℕ
 DAMAGED = 1
 

@@ -6,7 +6,7 @@ use mathlib.Core.Logic.{_≢_}
 use mathlib.Core.Bool.{Bool, true, false, not, _&&_, _||_}
 use mathlib.Core.List.{List, [], _∷_}
 use lib.Dec.{leb, ltb, eqb}
-use borrow.Author.Tests.{eqb-true, eqb-false, eq-eqb, ltb-true, ltb-false, le-ltb}
+use borrow.Author.Tests.{eqb-true, eqb-false, eq-eqb, ltb-true, ltb-false, lt-ltb, le-ltb}
 use Rattle.calls.specs.Base.{pick, upd}
 use Rattle.calls.specs.Rows.{Test, firstOf, anyTrue, anyBelow, countBelow, outside}
 use Rattle.calls.specs.Rows.Test.{_gives_}
@@ -79,35 +79,32 @@ abbrev pub AllClear : List Test → Type 0
 AllClear [] = Unit {0}
 AllClear ((b gives n) ∷ l) = (b ≡ false) × AllClear l
 
--- Each number is one that document 01 gives: from 1 to 99.
-abbrev pub allNumbers : List Test → Bool
-allNumbers [] = true
-allNumbers ((b gives n) ∷ l) = (ltb 0 n && ltb n 100) && allNumbers l
+-- Each number is above low and below 100.
+abbrev pub allAbove : ℕ → List Test → Bool
+allAbove low [] = true
+allAbove low ((b gives n) ∷ l) = (ltb low n && ltb n 100) && allAbove low l
 
-pub clear : (l : List Test) → allNumbers l ≡ true → firstOf l ≡ 0 → AllClear l
+pub all-above : (low m : ℕ) → m ≤ low → (l : List Test) → allAbove low l ≡ true → allAbove m l ≡ true
+all-above low m le [] p = refl
+all-above low m le ((b gives n) ∷ l) p =
+    let q = and-true (ltb low n && ltb n 100) (allAbove low l) p in
+    let r = and-true (ltb low n) (ltb n 100) (q .0) in
+    rw (lt-ltb m n (omega (arith, ltb-true low n (r .0))), r .1) (all-above low m le l (q .1))
+
+pub clear : (l : List Test) → allAbove 0 l ≡ true → firstOf l ≡ 0 → AllClear l
 clear [] p e = tt
-clear ((true gives n) ∷ l) p e =
-    absurd (omega (arith, ltb-true 0 n (and-true (ltb 0 n) (ltb n 100) (and-true (ltb 0 n && ltb n 100) (allNumbers l) p .0) .0)))
-clear ((false gives n) ∷ l) p e = (refl, clear l (and-true (ltb 0 n && ltb n 100) (allNumbers l) p .1) e)
+clear ((true gives n) ∷ l) p e = absurd (omega (arith, ltb-true 0 n (and-true (ltb 0 n) (ltb n 100) (and-true (ltb 0 n && ltb n 100) (allAbove 0 l) p .0) .0)))
+clear ((false gives n) ∷ l) p e = (refl, clear l (and-true (ltb 0 n && ltb n 100) (allAbove 0 l) p .1) e)
 
 pub none-applies : (l : List Test) → AllClear l → firstOf l ≡ 0
 none-applies [] f = refl
 none-applies ((b gives n) ∷ l) f = rw (f .0) (none-applies l (f .1))
 
-pub first-below : (l : List Test) → allNumbers l ≡ true → firstOf l < 100
-first-below [] p = omega arith
-first-below ((true gives n) ∷ l) p = ltb-true n 100 (and-true (ltb 0 n) (ltb n 100) (and-true (ltb 0 n && ltb n 100) (allNumbers l) p .0) .1)
-first-below ((false gives n) ∷ l) p = first-below l (and-true (ltb 0 n && ltb n 100) (allNumbers l) p .1)
-
--- Every number of the rows is above k.
-abbrev pub allAbove : ℕ → List Test → Bool
-allAbove k [] = true
-allAbove k ((b gives n) ∷ l) = ltb k n && allAbove k l
-
-pub first-above : (k : ℕ) (l : List Test) → allAbove k l ≡ true → firstOf l ≢ 0 → k < firstOf l
-first-above k [] p ne = absurd (ne refl)
-first-above k ((true gives n) ∷ l) p ne = ltb-true k n (and-true (ltb k n) (allAbove k l) p .0)
-first-above k ((false gives n) ∷ l) p ne = first-above k l (and-true (ltb k n) (allAbove k l) p .1) ne
+-- A number that is given is one of the rows'.
+pub first-within : (low : ℕ) (l : List Test) → allAbove low l ≡ true → firstOf l ≢ 0 → (low < firstOf l) × (firstOf l < 100)
+first-within low [] p ne = absurd (ne refl)
+first-within low ((true gives n) ∷ l) p ne = let q = and-true (ltb low n) (ltb n 100) (and-true (ltb low n && ltb n 100) (allAbove low l) p .0) in (ltb-true low n (q .0), ltb-true n 100 (q .1))
+first-within low ((false gives n) ∷ l) p ne = first-within low l (and-true (ltb low n && ltb n 100) (allAbove low l) p .1) ne
 
 abbrev pub AllFalse : List Bool → Type 0
 AllFalse [] = Unit {0}
@@ -140,6 +137,13 @@ none-below f (suc n) i e lt = let q = or-false (anyBelow f n) (f n) e in go (eqb
     go : (b : Bool) → eqb i n ≡ b → f n ≡ false → (i < n → f i ≡ false) → f i ≡ false
     go true d here there = rw (eqb-true i n d) here
     go false d here there = there (below-suc i n lt d)
+
+pub some-below : (f : ℕ → Bool) (n i : ℕ) → i < n → f i ≡ true → anyBelow f n ≡ true
+some-below f n i l e = go (anyBelow f n) refl
+  where
+    go : (b : Bool) → anyBelow f n ≡ b → anyBelow f n ≡ true
+    go true d = d
+    go false d = absurd (not-both (f i) e (none-below f n i d l))
 
 pub no-below : (f : ℕ → Bool) (n : ℕ) → ((i : ℕ) → i < n → f i ≡ false) → anyBelow f n ≡ false
 unfolding anyBelow

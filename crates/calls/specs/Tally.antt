@@ -11,7 +11,7 @@ use Rattle.calls.specs.declared.WalkReply.the-variants.{Waiting, Spent, 
 use Rattle.calls.specs.Base.{pick, upd}
 use Rattle.calls.specs.Events.{Event, placeOf, walkOf, foldEvents}
 
--- What a publisher did last, of CLAIM, SWAP, SYNC, a WALK that returned and RELEASE.
+-- What a publisher did last, of CLAIM, SWAP, SYNC, a WALK that returned and RELEASE; idle if nothing yet.
 pub data Phase : Type 0 where
   idle : Phase
   writing : Phase
@@ -44,12 +44,12 @@ withWaits y p n = record { place = y .place; phase = y .phase; waits = upd (y .w
 abbrev pub withReleases : Tally → ℕ → Tally
 withReleases y n = record { place = y .place; phase = y .phase; waits = y .waits; releases = n }
 
-abbrev pub walked : Tally → ℕ → Option WalkReply → Tally
-walked y p none = y
-walked y p (some (Waiting w)) = withWaits y p (suc (y .waits p))
-walked y p (some Spent) = y
-walked y p (some Quiet) = y
-walked y p (some (Returned l w)) = withPhase y p returned
+abbrev pub withWalk : Tally → ℕ → Option WalkReply → Tally
+withWalk y p none = y
+withWalk y p (some (Waiting w)) = withWaits y p (suc (y .waits p))
+withWalk y p (some Spent) = y
+withWalk y p (some Quiet) = y
+withWalk y p (some (Returned l w)) = withPhase y p returned
 
 abbrev pub tally : Tally → Call → Reply → Tally
 tally y (Enter r) a = withPlace y r (placeOf a)
@@ -60,7 +60,7 @@ tally y (Write p v) a = y
 tally y (Swap p) a = withPhase y p swapped
 tally y (Sync p) a = withWaits (withPhase y p syncing) p 0
 tally y (Raise p) a = y
-tally y (Walk p b) a = walked y p (walkOf a)
+tally y (Walk p b) a = withWalk y p (walkOf a)
 tally y (Release p) a = withReleases (withPhase y p idle) (suc (y .releases))
 
 abbrev pub tallyOf : List Event → Tally

@@ -1,9 +1,10 @@
 -- Demand 3's words, told by the calls alone: which sections are open, what was picked in them, and who holds which slot.
 use Prim.Native.Nat.{ℕ}
-use mathlib.Core.Bool.{Bool, true, false, _&&_, _||_}
+use mathlib.Core.Bool.{Bool, true, false, _||_}
 use mathlib.Core.List.{List}
 use mathlib.Core.Option.{Option, none, some}
 use mathlib.Core.Path.{_≡_}
+use lib.Dec.{eqb}
 use Rattle.calls.specs.declared.Call.{Call}
 use Rattle.calls.specs.declared.Call.the-variants.{Enter, Look, Leave, Claim, Write, Swap, Sync, Raise, Walk, Release}
 use Rattle.calls.specs.declared.Reply.{Reply}
@@ -17,15 +18,15 @@ pub record Told : Type 0 where
   pub picked : ℕ → Option ℕ
   -- the current slot
   pub current : Option ℕ
-  -- the slot of a publisher's last accepted CLAIM, and whether a SWAP has still to follow it
+  -- the slot of a publisher's last accepted CLAIM, and the slots of its CLAIMs since its last SWAP
   pub claim : ℕ → Option ℕ
-  pub writes : ℕ → Bool
+  pub writing : ℕ → ℕ → Bool
   -- the slots that were current just before an accepted SWAP of a publisher's own, until its RELEASE
   pub former : ℕ → ℕ → Bool
 
 -- Slot 0 is current at first.
 abbrev pub told₀ : Told
-told₀ = record { inside = λ r. false; picked = λ r. none; current = some 0; claim = λ p. none; writes = λ p. false; former = λ p x. false }
+told₀ = record { inside = λ r. false; picked = λ r. none; current = some 0; claim = λ p. none; writing = λ p x. false; former = λ p x. false }
 
 -- A reader's section, and what it picked in it.
 abbrev pub withSection : Told → ℕ → Bool → Option ℕ → Told
@@ -34,7 +35,7 @@ withSection t r i x = record {
   picked = upd (t .picked) r x;
   current = t .current;
   claim = t .claim;
-  writes = t .writes;
+  writing = t .writing;
   former = t .former;
 }
 
@@ -49,7 +50,7 @@ claimed t p s = record {
   picked = t .picked;
   current = t .current;
   claim = upd (t .claim) p (some s);
-  writes = upd (t .writes) p true;
+  writing = upd (t .writing) p (λ x. eqb s x || t .writing p x);
   former = t .former;
 }
 
@@ -61,7 +62,7 @@ swapped t p = record {
   picked = t .picked;
   current = t .claim p;
   claim = t .claim;
-  writes = upd (t .writes) p false;
+  writing = upd (t .writing) p (λ x. false);
   former = upd (t .former) p (λ x. is (t .current) x || t .former p x);
 }
 
@@ -72,7 +73,7 @@ released t p = record {
   picked = t .picked;
   current = t .current;
   claim = t .claim;
-  writes = t .writes;
+  writing = t .writing;
   former = upd (t .former) p (λ x. false);
 }
 
@@ -93,7 +94,7 @@ abbrev pub toldBy : List Event → Told
 toldBy es = foldEvents tell told₀ es
 
 abbrev pub holds : Told → ℕ → ℕ → Bool
-holds t p x = (t .writes p && is (t .claim p) x) || t .former p x
+holds t p x = t .writing p x || t .former p x
 
 -- A slot's role: current, held by a publisher, or free. Every slot that is neither of the first two is free.
 pub data Role : Type 0 where

@@ -5,6 +5,7 @@
 // A pitch, in hundredths of a degree.
 pub type Pitch = i16;
 
+// Its width, and its range.
 pub const PITCH_BITS: u32 = 16;
 
 pub const PITCH_LOW: Pitch = -500;
@@ -22,7 +23,7 @@ pub const SLOTS_MIN: u16 = 2;
 pub const SLOTS_MAX: u16 = 32;
 // Entries of one table.
 pub const TABLE: usize = 32;
-// What a reader publishes that is in no section.
+// What LEAVE publishes, and what a fresh reader has published.
 pub const NOT_READING: u64 = 18446744073709551615;
 
 // The kind word of a store's words.
@@ -30,7 +31,7 @@ pub const KIND_NEW: u64 = 1;
 
 pub const KIND_OLD: u64 = 2;
 
-// Refusal numbers, in the order of document 01's table.
+// Refusal numbers.
 pub const DAMAGED: u64 = 1;
 
 pub const BAD_READERS: u64 = 2;

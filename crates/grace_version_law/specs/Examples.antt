@@ -2,17 +2,16 @@
 use Prim.Native.Nat.{ℕ}
 use mathlib.Core.Path.{_≡_, refl}
 use mathlib.Core.List.{List, [], _∷_, _++_}
-use lib.IntN.{ℤ, pos, negℤ}
-use lib.ListN.{replicate}
+use lib.IntN.{pos}
 use Rattle.calls.specs.declared.Call.{Call}
-use Rattle.calls.specs.declared.Call.the-variants.{Enter, Look, Leave, Claim, Write, Swap, Sync, Raise, Walk, Release}
+use Rattle.calls.specs.declared.Call.the-variants.{Enter, Look, Leave, Claim, Swap, Sync, Raise, Walk, Release}
 use Rattle.calls.specs.declared.Reply.{Reply}
-use Rattle.calls.specs.declared.Reply.the-variants.{Made, At, Pitch, Left, Claimed, Written, Synced, Raised, Shared, Walked, Refused}
+use Rattle.calls.specs.declared.Reply.the-variants.{Made, At, Pitch, Left, Claimed, Swapped, Synced, Raised, Shared, Walked, Freed, Refused}
 use Rattle.calls.specs.declared.WalkReply.the-variants.{Waiting, Spent, Returned}
 use Rattle.calls.specs.Rows.{anyBelow}
 use Rattle.layout.specs.Layout.{readerAt, publisherAt, withReader, withPublisher, withReaders, fresh}
 use Rattle.statement.specs.Machine.{Given, given}
-use Rattle.statement.specs.Examples.{Example, Holds, lentFor, stateAfter, enters, published}
+use Rattle.statement.specs.Examples.{Example, AllHold, leadTo, enters, tableOf, publication, P9, P10}
 use Rattle.statement.specs.Examples.Example.{shows, unchanged}
 use Rattle.publication_law.specs.Rules.{damaged, step, making}
 use Rattle.grace_version_law.specs.Steps.{rules, GraceVersion, onward, looksFrom}
@@ -26,57 +25,42 @@ P1 = shows GraceVersion (given 1 1 2 0) []
 
 -- P2: two publishers SYNC at version 0, both marks 1; first RAISE raised, second shared.
 abbrev pub P2 : Example
-P2 = shows GraceVersion (given 1 2 3 0) (published 0 1 (pos 100) ++ published 1 2 (pos 200))
+P2 = shows GraceVersion (given 1 2 3 0) (publication 0 1 (pos 100) ++ publication 1 2 (pos 200))
     (Sync 0 ∷ Sync 1 ∷ Raise 0 ∷ Raise 1 ∷ [])
     (Made ∷ Synced 1 ∷ Synced 1 ∷ Raised ∷ Shared ∷ [])
 
 -- P3: 2 readers, reader 1 open at 0: SYNC, RAISE, WALK 10: waiting 1. After LEAVE, WALK 10: returned 3 1.
 abbrev pub P3 : Example
-P3 = shows GraceVersion (given 2 1 2 0) (enters 4 1 ++ published 0 1 (pos 100))
+P3 = shows GraceVersion (given 2 1 2 0) (enters 4 1 ++ publication 0 1 (pos 100))
     (Sync 0 ∷ Raise 0 ∷ Walk 0 10 ∷ Leave 1 ∷ Walk 0 10 ∷ [])
     (Made ∷ Synced 1 ∷ Raised ∷ Walked (Waiting 1) ∷ Left ∷ Walked (Returned 3 1) ∷ [])
 
 -- P4: 1 reader at place 2 with 0: SYNC, RAISE, two ENTERs, WALK 1: returned 1 0; its pick is the new table.
 abbrev pub P4 : Example
-P4 = shows GraceVersion (given 1 1 2 0) (enters 2 0 ++ published 0 1 (pos 100))
-    (Sync 0 ∷ Raise 0 ∷ Enter 0 ∷ Enter 0 ∷ Walk 0 1 ∷ Enter 0 ∷ Look 0 7 ∷ [])
-    (Made ∷ Synced 1 ∷ Raised ∷ At 3 ∷ At 4 ∷ Walked (Returned 1 0) ∷ At 5 ∷ Pitch (pos 100) ∷ [])
+P4 = shows GraceVersion (given 1 1 2 0) (enters 2 0 ++ publication 0 1 (pos 100))
+    (Sync 0 ∷ Raise 0 ∷ Enter 0 ∷ Enter 0 ∷ Walk 0 1 ∷ Enter 0 ∷ Look 0 0 ∷ Look 0 31 ∷ [])
+    (Made ∷ Synced 1 ∷ Raised ∷ At 3 ∷ At 4 ∷ Walked (Returned 1 0) ∷ At 5 ∷ Pitch (pos 100) ∷ Pitch (pos 100) ∷ [])
 
 -- P6: WALK 0 at 37: spent, all unchanged.
 abbrev pub P6 : Example
-P6 = shows GraceVersion (given 1 1 2 0) (published 0 1 (pos 100) ++ (Sync 0 ∷ Raise 0 ∷ [])) (Walk 0 0 ∷ []) (Made ∷ Walked Spent ∷ [])
-
-abbrev pub P6-unchanged : Example
-P6-unchanged = unchanged GraceVersion (given 1 1 2 0) (published 0 1 (pos 100) ++ (Sync 0 ∷ Raise 0 ∷ [])) (Walk 0 0)
+P6 = unchanged GraceVersion (given 1 1 2 0) (publication 0 1 (pos 100) ++ (Sync 0 ∷ Raise 0 ∷ [])) (Walk 0 0) (Walked Spent)
 
 -- P7: 3 readers out: WALK 2 spent, WALK 1 returned 3 0.
 abbrev pub P7 : Example
-P7 = shows GraceVersion (given 3 1 2 0) (published 0 1 (pos 100))
+P7 = shows GraceVersion (given 3 1 2 0) (publication 0 1 (pos 100))
     (Sync 0 ∷ Raise 0 ∷ Walk 0 2 ∷ Walk 0 1 ∷ [])
     (Made ∷ Synced 1 ∷ Raised ∷ Walked Spent ∷ Walked (Returned 3 0) ∷ [])
 
 -- P8: SYNC at 2^64 - 2 is 32, at 2^64 - 3 accepted.
 abbrev pub P8 : Example
-P8 = shows GraceVersion (given 1 1 2 18446744073709551614) (published 0 1 (pos 100)) (Sync 0 ∷ []) (Made ∷ Refused 32 ∷ [])
+P8 = shows GraceVersion (given 1 1 2 18446744073709551614) (publication 0 1 (pos 100)) (Sync 0 ∷ []) (Made ∷ Refused 32 ∷ [])
 
 abbrev pub P8-below : Example
-P8-below = shows GraceVersion (given 1 1 2 18446744073709551613) (published 0 1 (pos 100)) (Sync 0 ∷ []) (Made ∷ Synced 18446744073709551614 ∷ [])
-
--- P9: pitches -500, 9500 accepted; -501, 9501 get 14.
-abbrev pub P9 : Example
-P9 = shows GraceVersion (given 1 1 2 0) (Claim 0 1 ∷ [])
-    (Write 0 (negℤ (pos 500)) ∷ Write 0 (pos 9500) ∷ Write 0 (negℤ (pos 501)) ∷ Write 0 (pos 9501) ∷ [])
-    (Made ∷ Written 1 ∷ Written 2 ∷ Refused 14 ∷ Refused 14 ∷ [])
-
--- P10: SWAP with 31 written and a 33rd WRITE get 21.
-abbrev pub P10 : Example
-P10 = shows GraceVersion (given 1 1 2 0) (Claim 0 1 ∷ replicate 31 (Write 0 (pos 5)))
-    (Swap 0 ∷ Write 0 (pos 5) ∷ Write 0 (pos 5) ∷ [])
-    (Made ∷ Refused 21 ∷ Written 32 ∷ Refused 21 ∷ [])
+P8-below = shows GraceVersion (given 1 1 2 18446744073709551613) (publication 0 1 (pos 100)) (Sync 0 ∷ []) (Made ∷ Synced 18446744073709551614 ∷ [])
 
 -- P11: another publisher's CLAIM of a free slot during a wait: new accepted.
 abbrev pub P11 : Example
-P11 = shows GraceVersion (given 1 2 3 0) (enters 4 0 ++ published 0 1 (pos 100))
+P11 = shows GraceVersion (given 1 2 3 0) (enters 4 0 ++ publication 0 1 (pos 100))
     (Sync 0 ∷ Raise 0 ∷ Walk 0 9 ∷ Claim 1 2 ∷ [])
     (Made ∷ Synced 1 ∷ Raised ∷ Walked (Waiting 0) ∷ Claimed 2 ∷ [])
 
@@ -84,43 +68,24 @@ P11 = shows GraceVersion (given 1 2 3 0) (enters 4 0 ++ published 0 1 (pos 100))
 abbrev pub P12 : Example
 P12 = shows GraceVersion (given 1 1 2 0) (enters 3 0) (Leave 0 ∷ Enter 0 ∷ Leave 0 ∷ []) (Made ∷ Refused 20 ∷ At 4 ∷ Left ∷ [])
 
-pub record Bench : Type 0 where
-  pub p1 : Holds P1
-  pub p2 : Holds P2
-  pub p3 : Holds P3
-  pub p4 : Holds P4
-  pub p6 : Holds P6
-  pub p6-unchanged : Holds P6-unchanged
-  pub p7 : Holds P7
-  pub p8 : Holds P8
-  pub p8-below : Holds P8-below
-  pub p9 : Holds P9
-  pub p10 : Holds P10
-  pub p11 : Holds P11
-  pub p12 : Holds P12
+-- One whole publication, with every reply: SWAP and RELEASE reply with the former slot.
+abbrev pub whole : Example
+whole = shows GraceVersion (given 1 1 2 0) (tableOf 0 1 (pos 100))
+    (Swap 0 ∷ Sync 0 ∷ Raise 0 ∷ Walk 0 1 ∷ Release 0 ∷ [])
+    (Made ∷ Swapped 0 ∷ Synced 1 ∷ Raised ∷ Walked (Returned 1 0) ∷ Freed 0 1 ∷ [])
 
--- The reply of P6's last call, at the state that it starts from.
-p6-spent : step rules (stateAfter GraceVersion (making rules (given 1 1 2 0) (lentFor (given 1 1 2 0)) .after) (published 0 1 (pos 100) ++ (Sync 0 ∷ Raise 0 ∷ []))) (Walk 0 0) .reply ≡ Walked Spent
+-- The examples of document 01 that are about the new store, and of those that name no kind.
+pub examples : List Example
+examples = P1 ∷ P2 ∷ P3 ∷ P4 ∷ P6 ∷ P7 ∷ P8 ∷ P8-below ∷ P9 GraceVersion ∷ P10 GraceVersion ∷ P11 ∷ P12 ∷ whole ∷ []
+
+-- The reply of P6's call, at the state that it starts from.
+p6-spent : step rules (leadTo GraceVersion (given 1 1 2 0) (publication 0 1 (pos 100) ++ (Sync 0 ∷ Raise 0 ∷ []))) (Walk 0 0) .reply ≡ Walked Spent
 unfolding readerAt publisherAt withReader withPublisher withReaders fresh anyBelow damaged onward looksFrom step making
 p6-spent = refl
 
-p6-same : Holds P6-unchanged
+p6-same : step rules (leadTo GraceVersion (given 1 1 2 0) (publication 0 1 (pos 100) ++ (Sync 0 ∷ Raise 0 ∷ []))) (Walk 0 0) .after ≡ leadTo GraceVersion (given 1 1 2 0) (publication 0 1 (pos 100) ++ (Sync 0 ∷ Raise 0 ∷ []))
 p6-same = new-walk-zero _ 0 p6-spent
 
-pub bench : Bench
-unfolding readerAt publisherAt withReader withPublisher withReaders fresh anyBelow damaged onward looksFrom step making
-bench = record {
-  p1 = refl;
-  p2 = refl;
-  p3 = refl;
-  p4 = refl;
-  p6 = refl;
-  p6-unchanged = p6-same;
-  p7 = refl;
-  p8 = refl;
-  p8-below = refl;
-  p9 = refl;
-  p10 = refl;
-  p11 = refl;
-  p12 = refl;
-}
+pub bench : AllHold examples
+unfolding examples readerAt publisherAt withReader withPublisher withReaders fresh anyBelow damaged onward looksFrom step making
+bench = (refl, (refl, (refl, (refl, ((refl, p6-same), (refl, (refl, (refl, (refl, (refl, (refl, (refl, (refl, tt)))))))))))))

@@ -1,57 +1,81 @@
 -- The theorems about the new store. Assumes nothing.
-use Prim.Native.Nat.{ℕ, zero, suc, _+_}
-use native.Mathlib.Omega.{arith}
-use mathlib.Core.Path.{_≡_, refl, sym, ap, subst}
+use Prim.Native.Nat.{ℕ, suc}
+use mathlib.Core.Path.{_≡_, refl, sym, subst}
 use mathlib.Core.Logic.{_≢_}
 use mathlib.Core.Bool.{Bool, true, false, not}
 use mathlib.Core.List.{List, [], _∷_}
-use lib.IntN.{ℤ}
+use lib.IntN.{pos}
+use lib.ListN.{getD}
 use lib.Dec.{leb, eqb}
-use borrow.Author.Tests.{leb-false}
+use borrow.Author.Tests.{eqb-true, leb-false, not-false}
 use Rattle.calls.specs.declared.Call.{Call}
 use Rattle.calls.specs.declared.Call.the-variants.{Claim, Walk}
 use Rattle.calls.specs.declared.Reply.the-variants.{Walked, Refused}
 use Rattle.calls.specs.declared.WalkReply.the-variants.{Spent}
 use Rattle.calls.specs.Numbers.{NO-SUCH-PUBLISHER, NO-SUCH-SLOT, PUBLISHER-TURN, BUSY, SLOT-IN-USE}
-use Rattle.calls.specs.Rows.{Test, firstOf}
+use Rattle.calls.specs.Rows.{firstOf}
 use Rattle.calls.specs.Rows.Test.{_gives_}
-use Rattle.layout.specs.Layout.{publishers, slots}
-use Rattle.layout.specs.Laws.{publisher-back}
-use Rattle.statement.specs.Machine.{State, state, Outcome, Given, Fresh, afterAll}
+use Rattle.calls.specs.RowLaws.{clash}
+use Rattle.calls.specs.AnswerLaws.{NarrowPitch, Proper}
+use Rattle.calls.specs.Events.{accepted}
+use Rattle.calls.specs.Model.{firstTable}
+use Rattle.layout.specs.Layout.{readers, publishers, slots}
+use Rattle.statement.specs.Machine.{State, Outcome, Fresh, afterAll}
 use Rattle.statement.specs.Demand3.{Demand3}
-use Rattle.statement.specs.Companions.{Traits, RefusedLeaves, Frame, Companions}
+use Rattle.statement.specs.Companions.{Traits, MakingAccepts, RefusedLeaves, Frame, Companions}
 use Rattle.publication_law.specs.Steps.{publisher, inUse}
 use Rattle.publication_law.specs.Rules.{damaged, act, rows, step}
 use Rattle.publication_law.specs.Decide.{decided, decide-why}
-use Rattle.publication_law.specs.Lawful.{firstTable, traitsOf, fine-undamaged, demand3-of, companions-of, never-damaged-of, refused-leaves-of, frame-of}
-use Rattle.grace_version_law.specs.Steps.{looksFrom, rules, GraceVersion}
-use Rattle.grace_version_law.specs.Safety.{lawful}
+use Rattle.publication_law.specs.Lawful.{fine-undamaged, demand3-of, companions-of, never-damaged-of, making-accepts-of, refused-leaves-of, frame-of, proper-of, walk-zero-of}
+use Rattle.grace_version_law.specs.Steps.{LAST, looksOf, rules, GraceVersion}
+use Rattle.grace_version_law.specs.Walks.{Looked, looked}
+use Rattle.grace_version_law.specs.Safety.{next-below, lawful}
 
--- A return passes each reader once; ENTER goes 1, 2, 3, 4, 5.
+-- No version is above LAST; a return passes each reader once; ENTER goes 1, 2, 3, 4, 5; a claim needs nobody's leave.
 abbrev pub traits : Traits
-traits = traitsOf rules (λ z. z .readers) suc
+traits = record { first = λ z. firstTable; last = LAST; passes = λ z. z .readers; onward = suc; exclusive = false }
 
 pub new-demand3 : Demand3 GraceVersion (λ z. firstTable)
-new-demand3 = demand3-of rules (λ z. z .readers) suc lawful
+new-demand3 = demand3-of rules LAST (λ z. z .readers) suc lawful
 
 pub new-companions : Companions GraceVersion traits
-new-companions = companions-of rules (λ z. z .readers) suc lawful
+new-companions = companions-of rules LAST (λ z. z .readers) suc lawful
 
 pub new-never-damaged : (s : State) → Fresh GraceVersion s → (cs : List Call) → damaged rules (afterAll GraceVersion s cs) ≡ false
-new-never-damaged = never-damaged-of rules (λ z. z .readers) suc lawful
+new-never-damaged = never-damaged-of rules LAST (λ z. z .readers) suc lawful
+
+pub new-making-accepts : MakingAccepts GraceVersion traits
+new-making-accepts = making-accepts-of rules LAST (λ z. z .readers) suc lawful
 
 pub new-refused-leaves : RefusedLeaves GraceVersion
-new-refused-leaves = refused-leaves-of rules (λ z. z .readers) suc lawful
+new-refused-leaves = refused-leaves-of rules LAST (λ z. z .readers) suc lawful
 
 pub new-frame : Frame GraceVersion
-new-frame = frame-of rules (λ z. z .readers) suc lawful
+new-frame = frame-of rules LAST (λ z. z .readers) suc lawful
+
+-- Every reply of a store whose entries are pitches of 64 bits has an answer that no other reply has.
+pub new-proper : (s : State) (c : Call) → ((j : ℕ) → NarrowPitch (getD (s .entries) j (pos 0))) → Proper (step rules s c .reply)
+new-proper = proper-of rules LAST (λ z. z .readers) suc lawful
+
+pub new-walk-zero : (s : State) (p : ℕ) → step rules s (Walk p 0) .reply ≡ Walked Spent → step rules s (Walk p 0) .after ≡ s
+new-walk-zero = walk-zero-of rules LAST (λ z. z .readers) suc lawful
+
+-- The facts of every accepted WALK, for every state: waiting, spent and returned are said of looks that were made.
+pub new-walk-facts : (s : State) (p b : ℕ) → accepted (step rules s (Walk p b) .reply) ≡ true
+    → Looked (s .words) (readers (s .words)) (publisher s p .walk .mark) b (publisher s p .walk .next) (publisher s p .walk .looks) (publisher s p .walk .waits) (looksOf s (publisher s p .walk) b)
+unfolding step
+new-walk-facts s p b = decided (λ (o : Outcome). accepted (o .reply) ≡ true → Looked (s .words) (readers (s .words)) (publisher s p .walk .mark) b (publisher s p .walk .next) (publisher s p .walk .looks) (publisher s p .walk .waits) (looksOf s (publisher s p .walk) b))
+    (rows rules s (Walk p b)) (act rules s (Walk p b)) s refl
+    (λ f _. looked (s .words) (readers (s .words)) (publisher s p .walk .mark) (publisher s p .walk .waits) b (publisher s p .walk .next) (publisher s p .walk .looks)
+    (next-below _ _ (publisher s p) (fine-undamaged rules LAST (λ z. z .readers) suc lawful s (f .0) .publishers-fine p (leb-false _ _ (f .1 .0))) (rw (eqb-true (publisher s p .place) 37 (not-false _ (f .1 .1 .0))) refl)))
+    (λ ok. clash (sym ok))
 
 -- A claim on an unspoiled new store is refused only for a wrong name, a wrong turn or a slot in use.
 pub data ClaimRefusal : ℕ → Type 0 where
-  no-publisher : ClaimRefusal NO-SUCH-PUBLISHER
-  no-slot : ClaimRefusal NO-SUCH-SLOT
-  wrong-turn : ClaimRefusal PUBLISHER-TURN
-  in-use : ClaimRefusal SLOT-IN-USE
+  no-publisher : ClaimRefusal 11
+  no-slot : ClaimRefusal 12
+  wrong-turn : ClaimRefusal 21
+  in-use : ClaimRefusal 30
 
 claim-first : (a b c d : Bool) (n : ℕ) → n ≢ 0 → firstOf ((a gives NO-SUCH-PUBLISHER) ∷ (b gives NO-SUCH-SLOT) ∷ (c gives PUBLISHER-TURN) ∷ (false gives BUSY) ∷ (d gives SLOT-IN-USE) ∷ []) ≡ n → ClaimRefusal n
 claim-first true b c d n ne e = subst ClaimRefusal e no-publisher
@@ -65,11 +89,3 @@ unfolding step
 new-claim-refusals s p x n fine e =
     let q = decide-why (rows rules s (Claim p x)) (act rules s (Claim p x)) s n refl e in
     claim-first (leb (publishers (s .words)) p) (leb (slots (s .words)) x) (not (eqb (publisher s p .place) 0)) (inUse s x) n (q .1) (rw fine at (q .0))
-
--- A WALK with no looks that is accepted leaves the whole state as it was.
-pub new-walk-zero : (s : State) (p : ℕ) → step rules s (Walk p 0) .reply ≡ Walked Spent → step rules s (Walk p 0) .after ≡ s
-unfolding step looksFrom
-new-walk-zero s p = decided (λ (o : Outcome). o .reply ≡ Walked Spent → o .after ≡ s) (rows rules s (Walk p 0)) (act rules s (Walk p 0)) s refl
-    (λ f _. let h = fine-undamaged rules (λ z. z .readers) suc lawful s (f .0) .head in
-    ap (λ (w : List ℕ). state w (s .entries)) (publisher-back (s .words) p (omega (arith, leb-false (publishers (s .words)) p (f .1 .0), h .publishers-high))))
-    (λ _. refl)

@@ -13,15 +13,15 @@ use Rattle.calls.specs.declared.WalkReply.the-variants.{Returned}
 use Rattle.calls.specs.Rows.{anyBelow}
 use Rattle.calls.specs.Events.{Event}
 use Rattle.calls.specs.Events.Event.{_⇒_}
+use Rattle.calls.specs.Model.{firstTable}
 use Rattle.layout.specs.Layout.{readers, readerAt, publisherAt, withReader, withPublisher, withReaders, fresh}
 use Rattle.statement.specs.Machine.{State, Outcome, outcome, Given, given, Machine, Fresh, events}
 use Rattle.statement.specs.Demand3.{Demand3}
-use Rattle.statement.specs.Examples.{lentFor, enters, published}
+use Rattle.statement.specs.Examples.{lentFor, enters, publication}
 use Rattle.statement.specs.Refute.{someLeave, not-left, ReturnsFrom}
 use Rattle.publication_law.specs.Steps.{publisher, made}
 use Rattle.publication_law.specs.Rules.{Rules, damaged, step, making, machine}
-use Rattle.publication_law.specs.Lawful.{firstTable}
-use Rattle.grace_version_law.specs.Steps.{onward, looksFrom, rules, GraceVersion}
+use Rattle.grace_version_law.specs.Steps.{onward, progress, looksFrom, rules, GraceVersion}
 
 -- One reader, one publisher, two slots, version 0.
 small : Given
@@ -32,38 +32,38 @@ unfolding small
 start = making rules small (lentFor small) .after
 
 -- A LOOK that always says 9000.
-blinded : Reply → Reply
-blinded Made = Made
-blinded (At n) = At n
-blinded (Pitch v) = Pitch (pos 9000)
-blinded Left = Left
-blinded (Claimed s) = Claimed s
-blinded (Written n) = Written n
-blinded (Swapped s) = Swapped s
-blinded (Synced m) = Synced m
-blinded Raised = Raised
-blinded Shared = Shared
-blinded (Walked o) = Walked o
-blinded (Freed s n) = Freed s n
-blinded (Refused n) = Refused n
+feathered : Reply → Reply
+feathered Made = Made
+feathered (At n) = At n
+feathered (Pitch v) = Pitch (pos 9000)
+feathered Left = Left
+feathered (Claimed s) = Claimed s
+feathered (Written n) = Written n
+feathered (Swapped s) = Swapped s
+feathered (Synced m) = Synced m
+feathered Raised = Raised
+feathered Shared = Shared
+feathered (Walked o) = Walked o
+feathered (Freed s n) = Freed s n
+feathered (Refused n) = Refused n
 
-pub Blind : Machine
-unfolding blinded
-Blind = record { making = making rules; step = λ s c. outcome (blinded (step rules s c .reply)) (step rules s c .after) }
+pub AlwaysFeathered : Machine
+unfolding feathered
+AlwaysFeathered = record { making = making rules; step = λ s c. outcome (feathered (step rules s c .reply)) (step rules s c .after) }
 
 other-pitch : (v : ℤ) → Pitch (pos 9000) ≡ Pitch v → some (pos 100) ≡ some v → ⊥
 other-pitch v e q = let z : _≡_ {A = ℕ} 9000 100 = cc in omega arith
 
-pub blind-refuted : Demand3 Blind (λ z. firstTable) → ⊥
-unfolding Blind start small readerAt publisherAt withReader withPublisher withReaders fresh anyBelow damaged onward looksFrom step making
-blind-refuted d =
-    let cs : List Call = published 0 1 (pos 100) ++ enters 5 0 in
-    let x = d start (record { arguments = small; lent = lentFor small; made = refl }) (cs ++ (Look 0 7 ∷ [])) .looks (events Blind start cs) [] 0 7 (Pitch (pos 9000)) refl refl in
+pub always-9000-refuted : Demand3 AlwaysFeathered (λ z. firstTable) → ⊥
+unfolding AlwaysFeathered start small readerAt publisherAt withReader withPublisher withReaders fresh anyBelow damaged onward looksFrom step making
+always-9000-refuted d =
+    let cs : List Call = publication 0 1 (pos 100) ++ enters 5 0 in
+    let x = d start (record { arguments = small; lent = lentFor small; made = refl }) (cs ++ (Look 0 7 ∷ [])) .looks (events AlwaysFeathered start cs) [] 0 7 (Pitch (pos 9000)) refl refl in
     other-pitch (x .0) (x .1) (x .2)
 
--- A walk that passes every reader: it asks for the mark 0.
-hastyRules : Rules
-hastyRules = record {
+-- A walk that passes every reader: it tests against 0 in place of its mark.
+passesAllRules : Rules
+passesAllRules = record {
   kind = rules .kind;
   further = rules .further;
   freshReader = rules .freshReader;
@@ -74,26 +74,29 @@ hastyRules = record {
   exclusive = rules .exclusive;
   raisesAt = rules .raisesAt;
   walksAt = rules .walksAt;
-  looks = λ s p b. let k = publisher s p .walk in looksFrom (s .words) (readers (s .words)) 0 (k .waits) b (k .next) (k .looks);
+  looks = λ s p b.
+      let k = publisher s p .walk in
+      let q = looksFrom (s .words) (readers (s .words)) 0 (k .waits) b (k .next) (k .looks) in
+      progress (k .mark) (q .walk .next) (q .walk .looks) (q .walk .waits) (q .reply);
 }
 
-pub Hasty : Machine
-unfolding hastyRules
-Hasty = machine hastyRules
+pub PassesAll : Machine
+unfolding passesAllRules
+PassesAll = machine passesAllRules
 
-pub hasty-refuted : Demand3 Hasty (λ z. firstTable) → ⊥
-unfolding Hasty hastyRules start small someLeave readerAt publisherAt withReader withPublisher withReaders fresh anyBelow damaged onward looksFrom step making
-hasty-refuted d =
-    let cs : List Call = enters 5 0 ++ published 0 1 (pos 100) in
+pub passes-all-refuted : Demand3 PassesAll (λ z. firstTable) → ⊥
+unfolding PassesAll passesAllRules start small someLeave readerAt publisherAt withReader withPublisher withReaders fresh anyBelow damaged onward looksFrom step making
+passes-all-refuted d =
+    let cs : List Call = enters 5 0 ++ publication 0 1 (pos 100) in
     let mid : List Event = (Raise 0 ⇒ Raised) ∷ [] in
     not-left 0 mid refl
-    (d start (record { arguments = small; lent = lentFor small; made = refl }) (cs ++ (Sync 0 ∷ Raise 0 ∷ Walk 0 9 ∷ [])) .returns (events Hasty start cs) mid [] 0 9 1 0 0 (Synced 1) refl refl refl)
+    (d start (record { arguments = small; lent = lentFor small; made = refl }) (cs ++ (Sync 0 ∷ Raise 0 ∷ Walk 0 9 ∷ [])) .returns (events PassesAll start cs) mid [] 0 9 1 0 0 (Synced 1) refl refl refl)
 
 -- Counting a section as open from its first publishing, the ENTER that replies 2: P4's run breaks it for the new store.
 pub early-sections-refuted : ReturnsFrom 2 GraceVersion → ⊥
 unfolding start small someLeave readerAt publisherAt withReader withPublisher withReaders fresh anyBelow damaged onward looksFrom step making
 early-sections-refuted d =
-    let cs : List Call = enters 2 0 ++ published 0 1 (pos 100) in
+    let cs : List Call = enters 2 0 ++ publication 0 1 (pos 100) in
     let mid : List Event = (Raise 0 ⇒ Raised) ∷ (Enter 0 ⇒ At 3) ∷ (Enter 0 ⇒ At 4) ∷ [] in
     not-left 0 mid refl
     (d start (record { arguments = small; lent = lentFor small; made = refl }) (cs ++ (Sync 0 ∷ Raise 0 ∷ Enter 0 ∷ Enter 0 ∷ Walk 0 1 ∷ [])) (events GraceVersion start cs) mid [] 0 1 1 0 0 (Synced 1) refl refl refl)

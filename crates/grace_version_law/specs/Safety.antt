@@ -21,10 +21,10 @@ use Rattle.calls.specs.Base.{pick, upd, is}
 use Rattle.calls.specs.Numbers.{READERS-MAX, PUBLISHERS-MAX, TABLE, FEATHERED, NOT-READING, KIND-NEW, DAMAGED, MODULUS, NO-SUCH-PUBLISHER, NO-SUCH-SLOT, PUBLISHER-TURN, SLOT-IN-USE}
 use Rattle.calls.specs.Rows.{Test, firstOf, anyTrue, anyBelow}
 use Rattle.calls.specs.Rows.Test.{_gives_}
-use Rattle.calls.specs.RowLaws.{clash, not-both, by-test, and-false, and-not, or-false, neither, negated, all-false, none-true, no-below, pick-split, same, at-or, AllClear, AllFalse, allNumbers, allAbove, first-above}
+use Rattle.calls.specs.RowLaws.{clash, not-both, by-test, and-false, and-not, or-false, neither, negated, all-false, none-true, no-below, pick-split, same, at-or, AllClear, AllFalse}
 use Rattle.calls.specs.Events.{accepted}
 use Rattle.calls.specs.Events.Event.{_⇒_}
-use Rattle.calls.specs.Model.{shelve, entry}
+use Rattle.calls.specs.Model.{shelve, entry, firstTable}
 use Rattle.calls.specs.Told.{tell, holds, Has}
 use Rattle.calls.specs.Told.Role.{free}
 use Rattle.layout.specs.declared.Reader.{Reader}
@@ -38,7 +38,7 @@ use Rattle.statement.specs.Kept.{Pend, Ghost, ghost₀, Back}
 use Rattle.statement.specs.Kept as kept
 use Rattle.publication_law.specs.Steps.{reader, publisher, atPlace, enterTests, leaveTests, syncTests, sync, raise, walked, walk, newWalk, placeAfter, made}
 use Rattle.publication_law.specs.Damage.{publisherRows}
-use Rattle.publication_law.specs.DamageLaws.{PublisherFine, publisher-to}
+use Rattle.publication_law.specs.DamageLaws.{PublisherFine, publisher-to, reader-below, publisher-below}
 use Rattle.publication_law.specs.Core.{Core, enter-below, enter-open, enter-pick, leave-core}
 use Rattle.publication_law.specs.Core.Hold.{by-swap}
 use Rattle.publication_law.specs.Grace.{enter-grace, leave-grace}
@@ -47,26 +47,28 @@ use Rattle.publication_law.specs.Entries.{slotEntry}
 use Rattle.publication_law.specs.Moves.{MovesPublisher, moves-publisher, moves-head, moves-reader}
 use Rattle.publication_law.specs.Invariant.{formers, CoreOf, reader-moved}
 use Rattle.publication_law.specs.Keeps.{KindLaw, VersionsLaw, up-to-law, publisher-fine, sync-keeps, raise-keeps, walk-keeps, syncing-in-order}
-use Rattle.publication_law.specs.Lawful.{Good, Lawful, firstTable, traitsOf}
-use Rattle.grace_version_law.specs.Steps.{LAST, versions, kind, readerRows, ownRows, onward, entered, leaving, asked, looksOf, freshReader, rules}
-use Rattle.grace_version_law.specs.Walks.{asked-all, Ends, Looked, looked}
+use Rattle.publication_law.specs.Rules.{traitsOf}
+use Rattle.publication_law.specs.Lawful.{Good, Lawful}
+use Rattle.grace_version_law.specs.Steps.{LAST, versions, kind, readerRows, ownRows, onward, entered, leaving, lookedAt, looksOf, looksFrom, freshReader, rules}
+use Rattle.grace_version_law.specs.Walks.{lookedAt-all, Ends, Looked, looked}
 
 pub law : KindLaw kind
 law = record {
   shared-rows = λ rs ss y e. or-false (anyTrue (ownRows rs y)) (anyTrue (publisherRows versions ss y)) e .1;
   versions-law = up-to-law LAST;
+  places = λ rs ss y e. ltb-false 38 (y .place) (all-false (ownRows rs y) (or-false (anyTrue (ownRows rs y)) (anyTrue (publisherRows versions ss y)) e .0) .0);
 }
 
--- The kind's own numbers: what readers published, and whom a walk has still to ask.
+-- The kind's own numbers: what readers published, and which of them a walk has still to pass.
 pub record Shown (ver : ℕ) (x : Reader) : Type 0 where
   pub first-low : x .first ≤ ver
   pub second-low : x .second ≤ ver
   pub shown : 2 ≤ x .place → x .published ≤ ver
 
--- A synchronise waits for a reader that published a version below its mark and that its walk has not asked.
+-- A synchronise waits for a reader that published a version below its mark and that its walk has not lookedAt.
 pub record Behind (n : ℕ) (x : Reader) (k : WalkNumbers) (r : ℕ) : Type 0 where
   pub below : x .published < k .mark
-  pub unasked : (i : ℕ) → i < k .next → asked n i ≢ r
+  pub unpassed : (i : ℕ) → i < k .next → lookedAt n i ≢ r
 
 pub record Own (w : Pend) (ver n : ℕ) (R : ℕ → Reader) (P : ℕ → Publisher) : Type 0 where
   pub readers-shown : (r : ℕ) → Shown ver (R r)
@@ -172,7 +174,7 @@ module _ (w : Pend) (ver n : ℕ) (R : ℕ → Reader) (P : ℕ → Publisher) (
   reader-own : (r : ℕ) (x : Reader) (w′ : Pend) → Shown ver x → ((p q : ℕ) → w′ p q ≡ true → w p q ≡ true) → ((p : ℕ) → w′ p r ≡ true → x .published ≡ R r .published) → Own w′ ver n (upd R r x) P
   reader-own r x w′ s sub e = record {
     readers-shown = at-or r (rw (same r) s) (λ j d. rw d (o .readers-shown j));
-    behind = λ p. at-or r (rw (same r) (λ q. let a = o .behind p r (sub p r q) in record { below = rw (e p q) (a .below); unasked = a .unasked }))
+    behind = λ p. at-or r (rw (same r) (λ q. let a = o .behind p r (sub p r q) in record { below = rw (e p q) (a .below); unpassed = a .unpassed }))
         (λ j d. rw d (λ q. o .behind p j (sub p j q)));
     counted = o .counted;
   }
@@ -188,12 +190,12 @@ module _ (w : Pend) (ver n : ℕ) (R : ℕ → Reader) (P : ℕ → Publisher) (
 -- Each step keeps the invariant.
 module _ (z : Given) (g : Ghost) (s : State) (i : Good kind OwnOf z g s) where
   pub r64 : (r : ℕ) → r < readers (s .words) → r < READERS-MAX
-  r64 r l = omega (arith, i .shared .fine .head .readers-high)
+  r64 = reader-below kind s (i .shared .fine)
 
   pub p16 : (p : ℕ) → p < publishers (s .words) → p < PUBLISHERS-MAX
-  p16 p l = omega (arith, i .shared .fine .head .publishers-high)
+  p16 = publisher-below kind s (i .shared .fine)
 
-  enter-kept : (r : ℕ) → AllClear (enterTests s r) → Good kind OwnOf z (kept.onward g (Enter r) (At (entered s r .place))) (state (withReader (s .words) r (entered s r)) (s .entries))
+  enter-kept : (r : ℕ) → AllClear (enterTests s r) → Good kind OwnOf z (kept.advance g (Enter r) (At (entered s r .place))) (state (withReader (s .words) r (entered s r)) (s .entries))
   enter-kept r f =
       let lt : r < readers (s .words) = leb-false _ _ (f .0) in
       let l : reader s r .place ≤ 4 = let q = leb-false 5 (reader s r .place) (f .1 .0) in omega arith in
@@ -209,7 +211,7 @@ module _ (z : Given) (g : Ghost) (s : State) (i : Good kind OwnOf z g s) where
             (λ p e. onward-published _ _ (reader s r) (i .shared .grace .awaited p r e .opened)));
       }
 
-  leave-kept : (r : ℕ) → AllClear (leaveTests s r) → Good kind OwnOf z (kept.onward g (Leave r) Left) (state (withReader (s .words) r (leaving (reader s r))) (s .entries))
+  leave-kept : (r : ℕ) → AllClear (leaveTests s r) → Good kind OwnOf z (kept.advance g (Leave r) Left) (state (withReader (s .words) r (leaving (reader s r))) (s .entries))
   leave-kept r f =
       let lt : r < readers (s .words) = leb-false _ _ (f .0) in
       let m = moves-reader (s .words) r (leaving (reader s r)) (i .shared .fine .head .long) (r64 r lt) in record {
@@ -223,7 +225,7 @@ module _ (z : Given) (g : Ghost) (s : State) (i : Good kind OwnOf z g s) where
             (λ p. rw (same r) (λ e. clash (sym e))));
       }
 
-  sync-kept : (p : ℕ) → AllClear (syncTests versions s p) → Good kind OwnOf z (kept.onward g (Sync p) (Synced (version (s .words) + 1))) (sync versions s p .after)
+  sync-kept : (p : ℕ) → AllClear (syncTests versions s p) → Good kind OwnOf z (kept.advance g (Sync p) (Synced (version (s .words) + 1))) (sync versions s p .after)
   sync-kept p f =
       let lt : p < publishers (s .words) = leb-false _ _ (f .0) in
       let at34 = eqb-true (publisher s p .place) 34 (not-false _ (f .1 .0)) in
@@ -239,7 +241,7 @@ module _ (z : Given) (g : Ghost) (s : State) (i : Good kind OwnOf z g s) where
         own = rw (m .version-is, m .head READERS-AT (omega arith), m .readers-stay, m .publishers-are)
             (publisher-own _ _ _ _ _ (i .own) p _ _ _ (omega arith) (λ q r e. rw e refl)
             (λ r. rw (same p) (λ e. let l = leb-true 4 (reader s r .place) (sym (i .shared .core .readers r .inside-is) ∙ e) in
-            record { below = omega (arith, i .own .readers-shown r .shown (omega arith)); unasked = λ j a. absurd (omega arith) }))
+            record { below = omega (arith, i .own .readers-shown r .shown (omega arith)); unpassed = λ j a. absurd (omega arith) }))
             (λ l. refl));
       }
 
@@ -266,41 +268,44 @@ module _ (z : Given) (g : Ghost) (s : State) (i : Good kind OwnOf z g s) where
 
   -- A walk from the numbers of publisher p.
   module _ (p b : ℕ) (lt : p < publishers (s .words)) (at37 : publisher s p .place ≡ 37) where
-    pub came : Looked (s .words) (readers (s .words)) (publisher s p .walk .mark) (publisher s p .walk .next) (publisher s p .walk .looks) (publisher s p .walk .waits) (looksOf s (publisher s p .walk) b)
+    pub came : Looked (s .words) (readers (s .words)) (publisher s p .walk .mark) b (publisher s p .walk .next) (publisher s p .walk .looks) (publisher s p .walk .waits) (looksOf s (publisher s p .walk) b)
     came = looked (s .words) (readers (s .words)) (publisher s p .walk .mark) (publisher s p .walk .waits) b (publisher s p .walk .next) (publisher s p .walk .looks)
         (next-below _ _ (publisher s p) (i .shared .fine .publishers-fine p lt) (rw at37 refl))
 
-    -- A reader waited for has not been asked.
+    -- A reader waited for has not been lookedAt.
     still-behind : (r : ℕ) → g .pend p r ≡ true → Behind (readers (s .words)) (reader s r) (looksOf s (publisher s p .walk) b .walk) r
     still-behind r e = let a = i .own .behind p r e in record {
       below = rw (came .mark-same) (a .below);
-      unasked = λ j l z. old a j l z (ltb j (publisher s p .walk .next)) refl;
+      unpassed = λ j l z. old a j l z (ltb j (publisher s p .walk .next)) refl;
     }
       where
-        old : Behind (readers (s .words)) (reader s r) (publisher s p .walk) r → (j : ℕ) → j < looksOf s (publisher s p .walk) b .walk .next → asked (readers (s .words)) j ≡ r → (d : Bool) → ltb j (publisher s p .walk .next) ≡ d → ⊥
-        old a j l z true d = a .unasked j (ltb-true _ _ d) z
+        old : Behind (readers (s .words)) (reader s r) (publisher s p .walk) r → (j : ℕ) → j < looksOf s (publisher s p .walk) b .walk .next → lookedAt (readers (s .words)) j ≡ r → (d : Bool) → ltb j (publisher s p .walk .next) ≡ d → ⊥
+        old a j l z true d = a .unpassed j (ltb-true _ _ d) z
         old a j l z false d = omega (arith, a .below, subst (λ (q : ℕ). publisher s p .walk .mark ≤ readerAt (s .words) q .published) z (came .passed j (ltb-false _ _ d) l))
 
     pub none-pending : looksOf s (publisher s p .walk) b .walk .next ≡ readers (s .words) → (r : ℕ) → g .pend p r ≡ false
     none-pending all r = by-test (g .pend p r) (λ e.
         let rn : r < readers (s .words) = i .shared .core .readers r .bound (omega (arith, i .shared .grace .awaited p r e .opened)) in
-        let a = asked-all (readers (s .words)) r rn in
-        still-behind r e .unasked (a .0) (omega (arith, a .1)) (a .2))
+        let a = lookedAt-all (readers (s .words)) r rn in
+        still-behind r e .unpassed (a .0) (omega (arith, a .1)) (a .2))
 
-    returned-all : (o : WalkReply) (nx lk wt : ℕ) → Ends (readers (s .words)) nx lk wt o → placeAfter 37 o ≡ 38 → nx ≡ readers (s .words)
+    abbrev EndsHere : ℕ → ℕ → ℕ → WalkReply → Type 0
+    EndsHere nx lk wt o = Ends (s .words) (readers (s .words)) (publisher s p .walk .mark) (publisher s p .walk .next) b nx lk wt o
+
+    returned-all : (o : WalkReply) (nx lk wt : ℕ) → EndsHere nx lk wt o → placeAfter 37 o ≡ 38 → nx ≡ readers (s .words)
     returned-all (Waiting r) nx lk wt e z = absurd (omega arith)
     returned-all Spent nx lk wt e z = absurd (omega arith)
     returned-all Quiet nx lk wt e z = absurd e
     returned-all (Returned l u) nx lk wt e z = e .0
 
-    after-fits : (o : WalkReply) (nx lk wt : ℕ) → Ends (readers (s .words)) nx lk wt o → wt ≤ lk → versions .wrongMark (looksOf s (publisher s p .walk) b .walk .mark) ≡ false
+    after-fits : (o : WalkReply) (nx lk wt : ℕ) → EndsHere nx lk wt o → wt ≤ lk → versions .wrongMark (looksOf s (publisher s p .walk) b .walk .mark) ≡ false
         → kind .publisherDamaged (readers (s .words)) (slots (s .words)) (record { place = placeAfter 37 o; held = publisher s p .held; walk = record { mark = looksOf s (publisher s p .walk) b .walk .mark; next = nx; looks = lk; waits = wt } }) ≡ false
-    after-fits (Waiting r) nx lk wt e l mk = publisher-fits (readers (s .words)) (slots (s .words)) (record { place = 37; held = publisher s p .held; walk = record { mark = looksOf s (publisher s p .walk) b .walk .mark; next = nx; looks = lk; waits = wt } }) (omega arith) (λ z. omega arith) (λ c d. e) (record { held-below = λ _. publisher-fine kind law z g s (i .shared) p lt .held-below (omega arith); mark-fits = λ _. mk; waits-low = λ _. l })
-    after-fits Spent nx lk wt e l mk = publisher-fits (readers (s .words)) (slots (s .words)) (record { place = 37; held = publisher s p .held; walk = record { mark = looksOf s (publisher s p .walk) b .walk .mark; next = nx; looks = lk; waits = wt } }) (omega arith) (λ z. omega arith) (λ c d. e) (record { held-below = λ _. publisher-fine kind law z g s (i .shared) p lt .held-below (omega arith); mark-fits = λ _. mk; waits-low = λ _. l })
+    after-fits (Waiting r) nx lk wt e l mk = publisher-fits (readers (s .words)) (slots (s .words)) (record { place = 37; held = publisher s p .held; walk = record { mark = looksOf s (publisher s p .walk) b .walk .mark; next = nx; looks = lk; waits = wt } }) (omega arith) (λ z. omega arith) (λ c d. e .0) (record { held-below = λ _. publisher-fine kind law z g s (i .shared) p lt .held-below (omega arith); mark-fits = λ _. mk; waits-low = λ _. l })
+    after-fits Spent nx lk wt e l mk = publisher-fits (readers (s .words)) (slots (s .words)) (record { place = 37; held = publisher s p .held; walk = record { mark = looksOf s (publisher s p .walk) b .walk .mark; next = nx; looks = lk; waits = wt } }) (omega arith) (λ z. omega arith) (λ c d. e .0) (record { held-below = λ _. publisher-fine kind law z g s (i .shared) p lt .held-below (omega arith); mark-fits = λ _. mk; waits-low = λ _. l })
     after-fits Quiet nx lk wt e l mk = absurd e
     after-fits (Returned a c) nx lk wt e l mk = publisher-fits (readers (s .words)) (slots (s .words)) (record { place = 38; held = publisher s p .held; walk = record { mark = looksOf s (publisher s p .walk) b .walk .mark; next = nx; looks = lk; waits = wt } }) (omega arith) (λ z. omega arith) (λ c d. absurd (omega arith)) (record { held-below = λ _. publisher-fine kind law z g s (i .shared) p lt .held-below (omega arith); mark-fits = λ _. mk; waits-low = λ _. l })
 
-    walk-kept : Good kind OwnOf z (kept.onward g (Walk p b) (Walked (looksOf s (publisher s p .walk) b .reply))) (walk s p (looksOf s (publisher s p .walk) b) .after)
+    walk-kept : Good kind OwnOf z (kept.advance g (Walk p b) (Walked (looksOf s (publisher s p .walk) b .reply))) (walk s p (looksOf s (publisher s p .walk) b) .after)
     walk-kept =
         let pf = publisher-fine kind law z g s (i .shared) p lt in
         let k = looksOf s (publisher s p .walk) b in
@@ -331,19 +336,19 @@ start-own z s = record {
 }
 
 -- The numbers that a return comes with.
-return-numbers : (n l w nx lk wt : ℕ) (o : WalkReply) → Ends n nx lk wt o → o ≡ Returned l w → (nx ≡ n) × (l ≡ lk) × (w ≡ wt)
-return-numbers n l w nx lk wt (Waiting r) e q = absurd (let y : _≡_ {A = ℕ} 0 1 = cc in omega arith)
-return-numbers n l w nx lk wt Spent e q = absurd (let y : _≡_ {A = ℕ} 0 1 = cc in omega arith)
-return-numbers n l w nx lk wt Quiet e q = absurd e
-return-numbers n l w nx lk wt (Returned a b) e q = let c : a ≡ l = cc in let d : b ≡ w = cc in (e .0, sym c ∙ e .1, sym d ∙ e .2)
+return-numbers : (w : List ℕ) (n mark start b l u nx lk wt : ℕ) (o : WalkReply) → Ends w n mark start b nx lk wt o → o ≡ Returned l u → (nx ≡ n) × (l ≡ lk) × (u ≡ wt)
+return-numbers w n mark start b l u nx lk wt (Waiting r) e q = absurd (let y : _≡_ {A = ℕ} 0 1 = cc in omega arith)
+return-numbers w n mark start b l u nx lk wt Spent e q = absurd (let y : _≡_ {A = ℕ} 0 1 = cc in omega arith)
+return-numbers w n mark start b l u nx lk wt Quiet e q = absurd e
+return-numbers w n mark start b l u nx lk wt (Returned c d) e q = let f : c ≡ l = cc in let g : d ≡ u = cc in (e .0, sym f ∙ e .2, sym g ∙ e .3)
 
 return-shown : (z : Given) (g : Ghost) (s : State) (i : Good kind OwnOf z g s) (p b l w : ℕ) → p < publishers (s .words) → eqb (publisher s p .place) 37 ≡ true
-    → looksOf s (publisher s p .walk) b .reply ≡ Returned l w → Back (traitsOf rules (λ z. z .readers) suc) z g p l w
+    → looksOf s (publisher s p .walk) b .reply ≡ Returned l w → Back (traitsOf rules LAST (λ z. z .readers) suc) z g p l w
 return-shown z g s i p b l w lt turn q =
     let at37 = eqb-true (publisher s p .place) 37 turn in
     let k = looksOf s (publisher s p .walk) b in
     let o = came z g s i p b lt at37 in
-    let n = return-numbers (readers (s .words)) l w (k .walk .next) (k .walk .looks) (k .walk .waits) (k .reply) (o .ends) q in
+    let n = return-numbers (s .words) (readers (s .words)) (publisher s p .walk .mark) (publisher s p .walk .next) b l w (k .walk .next) (k .walk .looks) (k .walk .waits) (k .reply) (o .ends) q in
     let same-waits : k .walk .waits ≡ publisher s p .walk .waits = o .waits-are ∙ rw q refl in
     record {
       none-pending = none-pending z g s i p b lt at37 (n .0);
@@ -352,10 +357,29 @@ return-shown z g s i p b l w lt turn q =
       waits-are = n .2 ∙ (same-waits ∙ sym (i .shared .tallied .waits p (omega arith)));
     }
 
+-- From 35 to 37 a RAISE or a WALK is in turn: there is no 36.
+goes-on : (rs ss : ℕ) (y : Publisher) → kind .publisherDamaged rs ss y ≡ false → 35 ≤ y .place → y .place ≤ 37 → (eqb (y .place) 35 ≡ true) ⊎ (eqb (y .place) 37 ≡ true)
+goes-on rs ss y e low high = go (eqb (y .place) 35) refl
+  where
+    not-36 : y .place ≢ 36
+    not-36 = eqb-false (y .place) 36 (all-false (ownRows rs y) (or-false (anyTrue (ownRows rs y)) (anyTrue (publisherRows versions ss y)) e .0) .1 .0)
+
+    go : (b : Bool) → eqb (y .place) 35 ≡ b → (eqb (y .place) 35 ≡ true) ⊎ (eqb (y .place) 37 ≡ true)
+    go true d = inl d
+    go false d = let ne = eqb-false (y .place) 35 d in inr (eq-eqb (y .place) 37 (omega (arith, not-36)))
+
+no-looks : (s : State) (p : ℕ) → looksOf s (publisher s p .walk) 0 ≡ record { walk = publisher s p .walk; reply = Spent }
+unfolding looksFrom
+no-looks s p = refl
+
 -- All that only the new store can show: a walk passes each reader, ENTER goes 1, 2, 3, 4, 5.
-pub lawful : Lawful rules (λ z. z .readers) suc
+pub lawful : Lawful rules LAST (λ z. z .readers) suc
 lawful = record {
   kind-law = law;
+  last-fits = λ v l. le-ltb LAST v l;
+  below-last = λ v l. ne-eqb v LAST (λ e. omega arith);
+  goes-on = goes-on;
+  no-looks = no-looks;
   Own = OwnOf;
   start-own = λ z s f. start-own z s;
   fresh-out = (refl, refl);

@@ -67,8 +67,8 @@ abbrev pub leaving : Reader → Reader
 leaving x = record { place = 0; first = x .first; second = x .second; published = NOT-READING; picked = x .picked }
 
 -- The reader that a walk looks at when i of n readers have passed.
-abbrev pub asked : ℕ → ℕ → ℕ
-asked n i = i
+abbrev pub lookedAt : ℕ → ℕ → ℕ
+lookedAt n i = i
 
 abbrev pub progress : ℕ → ℕ → ℕ → ℕ → WalkReply → Progress
 progress mark next looks waits a = record { walk = record { mark = mark; next = next; looks = looks; waits = waits }; reply = a }
@@ -79,8 +79,8 @@ progress mark next looks waits a = record { walk = record { mark = mark; next = 
 unfoldable pub looksFrom : List ℕ → ℕ → ℕ → ℕ → ℕ → ℕ → ℕ → Progress
 looksFrom w n mark waits zero next looks = progress mark next looks waits Spent
 looksFrom w n mark waits (suc b) next looks =
-    pick (ltb (readerAt w (asked n next) .published) mark)
-    (progress mark next (looks + 1) (waits + 1) (Waiting (asked n next)))
+    pick (ltb (readerAt w (lookedAt n next) .published) mark)
+    (progress mark next (looks + 1) (waits + 1) (Waiting (lookedAt n next)))
     (pick (leb n (next + 1))
     (progress mark (next + 1) (looks + 1) waits (Returned (looks + 1) waits))
     (looksFrom w n mark waits b (next + 1) (looks + 1)))

@@ -38,9 +38,9 @@ pub record ReaderOk (n cur : ℕ) (F : ℕ → ℕ → Bool) (E : ℕ → ℕ �
   pub safe : pl ≡ 5 → Safe cur F pk
   pub noted : pl ≡ 5 → (k : ℕ) → k < TABLE → entry note k ≡ some (E pk k)
 
-pub record PublisherOk (m cur : ℕ) (E : ℕ → ℕ → ℤ) (p pl c : ℕ) (F : ℕ → Bool) (writes : Bool) (claim : Option ℕ) (former : ℕ → Bool) (draft : List ℤ) : Type 0 where
+pub record PublisherOk (m cur : ℕ) (E : ℕ → ℕ → ℤ) (p pl c : ℕ) (F : ℕ → Bool) (writing : ℕ → Bool) (claim : Option ℕ) (former : ℕ → Bool) (draft : List ℤ) : Type 0 where
   pub bound : (x : ℕ) → Hold pl c F x → p < m
-  pub writes-is : writes ≡ (leb 1 pl && leb pl 33)
+  pub writing-is : (x : ℕ) → writing x ≡ (leb 1 pl && leb pl 33) && eqb c x
   pub former-is : (x : ℕ) → former x ≡ F x
   pub apart : (x : ℕ) → Hold pl c F x → x ≢ cur
   pub claim-is : 1 ≤ pl → pl ≤ 33 → claim ≡ some c
@@ -51,7 +51,7 @@ pub record PublisherOk (m cur : ℕ) (E : ℕ → ℕ → ℤ) (p pl c : ℕ) (F
 -- n readers, m publishers, the current slot, the readers' places and picks, the publishers' places and claims, former slots, entries by slot and number.
 pub record Core (h : Model) (t : Told) (n m cur : ℕ) (rpl rpk ppl pcl : ℕ → ℕ) (F : ℕ → ℕ → Bool) (E : ℕ → ℕ → ℤ) : Type 0 where
   pub readers : (r : ℕ) → ReaderOk n cur F E r (rpl r) (rpk r) (t .inside r) (t .picked r) (h .note r)
-  pub publishers : (p : ℕ) → PublisherOk m cur E p (ppl p) (pcl p) (F p) (t .writes p) (t .claim p) (t .former p) (h .draft p)
+  pub publishers : (p : ℕ) → PublisherOk m cur E p (ppl p) (pcl p) (F p) (t .writing p) (t .claim p) (t .former p) (h .draft p)
   pub distinct : (p q x : ℕ) → Hold (ppl p) (pcl p) (F p) x → Hold (ppl q) (pcl q) (F q) x → p ≡ q
   pub current-is : t .current ≡ some cur
   pub table : (k : ℕ) → k < TABLE → entry (h .table) k ≡ some (E cur k)
@@ -104,6 +104,10 @@ writing-not pl f = go (leb 1 pl) refl (leb pl 33) refl
     go true d true e = absurd (f (leb-true _ _ d) (leb-true _ _ e))
     go true d false e = refl
     go false d b e = refl
+
+or-none : (b : Bool) → b || false ≡ b
+or-none true = refl
+or-none false = refl
 
 -- A slot that is the current one or a former one.
 or-either : (a b : Bool) → a || b ≡ true → (a ≡ true) ⊎ (b ≡ true)
@@ -212,7 +216,7 @@ module _ (h : Model) (t : Told) (n m cur : ℕ) (rpl rpk ppl pcl : ℕ → ℕ) 
     readers = readers-moved p G (λ r five e. g _ ∙ e);
     publishers = at-or p (rw (same p) (let u = i .publishers p in record {
       bound = λ _ _. pm;
-      writes-is = refl;
+      writing-is = λ y. rw (u .writing-is y, writing-not (ppl p) late) (or-none (eqb x y));
       former-is = λ y. u .former-is y ∙ sym (g y);
       apart = λ y o. hold-map _ _ _ _ o (λ _ _ e z. nc (sym (e ∙ z))) (λ e. u .apart y (by-swap (sym (g y) ∙ e)));
       claim-is = λ _ _. refl;
@@ -234,7 +238,7 @@ module _ (h : Model) (t : Told) (n m cur : ℕ) (rpl rpk ppl pcl : ℕ → ℕ) 
     readers = readers-moved p G (λ r five e. g _ ∙ e);
     publishers = at-or p (rw (same p) (let u = i .publishers p in record {
       bound = λ x o. u .bound x (before x o);
-      writes-is = u .writes-is ∙ rw (writing-not (ppl p) old, writing-not pl new) refl;
+      writing-is = λ y. u .writing-is y ∙ rw (writing-not (ppl p) old, writing-not pl new) refl;
       former-is = λ y. u .former-is y ∙ sym (g y);
       apart = λ x o. u .apart x (before x o);
       claim-is = λ a b. absurd (new a b);
@@ -268,7 +272,7 @@ module _ (h : Model) (t : Told) (n m cur : ℕ) (rpl rpk ppl pcl : ℕ → ℕ) 
     publishers = at-or p
         (rw (same p, i .current-is) (record {
           bound = λ _ _. u .bound (pcl p) mine;
-          writes-is = refl;
+          writing-is = λ y. refl;
           former-is = λ y. rw (u .former-is y) (sym (g y));
           apart = λ x o e. hold-map _ _ _ _ o (λ _ q _. omega arith) (λ f. not-mine x (or-either (eqb cur x) (F p x) (sym (g x) ∙ f)) e);
           claim-is = λ _ q. absurd (omega arith);
@@ -278,7 +282,7 @@ module _ (h : Model) (t : Told) (n m cur : ℕ) (rpl rpk ppl pcl : ℕ → ℕ) 
         }))
         (λ q e. rw e (let o = i .publishers q in record {
           bound = o .bound;
-          writes-is = o .writes-is;
+          writing-is = o .writing-is;
           former-is = o .former-is;
           apart = λ x a z. eqb-false q p e (i .distinct q p x a (by-claim (omega arith) (omega arith) (sym z)));
           claim-is = o .claim-is;
@@ -292,7 +296,7 @@ module _ (h : Model) (t : Told) (n m cur : ℕ) (rpl rpk ppl pcl : ℕ → ℕ) 
     whole = omega (arith, u .drafted (omega arith) (omega arith));
   }
     where
-      u : PublisherOk m cur E p (ppl p) (pcl p) (F p) (t .writes p) (t .claim p) (t .former p) (h .draft p)
+      u : PublisherOk m cur E p (ppl p) (pcl p) (F p) (t .writing p) (t .claim p) (t .former p) (h .draft p)
       u = i .publishers p
 
       mine : Hold (ppl p) (pcl p) (F p) (pcl p)
@@ -313,7 +317,7 @@ module _ (h : Model) (t : Told) (n m cur : ℕ) (rpl rpk ppl pcl : ℕ → ℕ) 
     readers = readers-moved p G (λ r five e. absurd (nobody r five e));
     publishers = at-or p (rw (same p) (let u = i .publishers p in record {
       bound = λ x o. absurd (none-held x o);
-      writes-is = u .writes-is ∙ writing-late (ppl p) late;
+      writing-is = λ y. u .writing-is y ∙ rw (writing-late (ppl p) late) refl;
       former-is = λ y. sym (g y);
       apart = λ x o. absurd (none-held x o);
       claim-is = λ q. absurd (omega arith);
@@ -345,7 +349,7 @@ module _ (h : Model) (t : Told) (n m cur : ℕ) (rpl rpk ppl pcl : ℕ → ℕ) 
     publishers = at-or p
         (rw (same p) (record {
           bound = λ x o. u .bound x (before x o);
-          writes-is = u .writes-is ∙ rw (writing-true (ppl p) low (omega arith), writing-true (ppl p + 1) (omega arith) (omega arith)) refl;
+          writing-is = λ y. u .writing-is y ∙ rw (writing-true (ppl p) low (omega arith), writing-true (ppl p + 1) (omega arith) (omega arith)) refl;
           former-is = λ y. u .former-is y ∙ sym (g y);
           apart = λ x o. u .apart x (before x o);
           claim-is = λ _ _. u .claim-is low (omega arith);
@@ -355,7 +359,7 @@ module _ (h : Model) (t : Told) (n m cur : ℕ) (rpl rpk ppl pcl : ℕ → ℕ) 
         }))
         (λ q e. rw e (let o = i .publishers q in record {
           bound = o .bound;
-          writes-is = o .writes-is;
+          writing-is = o .writing-is;
           former-is = o .former-is;
           apart = o .apart;
           claim-is = o .claim-is;
@@ -369,7 +373,7 @@ module _ (h : Model) (t : Told) (n m cur : ℕ) (rpl rpk ppl pcl : ℕ → ℕ) 
     whole = i .whole;
   }
     where
-      u : PublisherOk m cur E p (ppl p) (pcl p) (F p) (t .writes p) (t .claim p) (t .former p) (h .draft p)
+      u : PublisherOk m cur E p (ppl p) (pcl p) (F p) (t .writing p) (t .claim p) (t .former p) (h .draft p)
       u = i .publishers p
 
       mine : Hold (ppl p) (pcl p) (F p) (pcl p)
@@ -386,12 +390,7 @@ module _ (h : Model) (t : Told) (n m cur : ℕ) (rpl rpk ppl pcl : ℕ → ℕ) 
 
   -- What is told of a publisher's slots, by its place, claim and former slots.
   pub held-is : (p x : ℕ) → holds t p x ≡ ((leb 1 (ppl p) && leb (ppl p) 33) && eqb (pcl p) x) || F p x
-  held-is p x = let u = i .publishers p in rw (u .writes-is, u .former-is x) (go (leb 1 (ppl p)) refl (leb (ppl p) 33) refl)
-    where
-      go : (a : Bool) → leb 1 (ppl p) ≡ a → (b : Bool) → leb (ppl p) 33 ≡ b → ((a && b) && is (t .claim p) x) || F p x ≡ ((a && b) && eqb (pcl p) x) || F p x
-      go true d true e = rw (i .publishers p .claim-is (leb-true _ _ d) (leb-true _ _ e)) refl
-      go true d false e = refl
-      go false d b e = refl
+  held-is p x = let u = i .publishers p in rw (u .writing-is x, u .former-is x) refl
 
   hold-of : (p x : ℕ) → holds t p x ≡ true → Hold (ppl p) (pcl p) (F p) x
   hold-of p x e = go (leb 1 (ppl p)) refl (leb (ppl p) 33) refl (eqb (pcl p) x) refl (sym (held-is p x) ∙ e)
@@ -401,6 +400,10 @@ module _ (h : Model) (t : Told) (n m cur : ℕ) (rpl rpk ppl pcl : ℕ → ℕ) 
       go true d true e false f q = by-swap q
       go true d false e c f q = by-swap q
       go false d b e c f q = by-swap q
+
+  -- Who is told to hold a slot is a publisher of the store.
+  pub held-bound : (p x : ℕ) → holds t p x ≡ true → p < m
+  held-bound p x e = i .publishers p .bound x (hold-of p x e)
 
   picked-some : (r x : ℕ) → t .picked r ≡ some x → (rpl r ≡ 5) × (rpk r ≡ x)
   picked-some r x e = go (eqb (rpl r) 5) refl
@@ -467,7 +470,7 @@ module _ (h : Model) (t : Told) (n m cur : ℕ) (rpl rpk ppl pcl : ℕ → ℕ) 
     where
       not-free : rpk r ≡ x → Safe cur F (rpk r) → ⊥
       not-free e (is-current d) = not-both _ (told-current x ∙ eq-eqb cur x (sym d ∙ e)) (f .0)
-      not-free e (is-former q d) = not-both (holds t q x) (or-right (t .writes q && is (t .claim q) x) (t .former q x) (i .publishers q .former-is x ∙ rw (← e) d)) (f .1 q)
+      not-free e (is-former q d) = not-both (holds t q x) (or-right (t .writing q x) (t .former q x) (i .publishers q .former-is x ∙ rw (← e) d)) (f .1 q)
 
   -- A slot that nobody holds and that is not current is told free.
   pub free-core : (x : ℕ) → cur ≢ x → ((q : ℕ) → Hold (ppl q) (pcl q) (F q) x → ⊥) → Has t x free
@@ -484,7 +487,7 @@ fresh-core first n m E len table = record {
   readers = λ r. record { bound = λ q. absurd (omega arith); inside-is = refl; picked-is = refl; safe = λ q. absurd (omega arith); noted = λ q. absurd (omega arith) };
   publishers = λ p. record {
     bound = λ x o. absurd (none-held x o);
-    writes-is = refl;
+    writing-is = λ x. refl;
     former-is = λ x. refl;
     apart = λ x o. absurd (none-held x o);
     claim-is = λ q. absurd (omega arith);

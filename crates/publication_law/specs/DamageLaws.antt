@@ -4,17 +4,19 @@ use native.Mathlib.Omega.{arith}
 use mathlib.Core.Path.{_≡_, refl, sym, _∙_}
 use mathlib.Core.Bool.{Bool, true, false, not, _&&_, _||_}
 use mathlib.Core.List.{List, [], _∷_}
-use lib.ListN.{length}
+use lib.IntN.{ℤ}
+use lib.ListN.{length, replicate}
 use lib.Dec.{leb, ltb, eqb}
-use borrow.Author.Tests.{eqb-true, eq-eqb, ne-eqb, leb-false, lt-leb, le-leb, ltb-false, le-ltb, not-false}
+use borrow.Author.Tests.{eqb-true, eqb-false, eq-eqb, ne-eqb, not-true, leb-true, leb-false, lt-leb, le-leb, ltb-false, le-ltb, not-false}
 use Rattle.calls.specs.Numbers.{READERS-MAX, PUBLISHERS-MAX, SLOTS-MIN, SLOTS-MAX, TABLE}
 use Rattle.calls.specs.Rows.{anyTrue, anyBelow, outside}
-use Rattle.calls.specs.RowLaws.{and-false, and-not, or-false, neither, negated, within, not-outside, all-false, none-true, none-below, no-below}
+use Rattle.calls.specs.RowLaws.{and-false, and-not, or-false, or-left, or-right, neither, negated, within, not-outside, all-false, none-true, none-below, no-below}
 use Rattle.layout.specs.declared.Reader.{Reader}
 use Rattle.layout.specs.declared.Publisher.{Publisher}
 use Rattle.layout.specs.Layout.{WORDS, kind, readers, publishers, slots, current, version}
-use Rattle.statement.specs.Machine.{State}
+use Rattle.statement.specs.Machine.{State, state}
 use Rattle.publication_law.specs.Steps.{Versions, reader, publisher}
+use Rattle.publication_law.specs.Rules.{Rules, damaged}
 use Rattle.publication_law.specs.Damage.{Kind, headRows, publisherRows, readersDamaged, publishersDamaged, sharedDamage}
 
 pub record HeadFine (K : Kind) (s : State) : Type 0 where
@@ -34,6 +36,13 @@ pub record Fine (K : Kind) (s : State) : Type 0 where
   pub head : HeadFine K s
   pub readers-fine : (r : ℕ) → r < readers (s .words) → K .readerDamaged (slots (s .words)) (reader s r) ≡ false
   pub publishers-fine : (p : ℕ) → p < publishers (s .words) → K .publisherDamaged (readers (s .words)) (slots (s .words)) (publisher s p) ≡ false
+
+-- Readers and publishers of the store have records.
+pub reader-below : (K : Kind) (s : State) → Fine K s → (r : ℕ) → r < readers (s .words) → r < READERS-MAX
+reader-below K s f r l = omega (arith, f .head .readers-high)
+
+pub publisher-below : (K : Kind) (s : State) → Fine K s → (p : ℕ) → p < publishers (s .words) → p < PUBLISHERS-MAX
+publisher-below K s f p l = omega (arith, f .head .publishers-high)
 
 pub fine-of : (K : Kind) (s : State) → sharedDamage K s ≡ false → Fine K s
 fine-of K s e =
@@ -104,10 +113,17 @@ pub publisher-to : (vs : Versions) (slots : ℕ) (y : Publisher) → PublisherFi
 publisher-to vs slots y f = none-true (publisherRows vs slots y) (
   and-not (not (eqb (y .place) 0)) (leb slots (y .held)) (λ e. lt-leb slots (y .held) (f .held-below (some-place (y .place) e))),
   (
-    and-not (leb 35 (y .place)) (vs .wrongMark (y .walk .mark)) (λ e. f .mark-fits (borrow.Author.Tests.leb-true 35 (y .place) e)),
-    (and-not (leb 35 (y .place)) (ltb (y .walk .looks) (y .walk .waits)) (λ e. le-ltb _ _ (f .waits-low (borrow.Author.Tests.leb-true 35 (y .place) e))), tt),
+    and-not (leb 35 (y .place)) (vs .wrongMark (y .walk .mark)) (λ e. f .mark-fits (leb-true 35 (y .place) e)),
+    (and-not (leb 35 (y .place)) (ltb (y .walk .looks) (y .walk .waits)) (λ e. le-ltb _ _ (f .waits-low (leb-true 35 (y .place) e))), tt),
   ),
 )
   where
     some-place : (n : ℕ) → not (eqb n 0) ≡ true → 1 ≤ n
-    some-place n e = let q = borrow.Author.Tests.eqb-false n 0 (borrow.Author.Tests.not-true (eqb n 0) e) in omega arith
+    some-place n e = let q = eqb-false n 0 (not-true (eqb n 0) e) in omega arith
+
+-- A store with every number 0 is damaged.
+pub zero-damaged : (R : Rules) (es : List ℤ) → damaged R (state (replicate WORDS 0) es) ≡ true
+unfolding damaged
+zero-damaged R es = or-left (sharedDamage (R .kind) (state (replicate WORDS 0) es)) (R .further (state (replicate WORDS 0) es))
+    (or-left (anyTrue (headRows (R .kind) (state (replicate WORDS 0) es)) || readersDamaged (R .kind) (state (replicate WORDS 0) es)) (publishersDamaged (R .kind) (state (replicate WORDS 0) es))
+    (or-left (anyTrue (headRows (R .kind) (state (replicate WORDS 0) es))) (readersDamaged (R .kind) (state (replicate WORDS 0) es)) (or-right (not (eqb 0 (R .kind .number))) true refl)))

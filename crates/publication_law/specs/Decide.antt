@@ -10,13 +10,13 @@ use borrow.Author.Tests.{eqb-true, eqb-false}
 use Rattle.calls.specs.declared.Reply.{Reply}
 use Rattle.calls.specs.declared.Reply.the-variants.{Refused}
 use Rattle.calls.specs.Rows.{Test, firstOf}
-use Rattle.calls.specs.RowLaws.{AllClear, allNumbers, clear, none-applies, first-below, not-both, pick-split}
+use Rattle.calls.specs.RowLaws.{AllClear, allAbove, clear, none-applies, not-both, pick-split}
 use Rattle.calls.specs.Events.{accepted}
 use Rattle.statement.specs.Machine.{State, Outcome, outcome}
 use Rattle.publication_law.specs.Steps.{decide}
 
 -- Accepted, with no row that applies; or refused, with the state as it was.
-pub decided : (Q : Outcome → Type 0) (rows : List Test) (o : Outcome) (s : State) → allNumbers rows ≡ true
+pub decided : (Q : Outcome → Type 0) (rows : List Test) (o : Outcome) (s : State) → allAbove 0 rows ≡ true
     → (AllClear rows → Q o) → Q (outcome (Refused (firstOf rows)) s) → Q (decide rows o s)
 decided Q rows o s n f g = pick-split Q (eqb (firstOf rows) 0) (λ e. f (clear rows n (eqb-true (firstOf rows) 0 e))) (λ e. g)
 
@@ -27,7 +27,7 @@ pub decide-leaves : (rows : List Test) (o : Outcome) (s : State) (n : ℕ) → a
 decide-leaves rows o s n ok = pick-split (λ (q : Outcome). q .reply ≡ Refused n → q .after ≡ s) (eqb (firstOf rows) 0)
     (λ _ e. absurd (not-both _ ok (rw e refl))) (λ _ _. refl)
 
--- The number of a refusal is the first row's that applies, and it is below 100.
+-- The number of a refusal is the first row's that applies, and it is not 0.
 pub decide-why : (rows : List Test) (o : Outcome) (s : State) (n : ℕ) → accepted (o .reply) ≡ true → decide rows o s .reply ≡ Refused n → (firstOf rows ≡ n) × (n ≢ 0)
 decide-why rows o s n ok = pick-split (λ (q : Outcome). q .reply ≡ Refused n → (firstOf rows ≡ n) × (n ≢ 0)) (eqb (firstOf rows) 0)
     (λ _ e. absurd (not-both _ ok (rw e refl)))

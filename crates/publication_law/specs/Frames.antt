@@ -20,16 +20,11 @@ use Rattle.layout.specs.declared.Publisher.{Publisher}
 use Rattle.layout.specs.declared.Progress.{Progress}
 use Rattle.layout.specs.Layout.{CURRENT-AT, VERSION-AT, RELEASES-AT, WORDS, publishers, version, readerAt, publisherAt}
 use Rattle.statement.specs.Machine.{State, state, Outcome}
-use Rattle.statement.specs.Companions.{readerNamed, publisherNamed}
+use Rattle.statement.specs.Companions.{readerNamed, publisherNamed, Framed}
 use Rattle.publication_law.specs.Steps.{Versions, publisher, look, lookTests, claim, claimTests, write, writeTests, swap, swapTests, sync, syncTests, raise, walk, release, releaseTests, oneMore}
 use Rattle.publication_law.specs.Damage.{Kind}
-use Rattle.publication_law.specs.DamageLaws.{Fine}
+use Rattle.publication_law.specs.DamageLaws.{Fine, publisher-below}
 use Rattle.publication_law.specs.Moves.{MovesPublisher, MovesReader, moves-publisher, moves-head}
-
--- After call c only the named record moved.
-pub record Framed (c : Call) (w w′ : List ℕ) : Type 0 where
-  pub readers : (r : ℕ) → readerNamed c ≢ some r → readerAt w′ r ≡ readerAt w r
-  pub publishers : (p : ℕ) → publisherNamed c ≢ some p → publisherAt w′ p ≡ publisherAt w p
 
 pub same-framed : (c : Call) (w : List ℕ) → Framed c w w
 same-framed c w = record { readers = λ r ne. refl; publishers = λ p ne. refl }
@@ -54,7 +49,7 @@ module _ (K : Kind) (s : State) (f : Fine K s) where
   long = f .head .long
 
   few : (p : ℕ) → p < publishers (s .words) → p < PUBLISHERS-MAX
-  few p l = omega (arith, f .head .publishers-high)
+  few = publisher-below K s f
 
   pub claim-framed : (e : Bool) (p x : ℕ) → AllClear (claimTests e s p x) → Framed (Claim p x) (s .words) (claim s p x .after .words)
   claim-framed e p x c = publisher-framed (Claim p x) _ _ p _ _ _ _ (moves-publisher (s .words) p _ long (few p (leb-false _ _ (c .0)))) refl

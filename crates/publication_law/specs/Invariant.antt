@@ -34,21 +34,21 @@ use Rattle.layout.specs.Layout.{KIND-AT, READERS-AT, PUBLISHERS-AT, SLOTS-AT, C
 use Rattle.layout.specs.Laws.{fresh-long, fresh-head, fresh-reader, fresh-publisher}
 use Rattle.statement.specs.Machine.{State, state, Outcome, outcome, Given, heldSlot, pickedSlot, currentSlot}
 use Rattle.statement.specs.Demand3.{Slots, Picks}
-use Rattle.statement.specs.Kept.{Pend, pending, Ghost, ghost₀, onward}
-use Rattle.publication_law.specs.Steps.{Versions, reader, publisher, putReader, putPublisher, atPlace, lookTests, look, claimTests, claim, inUse, writeTests, write, swapTests, swap, syncTests, sync, newWalk, raise, placeAfter, walked, walk, releaseTests, release, oneMore, makingTests, made}
+use Rattle.statement.specs.Kept.{Pend, pending, Ghost, ghost₀, advance}
+use Rattle.publication_law.specs.Steps.{Versions, reader, publisher, putPublisher, atPlace, lookTests, look, claimTests, claim, inUse, writeTests, write, swapTests, swap, syncTests, sync, newWalk, raise, placeAfter, walked, walk, releaseTests, release, oneMore, makingTests, made}
 use Rattle.publication_law.specs.Damage.{Kind, publisherRows}
 use Rattle.publication_law.specs.DamageLaws.{HeadFine, Fine, PublisherFine, publisher-of}
 use Rattle.publication_law.specs.Core.{Core, Hold, hold-map, claim-core, late-core, swap-core, release-core, write-core, held-is, role-core, safe-core, free-core, fresh-core}
 use Rattle.publication_law.specs.Core.Hold.{by-swap}
 use Rattle.publication_law.specs.Grace.{Grace, early-grace, wait-grace, sync-grace, nobody, release-grace, fresh-grace}
-use Rattle.publication_law.specs.Single.{late, late-early, late-same, late-swap, single, single-free}
+use Rattle.publication_law.specs.Single.{formerAt, former-early, former-same, former-swap, single, single-free}
 use Rattle.publication_law.specs.Tallied.{Tallied, phaseAt, phase-writing, phase-syncing, stay-tallied, phase-tallied, sync-tallied, wait-tallied, return-tallied, release-tallied, fresh-tallied}
 use Rattle.publication_law.specs.Entries.{slotEntry, set-entry, entry-same, slot-same}
 use Rattle.publication_law.specs.Moves.{MovesPublisher, publisher-field, moves-publisher, moves-head, MovesReader, reader-field}
 
 -- The slots that were current before a publisher's swaps.
 abbrev pub formers : Publisher → ℕ → Bool
-formers y = late (y .place) (y .held)
+formers y = formerAt (y .place) (y .held)
 
 pub record Sized (z : Given) (s : State) : Type 0 where
   pub readers-are : readers (s .words) ≡ z .readers

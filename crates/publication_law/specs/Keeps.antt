@@ -9,7 +9,7 @@ use mathlib.Core.Option.{Option, none, some}
 use lib.IntN.{ℤ, pos}
 use lib.ListN.{getD, set, length, length-set, replicate, length-replicate}
 use lib.Dec.{leb, ltb, eqb}
-use borrow.Author.Tests.{eqb-true, eqb-false, eq-eqb, ne-eqb, leb-true, leb-false, le-leb, lt-leb, ltb-true, ltb-false, lt-ltb, le-ltb, not-false}
+use borrow.Author.Tests.{eqb-true, eqb-false, eq-eqb, ne-eqb, leb-true, leb-false, le-leb, lt-leb, ltb-true, ltb-false, lt-ltb, le-ltb, not-true, not-false}
 use Rattle.calls.specs.declared.Call.{Call}
 use Rattle.calls.specs.declared.Call.the-variants.{Enter, Look, Leave, Claim, Write, Swap, Sync, Raise, Walk, Release}
 use Rattle.calls.specs.declared.Reply.{Reply}
@@ -20,9 +20,9 @@ use Rattle.calls.specs.Base.{pick, upd, is}
 use Rattle.calls.specs.Numbers.{READERS-MAX, PUBLISHERS-MAX, SLOTS-MIN, SLOTS-MAX, TABLE, FEATHERED, MODULUS}
 use Rattle.calls.specs.Rows.{Test, firstOf, anyTrue, anyBelow, outside}
 use Rattle.calls.specs.Rows.Test.{_gives_}
-use Rattle.calls.specs.RowLaws.{clash, not-both, and-false, or-false, neither, within, none-below, no-below, pick-split, same, at-or, AllClear}
+use Rattle.calls.specs.RowLaws.{clash, not-both, and-true, and-false, or-false, neither, within, none-below, no-below, pick-split, same, at-or, AllClear}
 use Rattle.calls.specs.Events.{accepted}
-use Rattle.calls.specs.Model.{Model, entry}
+use Rattle.calls.specs.Model.{Model, entry, firstTable}
 use Rattle.calls.specs.Told.{Told, holds, Has}
 use Rattle.calls.specs.Told.Role.{free}
 use Rattle.calls.specs.Tally.{Tally}
@@ -34,14 +34,14 @@ use Rattle.layout.specs.Layout.{HEAD, KIND-AT, READERS-AT, PUBLISHERS-AT, SLOTS
 use Rattle.layout.specs.Laws.{fresh-long, fresh-head, fresh-reader, fresh-publisher}
 use Rattle.statement.specs.Machine.{State, state, Outcome, outcome, Given, heldSlot, pickedSlot, currentSlot}
 use Rattle.statement.specs.Demand3.{Slots, Picks}
-use Rattle.statement.specs.Kept.{Pend, pending, Ghost, ghost₀, onward}
-use Rattle.publication_law.specs.Steps.{Versions, upTo, noSuchPublisher, reader, publisher, putReader, putPublisher, atPlace, lookTests, look, claimTests, claim, inUse, writeTests, write, swapTests, swap, syncTests, sync, newWalk, raise, placeAfter, walked, walk, releaseTests, release, oneMore, makingTests, made}
+use Rattle.statement.specs.Kept.{Pend, pending, Ghost, ghost₀, advance}
+use Rattle.publication_law.specs.Steps.{Versions, upTo, noSuchPublisher, reader, publisher, putPublisher, atPlace, lookTests, look, claimTests, claim, inUse, writeTests, write, swapTests, swap, syncTests, sync, newWalk, raise, placeAfter, walked, walk, releaseTests, release, oneMore, makingTests, made}
 use Rattle.publication_law.specs.Damage.{Kind, publisherRows}
-use Rattle.publication_law.specs.DamageLaws.{HeadFine, Fine, PublisherFine, publisher-of}
-use Rattle.publication_law.specs.Core.{Core, Hold, hold-map, claim-core, late-core, swap-core, release-core, write-core, held-is, role-core, safe-core, free-core, fresh-core}
+use Rattle.publication_law.specs.DamageLaws.{HeadFine, Fine, PublisherFine, publisher-of, publisher-below}
+use Rattle.publication_law.specs.Core.{Core, Hold, hold-map, claim-core, late-core, swap-core, release-core, write-core, held-is, held-bound, role-core, safe-core, free-core, fresh-core}
 use Rattle.publication_law.specs.Core.Hold.{by-swap}
 use Rattle.publication_law.specs.Grace.{Grace, early-grace, wait-grace, sync-grace, nobody, release-grace, fresh-grace}
-use Rattle.publication_law.specs.Single.{late, late-early, late-same, late-swap, single, single-free}
+use Rattle.publication_law.specs.Single.{formerAt, former-early, former-same, former-swap, single, single-free}
 use Rattle.publication_law.specs.Tallied.{Tallied, phaseAt, phase-writing, phase-syncing, stay-tallied, phase-tallied, sync-tallied, wait-tallied, return-tallied, release-tallied, fresh-tallied}
 use Rattle.publication_law.specs.Entries.{slotEntry, set-entry, entry-same, slot-same}
 use Rattle.publication_law.specs.Moves.{MovesPublisher, publisher-field, moves-publisher, moves-head, MovesReader, reader-field}
@@ -62,9 +62,10 @@ up-to-law last = record {
   raised-fits = λ m e. or-false (eqb m 0) (ltb last m) e .1;
 }
 
--- .. and of its test of a publisher: it has the shared rows.
+-- .. and of its test of a publisher: there is no place above 38, and it has the shared rows.
 pub record KindLaw (K : Kind) : Type 0 where
   pub versions-law : VersionsLaw (K .versions)
+  pub places : (rs ss : ℕ) (y : Publisher) → K .publisherDamaged rs ss y ≡ false → y .place ≤ 38
   pub shared-rows : (rs ss : ℕ) (y : Publisher) → K .publisherDamaged rs ss y ≡ false → anyTrue (publisherRows (K .versions) ss y) ≡ false
 
 -- The waits after a walk's answer.
@@ -79,7 +80,7 @@ module _ (K : Kind) (law : KindLaw K) (z : Given) (g : Ghost) (s : State) (i : I
   long = i .fine .head .long
 
   few : (p : ℕ) → p < publishers (s .words) → p < PUBLISHERS-MAX
-  few p l = omega (arith, i .fine .head .publishers-high)
+  few = publisher-below K s (i .fine)
 
   pub publisher-fine : (p : ℕ) → p < publishers (s .words) → PublisherFine (K .versions) (slots (s .words)) (publisher s p)
   publisher-fine p l = publisher-of (K .versions) (slots (s .words)) (publisher s p) (law .shared-rows _ _ _ (i .fine .publishers-fine p l))
@@ -94,14 +95,14 @@ module _ (K : Kind) (law : KindLaw K) (z : Given) (g : Ghost) (s : State) (i : I
 
   pub claim-keeps : (e : Bool) (p x : ℕ) → AllClear (claimTests e s p x)
       → K .publisherDamaged (readers (s .words)) (slots (s .words)) (record { place = 1; held = x; walk = publisher s p .walk }) ≡ false
-      → Invariant K z (onward g (Claim p x) (Claimed x)) (claim s p x .after)
+      → Invariant K z (advance g (Claim p x) (Claimed x)) (claim s p x .after)
   claim-keeps e p x f ok =
       let lt = leb-false (publishers (s .words)) p (f .0) in
       let idle-now = eqb-true (publisher s p .place) 0 (not-false _ (f .1 .1 .0)) in
       let free-slot = f .1 .1 .1 .1 .0 in
       publisher-moved K z g s i _ _ _ p _ _ _ _ (moves-publisher (s .words) p _ long (few p lt)) refl (i .fine .head .current-below) (i .fine .head .version-fits) ok
       (claim-core _ _ _ _ _ _ _ _ _ _ _ (i .core) p x (Claimed x) _ lt (λ a b. omega arith) (not-current x free-slot) (unheld x free-slot)
-      (λ y. sym (late-early (publisher s p .place) (publisher s p .held) y (omega arith))))
+      (λ y. sym (former-early (publisher s p .place) (publisher s p .held) y (omega arith))))
       (early-grace _ _ _ _ _ (i .grace) p _ _ (omega arith) (omega arith))
       (phase-tallied _ _ _ _ _ (i .tallied) p 1 _ writing refl (omega arith))
 
@@ -112,7 +113,7 @@ module _ (K : Kind) (law : KindLaw K) (z : Given) (g : Ghost) (s : State) (i : I
 
   pub write-keeps : (p : ℕ) (v : ℤ) → AllClear (writeTests s p v)
       → K .publisherDamaged (readers (s .words)) (slots (s .words)) (atPlace (publisher s p) (publisher s p .place + 1)) ≡ false
-      → Invariant K z (onward g (Write p v) (Written (publisher s p .place))) (write s p v .after)
+      → Invariant K z (advance g (Write p v) (Written (publisher s p .place))) (write s p v .after)
   write-keeps p v f ok =
       let lt = leb-false (publishers (s .words)) p (f .0) in
       let range = within 1 32 (publisher s p .place) (f .1 .1 .0) in
@@ -124,50 +125,50 @@ module _ (K : Kind) (law : KindLaw K) (z : Given) (g : Ghost) (s : State) (i : I
       (i .fine .head .current-below) (i .fine .head .version-fits) ok
       (rw (set-entry (s .entries) (publisher s p .held) (publisher s p .place - 1) v (omega arith) room)
       (write-core _ _ _ _ _ _ _ _ _ _ _ (i .core) p v (Written (publisher s p .place)) _ low high
-      (λ y. late-early (publisher s p .place + 1) (publisher s p .held) y (omega arith) ∙ sym (late-early (publisher s p .place) (publisher s p .held) y (omega arith)))))
+      (λ y. former-early (publisher s p .place + 1) (publisher s p .held) y (omega arith) ∙ sym (former-early (publisher s p .place) (publisher s p .held) y (omega arith)))))
       (early-grace _ _ _ _ _ (i .grace) p _ _ (omega arith) (omega arith))
       (stay-tallied _ _ _ _ _ (i .tallied) p (publisher s p .place + 1) _ (phase-writing (publisher s p .place + 1) (omega arith) (omega arith) ∙ sym (phase-writing (publisher s p .place) low (omega arith)))
       (λ l. absurd (omega arith)) (λ l. refl))
 
   pub swap-keeps : (p : ℕ) → AllClear (swapTests s p)
       → K .publisherDamaged (readers (s .words)) (slots (s .words)) (record { place = 34; held = current (s .words); walk = publisher s p .walk }) ≡ false
-      → Invariant K z (onward g (Swap p) (Swapped (current (s .words)))) (swap s p .after)
+      → Invariant K z (advance g (Swap p) (Swapped (current (s .words)))) (swap s p .after)
   swap-keeps p f ok =
       let lt = leb-false (publishers (s .words)) p (f .0) in
       let at33 = eqb-true (publisher s p .place) 33 (not-false _ (f .1 .0)) in
       publisher-moved K z g s i _ _ _ p _ _ _ _
       (moves-head (s .words) _ p _ _ _ _ (moves-publisher (s .words) p _ long (few p lt)) long CURRENT-AT (publisher s p .held) (omega arith) (omega arith)) refl
       (publisher-fine p lt .held-below (omega arith)) (i .fine .head .version-fits) ok
-      (swap-core _ _ _ _ _ _ _ _ _ _ _ (i .core) p _ (Swapped (current (s .words))) _ at33 (λ y. late-swap (publisher s p .place) (publisher s p .held) (current (s .words)) y (omega arith)))
+      (swap-core _ _ _ _ _ _ _ _ _ _ _ (i .core) p _ (Swapped (current (s .words))) _ at33 (λ y. former-swap (publisher s p .place) (publisher s p .held) (current (s .words)) y (omega arith)))
       (early-grace _ _ _ _ _ (i .grace) p _ _ (omega arith) (omega arith))
       (phase-tallied _ _ _ _ _ (i .tallied) p 34 _ swapped refl (omega arith))
 
   pub sync-keeps : (p : ℕ) → AllClear (syncTests (K .versions) s p)
       → K .publisherDamaged (readers (s .words)) (slots (s .words)) (record { place = 35; held = publisher s p .held; walk = newWalk (K .versions .markAt (version (s .words))) }) ≡ false
-      → Invariant K z (onward g (Sync p) (Synced (K .versions .markAt (version (s .words))))) (sync (K .versions) s p .after)
+      → Invariant K z (advance g (Sync p) (Synced (K .versions .markAt (version (s .words))))) (sync (K .versions) s p .after)
   sync-keeps p f ok =
       let lt = leb-false (publishers (s .words)) p (f .0) in
       let at34 = eqb-true (publisher s p .place) 34 (not-false _ (f .1 .0)) in
       publisher-moved K z g s i _ _ _ p _ _ _ _ (moves-publisher (s .words) p _ long (few p lt)) refl (i .fine .head .current-below) (i .fine .head .version-fits) ok
-      (late-core _ _ _ _ _ _ _ _ _ _ _ (i .core) p 35 _ _ (λ a b. omega arith) (λ a b. omega arith) (λ y. late-same (publisher s p .place) 35 (publisher s p .held) y (omega arith) (omega arith)))
+      (late-core _ _ _ _ _ _ _ _ _ _ _ (i .core) p 35 _ _ (λ a b. omega arith) (λ a b. omega arith) (λ y. former-same (publisher s p .place) 35 (publisher s p .held) y (omega arith) (omega arith)))
       (sync-grace _ _ _ _ _ (i .grace) (g .told) p _ (λ r. i .core .readers r .inside-is))
       (sync-tallied _ _ _ _ _ (i .tallied) p)
 
   -- RAISE, at 35 or 36.
   module _ (p : ℕ) (lt : p < publishers (s .words)) (low : 35 ≤ publisher s p .place) (high : publisher s p .place ≤ 36) where
     raise-core : Core (g .model) (g .told) (readers (s .words)) (publishers (s .words)) (current (s .words)) (λ j. reader s j .place) (λ j. reader s j .picked)
-        (upd (λ q. publisher s q .place) p 37) (upd (λ q. publisher s q .held) p (publisher s p .held)) (upd (λ q. formers (publisher s q)) p (late 37 (publisher s p .held))) (slotEntry (s .entries))
-    raise-core = late-core _ _ _ _ _ _ _ _ _ _ _ (i .core) p 37 _ _ (λ a b. omega arith) (λ a b. omega arith) (λ y. late-same (publisher s p .place) 37 (publisher s p .held) y (omega arith) (omega arith))
+        (upd (λ q. publisher s q .place) p 37) (upd (λ q. publisher s q .held) p (publisher s p .held)) (upd (λ q. formers (publisher s q)) p (formerAt 37 (publisher s p .held))) (slotEntry (s .entries))
+    raise-core = late-core _ _ _ _ _ _ _ _ _ _ _ (i .core) p 37 _ _ (λ a b. omega arith) (λ a b. omega arith) (λ y. former-same (publisher s p .place) 37 (publisher s p .held) y (omega arith) (omega arith))
 
-    raise-grace : Grace (g .pend) (λ j. reader s j .place) (λ j. reader s j .picked) (upd (λ q. publisher s q .place) p 37) (upd (λ q. formers (publisher s q)) p (late 37 (publisher s p .held)))
-    raise-grace = wait-grace _ _ _ _ _ (i .grace) p 37 _ low (omega arith) (omega arith) (λ e. absurd (omega arith)) (λ y. late-same (publisher s p .place) 37 (publisher s p .held) y (omega arith) (omega arith))
+    raise-grace : Grace (g .pend) (λ j. reader s j .place) (λ j. reader s j .picked) (upd (λ q. publisher s q .place) p 37) (upd (λ q. formers (publisher s q)) p (formerAt 37 (publisher s p .held)))
+    raise-grace = wait-grace _ _ _ _ _ (i .grace) p 37 _ low (omega arith) (omega arith) (λ e. absurd (omega arith)) (λ y. former-same (publisher s p .place) 37 (publisher s p .held) y (omega arith) (omega arith))
 
     raise-tallied : Tallied (g .tally) (λ j. reader s j .place) (upd (λ q. publisher s q .place) p 37) (upd (λ q. publisher s q .walk .waits) p (publisher s p .walk .waits)) (releases (s .words))
     raise-tallied = stay-tallied _ _ _ _ _ (i .tallied) p 37 _ (phase-syncing 37 (omega arith) (omega arith) ∙ sym (phase-syncing (publisher s p .place) low (omega arith))) (λ _. low) (λ _. refl)
 
     pub raise-keeps : K .publisherDamaged (readers (s .words)) (slots (s .words)) (atPlace (publisher s p) 37) ≡ false
-        → Invariant K z (onward g (Raise p) (raise (K .versions) s p .reply)) (raise (K .versions) s p .after)
-    raise-keeps ok = pick-split (λ (o : Outcome). Invariant K z (onward g (Raise p) (o .reply)) (o .after)) (eqb (version (s .words)) (K .versions .beforeMark (publisher s p .walk .mark)))
+        → Invariant K z (advance g (Raise p) (raise (K .versions) s p .reply)) (raise (K .versions) s p .after)
+    raise-keeps ok = pick-split (λ (o : Outcome). Invariant K z (advance g (Raise p) (o .reply)) (o .after)) (eqb (version (s .words)) (K .versions .beforeMark (publisher s p .walk .mark)))
         (λ e. publisher-moved K z g s i _ _ _ p _ _ _ _
         (moves-head (s .words) _ p _ _ _ _ (moves-publisher (s .words) p _ long (few p lt)) long VERSION-AT (publisher s p .walk .mark) (omega arith) (omega arith)) refl
         (i .fine .head .current-below) (law .versions-law .raised-fits _ (publisher-fine p lt .mark-fits low)) ok raise-core raise-grace raise-tallied)
@@ -177,7 +178,7 @@ module _ (K : Kind) (law : KindLaw K) (z : Given) (g : Ghost) (s : State) (i : I
   -- WALK, at 35 to 37: what it came to keeps the waits, and where it returns nobody is waited for.
   module _ (p b : ℕ) (lt : p < publishers (s .words)) (low : 35 ≤ publisher s p .place) (high : publisher s p .place ≤ 37) where
     walk-tallied : (o : WalkReply) (ws : ℕ) → ws ≡ waitsAfter (publisher s p .walk .waits) o
-        → Tallied (onward g (Walk p b) (Walked o) .tally) (λ j. reader s j .place) (upd (λ q. publisher s q .place) p (placeAfter (publisher s p .place) o)) (upd (λ q. publisher s q .walk .waits) p ws) (releases (s .words))
+        → Tallied (advance g (Walk p b) (Walked o) .tally) (λ j. reader s j .place) (upd (λ q. publisher s q .place) p (placeAfter (publisher s p .place) o)) (upd (λ q. publisher s q .walk .waits) p ws) (releases (s .words))
     walk-tallied (Waiting r) ws e = rw e (wait-tallied _ _ _ _ _ (i .tallied) p (publisher s p .place) refl low)
     walk-tallied Spent ws e = stay-tallied _ _ _ _ _ (i .tallied) p (publisher s p .place) ws refl (λ _. low) (λ _. e)
     walk-tallied Quiet ws e = stay-tallied _ _ _ _ _ (i .tallied) p 36 ws (sym (phase-syncing (publisher s p .place) low high)) (λ _. low) (λ _. e)
@@ -197,17 +198,17 @@ module _ (K : Kind) (law : KindLaw K) (z : Given) (g : Ghost) (s : State) (i : I
 
     pub walk-keeps : (k : Progress) → (placeAfter (publisher s p .place) (k .reply) ≡ 38 → (r : ℕ) → g .pend p r ≡ false) → k .walk .waits ≡ waitsAfter (publisher s p .walk .waits) (k .reply)
         → K .publisherDamaged (readers (s .words)) (slots (s .words)) (walked (publisher s p) k) ≡ false
-        → Invariant K z (onward g (Walk p b) (Walked (k .reply))) (walk s p k .after)
+        → Invariant K z (advance g (Walk p b) (Walked (k .reply))) (walk s p k .after)
     walk-keeps k done ws ok =
         let l : 35 ≤ placeAfter (publisher s p .place) (k .reply) = after-low (k .reply) in
         publisher-moved K z g s i _ _ _ p _ _ _ _ (moves-publisher (s .words) p _ long (few p lt)) refl (i .fine .head .current-below) (i .fine .head .version-fits) ok
-        (late-core _ _ _ _ _ _ _ _ _ _ _ (i .core) p _ _ _ (λ c d. omega arith) (λ c d. omega arith) (λ y. late-same (publisher s p .place) (placeAfter (publisher s p .place) (k .reply)) (publisher s p .held) y (omega arith) (omega arith)))
-        (wait-grace _ _ _ _ _ (i .grace) p _ _ low l (after-high (k .reply)) done (λ y. late-same (publisher s p .place) (placeAfter (publisher s p .place) (k .reply)) (publisher s p .held) y (omega arith) (omega arith)))
+        (late-core _ _ _ _ _ _ _ _ _ _ _ (i .core) p _ _ _ (λ c d. omega arith) (λ c d. omega arith) (λ y. former-same (publisher s p .place) (placeAfter (publisher s p .place) (k .reply)) (publisher s p .held) y (omega arith) (omega arith)))
+        (wait-grace _ _ _ _ _ (i .grace) p _ _ low l (after-high (k .reply)) done (λ y. former-same (publisher s p .place) (placeAfter (publisher s p .place) (k .reply)) (publisher s p .held) y (omega arith) (omega arith)))
         (walk-tallied (k .reply) _ ws)
 
   pub release-keeps : (p : ℕ) → AllClear (releaseTests s p)
       → K .publisherDamaged (readers (s .words)) (slots (s .words)) (atPlace (publisher s p) 0) ≡ false
-      → Invariant K z (onward g (Release p) (Freed (publisher s p .held) (oneMore s))) (release s p .after)
+      → Invariant K z (advance g (Release p) (Freed (publisher s p .held) (oneMore s))) (release s p .after)
   release-keeps p f ok =
       let lt = leb-false (publishers (s .words)) p (f .0) in
       let at38 = eqb-true (publisher s p .place) 38 (not-false _ (f .1 .0)) in
@@ -231,7 +232,7 @@ module _ (K : Kind) (law : KindLaw K) (z : Given) (g : Ghost) (s : State) (i : I
   pub syncing-in-order : (p : ℕ) → 35 ≤ publisher s p .place → publisher s p .place ≤ 37 → g .tally .phase p ≡ syncing
   syncing-in-order p low high = i .tallied .phases p ∙ phase-syncing (publisher s p .place) low high
 
-  held-told : (p x : ℕ) → heldSlot s p x ≡ holds (g .told) p x
+  pub held-told : (p x : ℕ) → heldSlot s p x ≡ holds (g .told) p x
   held-told p x = single (publisher s p .place) (publisher s p .held) x ∙ sym (held-is _ _ _ _ _ _ _ _ _ _ _ (i .core) p x)
 
   pub slots-right : Slots (g .told) s
@@ -255,6 +256,14 @@ module _ (K : Kind) (law : KindLaw K) (z : Given) (g : Ghost) (s : State) (i : I
       go : (b : Bool) → eqb (publisher s p .place) 0 ≡ b → publisher s p .place ≡ 0
       go true e = eqb-true _ _ e
       go false e = absurd (not-both (heldSlot s p (publisher s p .held)) (rw (e, same (publisher s p .held)) refl) (held-told p (publisher s p .held) ∙ f (publisher s p .held)))
+
+  -- Who is told to hold a slot is a publisher of the store, and not at place 0.
+  pub busy-told : (p x : ℕ) → holds (g .told) p x ≡ true → (p < publishers (s .words)) × (eqb (publisher s p .place) 0 ≡ false)
+  busy-told p x e = (held-bound _ _ _ _ _ _ _ _ _ _ _ (i .core) p x e, not-true _ (and-true (not (eqb (publisher s p .place) 0)) (eqb (publisher s p .held) x) (held-told p x ∙ e) .0))
+
+  -- The slot that a publisher at 34 to 38 holds is told to be a former one of its.
+  pub former-told : (p : ℕ) → 34 ≤ publisher s p .place → g .told .former p (publisher s p .held) ≡ true
+  former-told p l = i .core .publishers p .former-is (publisher s p .held) ∙ rw (le-leb 34 (publisher s p .place) l, same (publisher s p .held)) refl
 
   -- A slot that is told free is not in use.
   pub free-told : (x : ℕ) → Has (g .told) x free → inUse s x ≡ false
@@ -315,7 +324,7 @@ module _ (K : Kind) (x : Reader) (z : Given) (s : State) (f : AllClear (makingTe
   publisher-none h = fun-ext (λ p. ap h (fresh-publisher (K .number) (z .readers) (z .publishers) (z .slots) (z .version) x p))
 
   pub made-invariant : x .place ≡ 0 → x .picked ≡ 0 → K .readerDamaged (z .slots) x ≡ false → K .publisherDamaged (z .readers) (z .slots) noPublisher ≡ false
-      → Invariant K z (ghost₀ (replicate TABLE FEATHERED)) (made (K .number) x z s)
+      → Invariant K z (ghost₀ firstTable) (made (K .number) x z s)
   unfolding w
   made-invariant a b reader-ok publisher-ok = record {
     fine = made-fine reader-ok publisher-ok;
@@ -330,7 +339,7 @@ module _ (K : Kind) (x : Reader) (z : Given) (s : State) (f : AllClear (makingTe
       publisher-none (λ (y : Publisher). y .held),
       publisher-none formers,
     )
-        (fresh-core (replicate TABLE FEATHERED) _ _ (slotEntry (replicate (length (s .entries)) FEATHERED)) refl
+        (fresh-core firstTable _ _ (slotEntry (replicate (length (s .entries)) FEATHERED)) refl
         (λ k l. entry-same TABLE k FEATHERED l ∙ ap some (sym (slot-same (length (s .entries)) k FEATHERED l (omega (arith, eqb-true (length (s .entries)) (z .slots * TABLE) (not-false _ (f .1 .1 .1 .1 .0)), ss .0))))));
     grace = rw (reader-zero (λ (y : Reader). y .place) a refl, reader-zero (λ (y : Reader). y .picked) b refl, publisher-none (λ (y : Publisher). y .place), publisher-none formers) fresh-grace;
     tallied = rw (head RELEASES-AT (omega arith), reader-zero (λ (y : Reader). y .place) a refl, publisher-none (λ (y : Publisher). y .place), publisher-none (λ (y : Publisher). y .walk .waits)) fresh-tallied;

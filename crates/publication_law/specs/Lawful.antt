@@ -1,65 +1,62 @@
 -- Demand 3 and its companions of a kind with the ten calls, from what only that kind can show: its own invariant, and that its
 -- ENTER, LEAVE, SYNC, RAISE and WALK keep it. Assumes nothing.
-use Prim.Native.Nat.{ℕ, zero, suc, _+_, _-_, _*_, _%_, _<_, _≤_}
+use Prim.Native.Nat.{ℕ, zero, suc, _+_, _%_, _<_, _≤_}
 use native.Mathlib.Omega.{arith}
 use mathlib.Core.Path.{_≡_, refl, sym, ap, _∙_, subst}
-use mathlib.Core.Logic.{_≢_}
+use mathlib.Core.Logic.{_≢_, _⊎_, inl, inr}
 use mathlib.Core.Bool.{Bool, true, false, not, _&&_, _||_}
 use mathlib.Core.List.{List, [], _∷_}
 use mathlib.Core.Option.{Option, none, some}
-use lib.IntN.{ℤ}
-use lib.ListN.{getD, set, length, length-set, replicate}
-use lib.Dec.{leb, ltb, eqb}
-use borrow.Author.Tests.{eqb-true, eq-eqb, leb-false, lt-leb, le-leb, ltb-false, le-ltb, not-false}
+use lib.IntN.{ℤ, pos}
+use lib.Signed.{ltZ}
+use lib.ListN.{getD, length}
+use lib.Seq.{getD-set-other}
+use lib.Dec.{leb, eqb}
+use borrow.Author.Tests.{eqb-true, eqb-false, eq-eqb, ne-eqb, leb-false, lt-leb, le-ltb, not-false}
 use Rattle.calls.specs.declared.Call.{Call}
 use Rattle.calls.specs.declared.Call.the-variants.{Enter, Look, Leave, Claim, Write, Swap, Sync, Raise, Walk, Release}
 use Rattle.calls.specs.declared.Reply.{Reply}
-use Rattle.calls.specs.declared.Reply.the-variants.{Made, At, Pitch, Left, Claimed, Synced, Walked, Refused}
-use Rattle.calls.specs.declared.WalkReply.the-variants.{Returned}
-use Rattle.calls.specs.Base.{pick}
-use Rattle.calls.specs.Numbers.{READERS-MAX, PUBLISHERS-MAX, TABLE, FEATHERED, DAMAGED}
-use Rattle.calls.specs.Rows.{Test, firstOf, anyBelow}
-use Rattle.calls.specs.Rows.Test.{_gives_}
-use Rattle.calls.specs.RowLaws.{clash, and-not, or-false, neither, negated, within, no-below, pick-split, AllClear, allNumbers, allAbove, first-above}
+use Rattle.calls.specs.declared.Reply.the-variants.{Made, At, Pitch, Left, Written, Swapped, Synced, Walked, Freed, Refused}
+use Rattle.calls.specs.declared.WalkReply.the-variants.{Spent, Returned}
+use Rattle.calls.specs.Numbers.{READERS-MAX, PUBLISHERS-MAX, SLOTS-MIN, SLOTS-MAX, TABLE, PITCH-LOW, PITCH-HIGH, NUMBER-MAX, MODULUS, DAMAGED, BUSY}
+use Rattle.calls.specs.Rows.{Test, firstOf, outside}
+use Rattle.calls.specs.RowLaws.{clash, and-not, or-false, neither, negated, within, not-outside, no-below, some-below, pick-split, AllClear, allAbove, all-above, first-within}
+use Rattle.calls.specs.AnswerLaws.{NarrowPitch, Proper}
 use Rattle.calls.specs.Events.{accepted}
 use Rattle.calls.specs.Events.Event.{_⇒_}
-use Rattle.calls.specs.Model.{entry}
-use Rattle.calls.specs.Told.{holds, Has}
-use Rattle.calls.specs.Told.Role.{free}
-use Rattle.calls.specs.Tally.Phase.{returned}
-use Rattle.layout.specs.declared.Reader.{Reader}
+use Rattle.calls.specs.Model.{entry, firstTable}
+use Rattle.calls.specs.Told.{holds}
+use Rattle.calls.specs.Tally.{Phase}
+use Rattle.calls.specs.Tally.Phase.{writing, swapped, syncing, returned}
 use Rattle.layout.specs.declared.Publisher.{Publisher}
 use Rattle.layout.specs.declared.Progress.{Progress}
-use Rattle.layout.specs.Layout.{HEAD, CURRENT-AT, RELEASES-AT, WORDS, readers, publishers, slots, current, version, releases, readerAt, publisherAt, noPublisher}
-use Rattle.layout.specs.Laws.{head-publisher}
-use Rattle.statement.specs.Machine.{State, state, Outcome, outcome, Given, Machine, Fresh, afterAll}
+use Rattle.layout.specs.Layout.{CURRENT-AT, VERSION-AT, RELEASES-AT, WORDS, readers, publishers, slots, current, version, noPublisher, withPublisher}
+use Rattle.layout.specs.Laws.{head-publisher, publisher-back}
+use Rattle.statement.specs.Machine.{State, state, Outcome, outcome, Given, Fresh, afterAll}
 use Rattle.statement.specs.Demand3.{Demand3}
-use Rattle.statement.specs.Companions.{Traits, RefusedLeaves, Frame, Offers, Companions}
-use Rattle.statement.specs.Kept.{Ghost, ghost₀, onward, next, Back, Kept, demand3, companions}
-use Rattle.publication_law.specs.Steps.{reader, publisher, atPlace, decide, anotherBusy, inUse, enterTests, leaveTests, claimTests, syncTests, sync, raise, walk, oneMore, makingTests, made}
+use Rattle.statement.specs.Companions.{MakingAccepts, RefusedLeaves, Framed, Frame, StateCompanions, Companions}
+use Rattle.statement.specs.Kept.{Ghost, ghost₀, advance, next, Back, Kept, demand3, companions}
+use Rattle.publication_law.specs.Steps.{reader, publisher, atPlace, anotherBusy, enterTests, leaveTests, syncTests, sync, raise, walk, oneMore, makingTests, made}
 use Rattle.publication_law.specs.Damage.{Kind, sharedDamage}
-use Rattle.publication_law.specs.Rules.{Rules, damaged, tests, act, rows, step, making, machine}
-use Rattle.publication_law.specs.DamageLaws.{Fine, fine-of, fine-to}
+use Rattle.publication_law.specs.Rules.{Rules, traitsOf, damaged, tests, act, rows, step, making, machine}
+use Rattle.publication_law.specs.DamageLaws.{Fine, fine-of, fine-to, publisher-below}
 use Rattle.publication_law.specs.Moves.{MovesPublisher, MovesReader, moves-publisher, moves-head}
+use Rattle.publication_law.specs.Tallied.{InPhase, in-phase}
 use Rattle.publication_law.specs.Invariant.{Invariant}
-use Rattle.publication_law.specs.Keeps.{KindLaw, publisher-fine, claim-keeps, claim-unpicked, write-keeps, swap-keeps, release-keeps, look-right, released-in-order, slots-right, picks-right, table-right, idle-told, free-told, made-invariant}
+use Rattle.publication_law.specs.Keeps.{KindLaw, publisher-fine, claim-keeps, claim-unpicked, write-keeps, swap-keeps, release-keeps, look-right, released-in-order, slots-right, picks-right, table-right, idle-told, busy-told, former-told, free-told, made-invariant}
 use Rattle.publication_law.specs.Decide.{decided, decide-accepts, decide-leaves, decide-why}
-use Rattle.publication_law.specs.Frames.{Framed, same-framed, reader-framed, claim-framed, write-framed, swap-framed, sync-framed, raise-framed, walk-framed, release-framed}
+use Rattle.publication_law.specs.Frames.{same-framed, reader-framed, claim-framed, write-framed, swap-framed, sync-framed, raise-framed, walk-framed, release-framed}
 
 -- The shared invariant with a kind's own.
 pub record Good (K : Kind) (Own : Ghost → State → Type 0) (z : Given) (g : Ghost) (s : State) : Type 0 where
   pub shared : Invariant K z g s
   pub own : Own g s
 
-abbrev pub firstTable : List ℤ
-firstTable = replicate TABLE FEATHERED
-
--- The traits of a kind whose walk returns after so many passed looks, and whose ENTER goes so from place to place.
-abbrev pub traitsOf : Rules → (Given → ℕ) → (ℕ → ℕ) → Traits
-traitsOf R passes onward-place = record { first = λ z. firstTable; passes = passes; onward = onward-place; exclusive = R .exclusive }
-
-pub record Lawful (R : Rules) (passes : Given → ℕ) (onward-place : ℕ → ℕ) : Type 1 where
+pub record Lawful (R : Rules) (last : ℕ) (passes : Given → ℕ) (onward-place : ℕ → ℕ) : Type 1 where
   pub kind-law : KindLaw (R .kind)
+  -- versions up to the last fit, and below it a SYNC is not refused
+  pub last-fits : (v : ℕ) → v ≤ last → R .kind .versions .tooLarge v ≡ false
+  pub below-last : (v : ℕ) → v < last → R .kind .versions .isLast v ≡ false
   pub Own : Ghost → State → Type 0
   pub start-own : (z : Given) (s : State) → AllClear (makingTests (R .kind .versions) z s) → Own (ghost₀ firstTable) (made (R .kind .number) (R .freshReader) z s)
   pub fresh-out : (R .freshReader .place ≡ 0) × (R .freshReader .picked ≡ 0)
@@ -74,31 +71,22 @@ pub record Lawful (R : Rules) (passes : Given → ℕ) (onward-place : ℕ → �
   pub leave-moves : (s : State) → Fine (R .kind) s → (r : ℕ) → r < readers (s .words) → MovesReader (s .words) (R .leaveWords s r) r (R .left s r)
   pub enter-place : (s : State) → Fine (R .kind) s → (r : ℕ) → r < readers (s .words) → reader s r .place ≤ 4 → R .entered s r .place ≡ onward-place (reader s r .place)
   pub enter-kept : (z : Given) (g : Ghost) (s : State) → Good (R .kind) Own z g s → (r : ℕ) → AllClear (enterTests s r)
-      → Good (R .kind) Own z (onward g (Enter r) (At (R .entered s r .place))) (state (R .enterWords s r) (s .entries))
+      → Good (R .kind) Own z (advance g (Enter r) (At (R .entered s r .place))) (state (R .enterWords s r) (s .entries))
   pub leave-kept : (z : Given) (g : Ghost) (s : State) → Good (R .kind) Own z g s → (r : ℕ) → AllClear (leaveTests s r)
-      → Good (R .kind) Own z (onward g (Leave r) Left) (state (R .leaveWords s r) (s .entries))
+      → Good (R .kind) Own z (advance g (Leave r) Left) (state (R .leaveWords s r) (s .entries))
   pub sync-kept : (z : Given) (g : Ghost) (s : State) → Good (R .kind) Own z g s → (p : ℕ) → AllClear (syncTests (R .kind .versions) s p)
-      → Good (R .kind) Own z (onward g (Sync p) (Synced (R .kind .versions .markAt (version (s .words))))) (sync (R .kind .versions) s p .after)
+      → Good (R .kind) Own z (advance g (Sync p) (Synced (R .kind .versions .markAt (version (s .words))))) (sync (R .kind .versions) s p .after)
   pub raise-kept : (z : Given) (g : Ghost) (s : State) → Good (R .kind) Own z g s → (p : ℕ) → p < publishers (s .words) → R .raisesAt (publisher s p .place) ≡ true
       → Good (R .kind) Own z g (raise (R .kind .versions) s p .after)
   pub walk-kept : (z : Given) (g : Ghost) (s : State) → Good (R .kind) Own z g s → (p b : ℕ) → p < publishers (s .words) → R .walksAt (publisher s p .place) ≡ true
-      → Good (R .kind) Own z (onward g (Walk p b) (Walked (R .looks s p b .reply))) (walk s p (R .looks s p b) .after)
+      → Good (R .kind) Own z (advance g (Walk p b) (Walked (R .looks s p b .reply))) (walk s p (R .looks s p b) .after)
+  -- from 35 to 37 a RAISE or a WALK is in turn, and a WALK with no looks comes to nothing
+  pub goes-on : (rs ss : ℕ) (y : Publisher) → R .kind .publisherDamaged rs ss y ≡ false → 35 ≤ y .place → y .place ≤ 37 → (R .raisesAt (y .place) ≡ true) ⊎ (R .walksAt (y .place) ≡ true)
+  pub no-looks : (s : State) (p : ℕ) → R .looks s p 0 ≡ record { walk = publisher s p .walk; reply = Spent }
   pub return-shown : (z : Given) (g : Ghost) (s : State) → Good (R .kind) Own z g s → (p b l w : ℕ) → p < publishers (s .words) → R .walksAt (publisher s p .place) ≡ true
-      → R .looks s p b .reply ≡ Returned l w → Back (traitsOf R passes onward-place) z g p l w
+      → R .looks s p b .reply ≡ Returned l w → Back (traitsOf R last passes onward-place) z g p l w
 
-module _ (R : Rules) (passes : Given → ℕ) (onward-place : ℕ → ℕ) (L : Lawful R passes onward-place) where
-  all-numbers : (s : State) (c : Call) → allNumbers (rows R s c) ≡ true
-  all-numbers s (Enter r) = refl
-  all-numbers s (Look r k) = refl
-  all-numbers s (Leave r) = refl
-  all-numbers s (Claim p x) = refl
-  all-numbers s (Write p v) = refl
-  all-numbers s (Swap p) = refl
-  all-numbers s (Sync p) = refl
-  all-numbers s (Raise p) = refl
-  all-numbers s (Walk p b) = refl
-  all-numbers s (Release p) = refl
-
+module _ (R : Rules) (last : ℕ) (passes : Given → ℕ) (onward-place : ℕ → ℕ) (L : Lawful R last passes onward-place) where
   above-one : (s : State) (c : Call) → allAbove DAMAGED (tests R s c) ≡ true
   above-one s (Enter r) = refl
   above-one s (Look r k) = refl
@@ -110,6 +98,9 @@ module _ (R : Rules) (passes : Given → ℕ) (onward-place : ℕ → ℕ) (L : 
   above-one s (Raise p) = refl
   above-one s (Walk p b) = refl
   above-one s (Release p) = refl
+
+  all-numbers : (s : State) (c : Call) → allAbove 0 (rows R s c) ≡ true
+  all-numbers s c = all-above DAMAGED 0 (omega arith) (tests R s c) (above-one s c)
 
   act-accepted : (s : State) (c : Call) → accepted (act R s c .reply) ≡ true
   act-accepted s (Enter r) = refl
@@ -140,7 +131,7 @@ module _ (R : Rules) (passes : Given → ℕ) (onward-place : ℕ → ℕ) (L : 
     long = i .shared .fine .head .long
 
     few : (p : ℕ) → p < publishers (s .words) → p < PUBLISHERS-MAX
-    few p l = omega (arith, i .shared .fine .head .publishers-high)
+    few = publisher-below (R .kind) s (i .shared .fine)
 
     claim-kept : (p x : ℕ) → AllClear (tests R s (Claim p x)) → After (Claim p x) (act R s (Claim p x))
     unfolding After
@@ -213,9 +204,9 @@ module _ (R : Rules) (passes : Given → ℕ) (onward-place : ℕ → ℕ) (L : 
     claim-safe p x r = decided (λ (o : Outcome). accepted (o .reply) ≡ true → ¬ (g .told .picked r ≡ some x)) (rows R s (Claim p x)) (act R s (Claim p x)) s refl
         (λ f ok. claim-unpicked (R .kind) (L .kind-law) z g s (i .shared) (R .exclusive) p x (f .1) r) (λ ok. clash (sym ok))
 
-    return-back : (p b l w : ℕ) → step R s (Walk p b) .reply ≡ Walked (Returned l w) → Back (traitsOf R passes onward-place) z g p l w
+    return-back : (p b l w : ℕ) → step R s (Walk p b) .reply ≡ Walked (Returned l w) → Back (traitsOf R last passes onward-place) z g p l w
     unfolding step
-    return-back p b l w = decided (λ (o : Outcome). o .reply ≡ Walked (Returned l w) → Back (traitsOf R passes onward-place) z g p l w) (rows R s (Walk p b)) (act R s (Walk p b)) s refl
+    return-back p b l w = decided (λ (o : Outcome). o .reply ≡ Walked (Returned l w) → Back (traitsOf R last passes onward-place) z g p l w) (rows R s (Walk p b)) (act R s (Walk p b)) s refl
         (λ f q. L .return-shown z g s i p b l w (leb-false _ _ (f .1 .0)) (not-false _ (f .1 .1 .0)) (cc))
         (λ q. absurd (let y : _≡_ {A = ℕ} 0 1 = cc in omega arith))
 
@@ -229,7 +220,7 @@ module _ (R : Rules) (passes : Given → ℕ) (onward-place : ℕ → ℕ) (L : 
     not-damaged c e =
         let q = decide-why (rows R s c) (act R s c) s DAMAGED (act-accepted s c) e in
         let d : firstOf (tests R s c) ≡ DAMAGED = rw undamaged-now at (q .0) in
-        omega (arith, first-above DAMAGED (tests R s c) (above-one s c) (λ y. omega arith))
+        omega (arith, first-within DAMAGED (tests R s c) (above-one s c) (λ y. omega arith) .0)
 
     accepts : (c : Call) → AllClear (tests R s c) → step R s c ≡ act R s c
     unfolding step
@@ -238,12 +229,67 @@ module _ (R : Rules) (passes : Given → ℕ) (onward-place : ℕ → ℕ) (L : 
     named-reader : (r : ℕ) → r < z .readers → leb (readers (s .words)) r ≡ false
     named-reader r l = lt-leb (readers (s .words)) r (omega (arith, i .shared .sized .readers-are))
 
-    nobody-busy : (p : ℕ) → (R .exclusive ≡ true → (q x : ℕ) → holds (g .told) q x ≡ false) → (R .exclusive && anotherBusy s p) ≡ false
-    nobody-busy p f = and-not (R .exclusive) (anotherBusy s p) (λ e. no-below _ (publishers (s .words))
-        (λ q l. and-not (not (eqb q p)) (not (eqb (publisher s q .place) 0)) (λ _. negated _ (eq-eqb (publisher s q .place) 0 (idle-told (R .kind) (L .kind-law) z g s (i .shared) q (f e q))))))
+    named-publisher : (p : ℕ) → p < z .publishers → leb (publishers (s .words)) p ≡ false
+    named-publisher p l = lt-leb (publishers (s .words)) p (omega (arith, i .shared .sized .publishers-are))
 
-    offers : Offers (machine R) (traitsOf R passes onward-place) z (g .told) (g .tally) s
-    offers = record {
+    named-slot : (x : ℕ) → x < z .slots → leb (slots (s .words)) x ≡ false
+    named-slot x l = lt-leb (slots (s .words)) x (omega (arith, i .shared .sized .slots-are))
+
+    idle-turn : (p : ℕ) → ((x : ℕ) → holds (g .told) p x ≡ false) → not (eqb (publisher s p .place) 0) ≡ false
+    idle-turn p f = negated _ (eq-eqb (publisher s p .place) 0 (idle-told (R .kind) (L .kind-law) z g s (i .shared) p f))
+
+    nobody-busy : (p : ℕ) → (R .exclusive ≡ true → (q x : ℕ) → holds (g .told) q x ≡ false) → (R .exclusive && anotherBusy s p) ≡ false
+    nobody-busy p f = and-not (R .exclusive) (anotherBusy s p) (λ e. no-below _ (publishers (s .words)) (λ q l. and-not (not (eqb q p)) (not (eqb (publisher s q .place) 0)) (λ _. idle-turn q (f e q))))
+
+    refused-busy : R .exclusive ≡ true → (p x q y : ℕ) → p < z .publishers → x < z .slots → ((y : ℕ) → holds (g .told) p y ≡ false) → q ≢ p → holds (g .told) q y ≡ true
+        → step R s (Claim p x) .reply ≡ Refused BUSY
+    unfolding step
+    refused-busy e p x q y pn xn f ne held =
+        let b = busy-told (R .kind) (L .kind-law) z g s (i .shared) q y held in
+        let another : anotherBusy s p ≡ true = some-below (λ q. not (eqb q p) && not (eqb (publisher s q .place) 0)) (publishers (s .words)) q (b .0) (rw (ne-eqb q p ne, b .1) refl) in
+        rw (undamaged-now, named-publisher p pn, named-slot x xn, idle-turn p f, e, another) refl
+
+    -- A publisher's place, by its phase.
+    placed : (p : ℕ) (x : Phase) → g .tally .phase p ≡ x → InPhase (publisher s p .place) x
+    placed p x e = subst (InPhase (publisher s p .place)) (sym (i .shared .tallied .phases p) ∙ e) (in-phase (publisher s p .place))
+
+    writes-on : (p : ℕ) (v : ℤ) → p < z .publishers → g .tally .phase p ≡ writing → length (g .model .draft p) < TABLE → ltZ v PITCH-LOW ≡ false → ltZ PITCH-HIGH v ≡ false
+        → step R s (Write p v) .reply ≡ Written (length (g .model .draft p) + 1)
+    writes-on p v pn ph short low high =
+        let at = placed p writing ph in
+        let pl = i .shared .core .publishers p .drafted (at .0) (at .1) in
+        let turn : outside 1 32 (publisher s p .place) ≡ false = not-outside 1 32 (publisher s p .place) (at .0) (omega arith) in
+        rw (accepts (Write p v) (named-publisher p pn, (neither (ltZ v PITCH-LOW) (ltZ PITCH-HIGH v) low high, (turn, tt)))) (ap Written (sym pl))
+
+    swaps-on : (p : ℕ) → p < z .publishers → g .tally .phase p ≡ writing → length (g .model .draft p) ≡ TABLE → (x : ℕ) × (g .told .current ≡ some x) × (step R s (Swap p) .reply ≡ Swapped x)
+    swaps-on p pn ph all =
+        let at = placed p writing ph in
+        let pl = i .shared .core .publishers p .drafted (at .0) (at .1) in
+        let turn : not (eqb (publisher s p .place) 33) ≡ false = negated _ (eq-eqb (publisher s p .place) 33 (omega arith)) in
+        (current (s .words), i .shared .core .current-is, rw (accepts (Swap p) (named-publisher p pn, (turn, tt))) refl)
+
+    syncs-on : (p : ℕ) → p < z .publishers → g .tally .phase p ≡ swapped → version (s .words) < last → accepted (step R s (Sync p) .reply) ≡ true
+    syncs-on p pn ph low = rw (accepts (Sync p) (named-publisher p pn, (negated _ (eq-eqb (publisher s p .place) 34 (placed p swapped ph)), (L .below-last (version (s .words)) low, tt)))) refl
+
+    waits-on : (p b : ℕ) → p < z .publishers → g .tally .phase p ≡ syncing → publisher s p .walk .looks + b ≤ NUMBER-MAX
+        → (accepted (step R s (Raise p) .reply) ≡ true) ⊎ (accepted (step R s (Walk p b) .reply) ≡ true)
+    waits-on p b pn ph few-looks = go (L .goes-on _ _ (publisher s p) (i .shared .fine .publishers-fine p (leb-false _ _ (named-publisher p pn))) (placed p syncing ph .0) (placed p syncing ph .1))
+      where
+        go : (R .raisesAt (publisher s p .place) ≡ true) ⊎ (R .walksAt (publisher s p .place) ≡ true) → (accepted (step R s (Raise p) .reply) ≡ true) ⊎ (accepted (step R s (Walk p b) .reply) ≡ true)
+        go (inl e) = inl (rw (accepts (Raise p) (named-publisher p pn, (negated _ e, tt))) (act-accepted s (Raise p)))
+        go (inr e) = inr (rw (accepts (Walk p b) (named-publisher p pn, (negated _ e, (le-ltb NUMBER-MAX (publisher s p .walk .looks + b) few-looks, tt)))) refl)
+
+    frees-on : (p : ℕ) → p < z .publishers → g .tally .phase p ≡ returned
+        → (x : ℕ) × (g .told .former p x ≡ true) × (step R s (Release p) .reply ≡ Freed x ((g .tally .releases + 1) % MODULUS))
+    frees-on p pn ph =
+        let at = placed p returned ph in
+        let top = L .kind-law .places _ _ (publisher s p) (i .shared .fine .publishers-fine p (leb-false _ _ (named-publisher p pn))) in
+        let turn : not (eqb (publisher s p .place) 38) ≡ false = negated _ (eq-eqb (publisher s p .place) 38 (omega arith)) in
+        let n : oneMore s ≡ (g .tally .releases + 1) % MODULUS = omega (arith, i .shared .tallied .releases) in
+        (publisher s p .held, former-told (R .kind) (L .kind-law) z g s (i .shared) p (omega arith), rw (accepts (Release p) (named-publisher p pn, (turn, tt)), n) refl)
+
+    state-companions : StateCompanions (machine R) (traitsOf R last passes onward-place) z (g .model) (g .told) (g .tally) s
+    state-companions = record {
       undamaged = not-damaged;
       enters = λ r rn low.
           let pl : g .tally .place r ≡ reader s r .place = i .shared .tallied .places r in
@@ -253,10 +299,13 @@ module _ (R : Rules) (passes : Given → ℕ) (onward-place : ℕ → ℕ) (L : 
           rw (accepts (Look r k) (named-reader r rn, (le-ltb 31 k (omega arith), (negated _ (eq-eqb (reader s r .place) 5 (sym (i .shared .tallied .places r) ∙ five)), tt)))) refl;
       leaves = λ r rn four. rw (accepts (Leave r) (named-reader r rn, (le-ltb (reader s r .place) 4 (omega (arith, i .shared .tallied .places r)), tt))) refl;
       claims = λ p x pn xn fr idle others.
-          let ps : leb (publishers (s .words)) p ≡ false = lt-leb (publishers (s .words)) p (omega (arith, i .shared .sized .publishers-are)) in
-          let ss : leb (slots (s .words)) x ≡ false = lt-leb (slots (s .words)) x (omega (arith, i .shared .sized .slots-are)) in
-          let turn = negated _ (eq-eqb (publisher s p .place) 0 (idle-told (R .kind) (L .kind-law) z g s (i .shared) p idle)) in
-          rw (accepts (Claim p x) (ps, (ss, (turn, (nobody-busy p others, (free-told (R .kind) (L .kind-law) z g s (i .shared) x fr, tt)))))) refl;
+          rw (accepts (Claim p x) (named-publisher p pn, (named-slot x xn, (idle-turn p idle, (nobody-busy p others, (free-told (R .kind) (L .kind-law) z g s (i .shared) x fr, tt)))))) refl;
+      busy = refused-busy;
+      writes = writes-on;
+      swaps = swaps-on;
+      syncs = syncs-on;
+      waits = waits-on;
+      frees = frees-on;
       counted = sym (i .shared .tallied .releases);
     }
 
@@ -275,7 +324,7 @@ module _ (R : Rules) (passes : Given → ℕ) (onward-place : ℕ → ℕ) (L : 
       (λ e. absurd (let q = outcome-parts _ _ _ e .0 in let y : _≡_ {A = ℕ} 0 1 = cc in omega arith))
       (f .made)
 
-  kept : Kept (machine R) (traitsOf R passes onward-place)
+  kept : Kept (machine R) (traitsOf R last passes onward-place)
   kept = record {
     Inv = Good (R .kind) (L .Own);
     start = start;
@@ -287,14 +336,14 @@ module _ (R : Rules) (passes : Given → ℕ) (onward-place : ℕ → ℕ) (L : 
     slots = λ z g s i. slots-right (R .kind) (L .kind-law) z g s (i .shared);
     picks = λ z g s i. picks-right (R .kind) (L .kind-law) z g s (i .shared);
     table = λ z g s i. table-right (R .kind) (L .kind-law) z g s (i .shared);
-    offers = offers;
+    state-companions = state-companions;
   }
 
   pub demand3-of : Demand3 (machine R) (λ z. firstTable)
-  demand3-of = demand3 (machine R) (traitsOf R passes onward-place) kept
+  demand3-of = demand3 (machine R) (traitsOf R last passes onward-place) kept
 
-  pub companions-of : Companions (machine R) (traitsOf R passes onward-place)
-  companions-of = companions (machine R) (traitsOf R passes onward-place) kept
+  pub companions-of : Companions (machine R) (traitsOf R last passes onward-place)
+  companions-of = companions (machine R) (traitsOf R last passes onward-place) kept
 
   -- The damage test is false after every list from fresh.
   pub never-damaged-of : (s : State) → Fresh (machine R) s → (cs : List Call) → damaged R (afterAll (machine R) s cs) ≡ false
@@ -329,11 +378,77 @@ module _ (R : Rules) (passes : Given → ℕ) (onward-place : ℕ → ℕ) (L : 
   unfolding step
   step-framed s c = decided (λ (o : Outcome). Framed c (s .words) (o .after .words)) (rows R s c) (act R s c) s (all-numbers s c) (framed s c) (same-framed c (s .words))
 
+  entries-stay : (s : State) (c : Call) → ((p : ℕ) (v : ℤ) → c ≢ Write p v) → act R s c .after .entries ≡ s .entries
+  entries-stay s (Enter r) ne = refl
+  entries-stay s (Look r k) ne = refl
+  entries-stay s (Leave r) ne = refl
+  entries-stay s (Claim p x) ne = refl
+  entries-stay s (Write p v) ne = absurd (ne p v refl)
+  entries-stay s (Swap p) ne = refl
+  entries-stay s (Sync p) ne = refl
+  entries-stay s (Raise p) ne = pick-split (λ (o : Outcome). o .after .entries ≡ s .entries) (eqb (version (s .words)) (R .kind .versions .beforeMark (publisher s p .walk .mark))) (λ _. refl) (λ _. refl)
+  entries-stay s (Walk p b) ne = refl
+  entries-stay s (Release p) ne = refl
+
+  current-stays : (s : State) (c : Call) → AllClear (rows R s c) → ((p : ℕ) → c ≢ Swap p) → current (act R s c .after .words) ≡ current (s .words)
+  current-stays s (Enter r) f ne = L .enter-moves s (fine-undamaged s (f .0)) r (leb-false _ _ (f .1 .0)) .head CURRENT-AT (omega arith)
+  current-stays s (Look r k) f ne = refl
+  current-stays s (Leave r) f ne = L .leave-moves s (fine-undamaged s (f .0)) r (leb-false _ _ (f .1 .0)) .head CURRENT-AT (omega arith)
+  current-stays s (Claim p x) f ne = head-publisher (s .words) p _ CURRENT-AT (omega arith)
+  current-stays s (Write p v) f ne = head-publisher (s .words) p _ CURRENT-AT (omega arith)
+  current-stays s (Swap p) f ne = absurd (ne p refl)
+  current-stays s (Sync p) f ne = head-publisher (s .words) p _ CURRENT-AT (omega arith)
+  current-stays s (Raise p) f ne = pick-split (λ (o : Outcome). current (o .after .words) ≡ current (s .words)) (eqb (version (s .words)) (R .kind .versions .beforeMark (publisher s p .walk .mark)))
+      (λ _. getD-set-other (withPublisher (s .words) p (atPlace (publisher s p) 37)) VERSION-AT CURRENT-AT (publisher s p .walk .mark) 0 (λ e. omega arith) ∙ head-publisher (s .words) p _ CURRENT-AT (omega arith)) (λ _. head-publisher (s .words) p _ CURRENT-AT (omega arith))
+  current-stays s (Walk p b) f ne = head-publisher (s .words) p _ CURRENT-AT (omega arith)
+  current-stays s (Release p) f ne = getD-set-other (withPublisher (s .words) p (atPlace (publisher s p) 0)) RELEASES-AT CURRENT-AT (oneMore s) 0 (λ e. omega arith) ∙ head-publisher (s .words) p _ CURRENT-AT (omega arith)
+
   pub frame-of : Frame (machine R)
   unfolding step
   frame-of = record {
-    readers = λ s c r ne. step-framed s c .readers r ne;
-    publishers = λ s c p ne. step-framed s c .publishers p ne;
+    records = step-framed;
     walk-head = λ s p b k l. decided (λ (o : Outcome). getD (o .after .words) k 0 ≡ getD (s .words) k 0) (rows R s (Walk p b)) (act R s (Walk p b)) s refl (λ f. head-publisher (s .words) p _ k l) refl;
-    walk-entries = λ s p b. decided (λ (o : Outcome). o .after .entries ≡ s .entries) (rows R s (Walk p b)) (act R s (Walk p b)) s refl (λ f. refl) refl;
+    entries = λ s c ne. decided (λ (o : Outcome). o .after .entries ≡ s .entries) (rows R s c) (act R s c) s (all-numbers s c) (λ f. entries-stay s c ne) refl;
+    current = λ s c ne. decided (λ (o : Outcome). current (o .after .words) ≡ current (s .words)) (rows R s c) (act R s c) s (all-numbers s c) (λ f. current-stays s c f ne) refl;
   }
+
+  -- A making with every argument in its range is accepted.
+  pub making-accepts-of : MakingAccepts (machine R) (traitsOf R last passes onward-place)
+  unfolding making
+  making-accepts-of g s long rl rh pl ph sl sh len low = rw (decide-accepts (makingTests (R .kind .versions) g s) (outcome Made (made (R .kind .number) (R .freshReader) g s)) s
+      (negated _ (eq-eqb _ _ long), (not-outside 1 READERS-MAX _ rl rh, (not-outside 1 PUBLISHERS-MAX _ pl ph, (not-outside SLOTS-MIN SLOTS-MAX _ sl sh, (negated _ (eq-eqb _ _ len), (L .last-fits _ low, tt))))))) refl
+
+  -- A reply of a step or a making has an answer that no other reply has: a refusal's number is below 100, a pitch is an entry.
+  act-proper : (s : State) (c : Call) → ((j : ℕ) → NarrowPitch (getD (s .entries) j (pos 0))) → Proper (act R s c .reply)
+  act-proper s (Enter r) n = tt
+  act-proper s (Look r k) n = n _
+  act-proper s (Leave r) n = tt
+  act-proper s (Claim p x) n = tt
+  act-proper s (Write p v) n = tt
+  act-proper s (Swap p) n = tt
+  act-proper s (Sync p) n = tt
+  act-proper s (Raise p) n = pick-split (λ (o : Outcome). Proper (o .reply)) (eqb (version (s .words)) (R .kind .versions .beforeMark (publisher s p .walk .mark))) (λ _. tt) (λ _. tt)
+  act-proper s (Walk p b) n = tt
+  act-proper s (Release p) n = tt
+
+  below-100 : (l : List Test) → allAbove 0 l ≡ true → firstOf l < 100
+  below-100 l n = go (eqb (firstOf l) 0) refl
+    where
+      go : (b : Bool) → eqb (firstOf l) 0 ≡ b → firstOf l < 100
+      go true e = omega (arith, eqb-true (firstOf l) 0 e)
+      go false e = first-within 0 l n (eqb-false (firstOf l) 0 e) .1
+
+  pub proper-of : (s : State) (c : Call) → ((j : ℕ) → NarrowPitch (getD (s .entries) j (pos 0))) → Proper (step R s c .reply)
+  unfolding step
+  proper-of s c n = decided (λ (o : Outcome). Proper (o .reply)) (rows R s c) (act R s c) s (all-numbers s c) (λ f. act-proper s c n) (below-100 (rows R s c) (all-numbers s c))
+
+  pub proper-making-of : (g : Given) (s : State) → Proper (making R g s .reply)
+  unfolding making
+  proper-making-of g s = decided (λ (o : Outcome). Proper (o .reply)) (makingTests (R .kind .versions) g s) (outcome Made (made (R .kind .number) (R .freshReader) g s)) s refl (λ f. tt) (below-100 (makingTests (R .kind .versions) g s) refl)
+
+  -- A WALK with no looks that is accepted leaves the whole state as it was.
+  pub walk-zero-of : (s : State) (p : ℕ) → step R s (Walk p 0) .reply ≡ Walked Spent → step R s (Walk p 0) .after ≡ s
+  unfolding step
+  walk-zero-of s p = decided (λ (o : Outcome). o .reply ≡ Walked Spent → o .after ≡ s) (rows R s (Walk p 0)) (act R s (Walk p 0)) s refl
+      (λ f _. rw (L .no-looks s p) (ap (λ (w : List ℕ). state w (s .entries)) (publisher-back (s .words) p (publisher-below (R .kind) s (fine-undamaged s (f .0)) p (leb-false _ _ (f .1 .0))))))
+      (λ _. refl)

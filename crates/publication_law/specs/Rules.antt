@@ -10,7 +10,9 @@ use Rattle.calls.specs.Rows.{Test}
 use Rattle.calls.specs.Rows.Test.{_gives_}
 use Rattle.layout.specs.declared.Reader.{Reader}
 use Rattle.layout.specs.declared.Progress.{Progress}
+use Rattle.calls.specs.Model.{firstTable}
 use Rattle.statement.specs.Machine.{State, state, Outcome, outcome, Given, Machine}
+use Rattle.statement.specs.Companions.{Traits}
 use Rattle.publication_law.specs.Steps.{publisher, decide, noSuchPublisher, publisherTurn, enterTests, lookTests, look, leaveTests, claimTests, claim, writeTests, write, swapTests, swap, syncTests, sync, raise, tooManyLooks, walk, releaseTests, release, makingTests, made}
 use Rattle.publication_law.specs.Damage.{Kind, sharedDamage}
 
@@ -27,13 +29,17 @@ pub record Rules : Type 0 where
   -- LEAVE: the reader at place 0, and the words with it
   pub left : State → ℕ → Reader
   pub leaveWords : State → ℕ → List ℕ
-  -- whether a CLAIM needs that no other publisher is at work (number 31)
+  -- whether a CLAIM needs that no other publisher is at a place other than 0 (number 31)
   pub exclusive : Bool
   -- the places at which RAISE and WALK are allowed
   pub raisesAt : ℕ → Bool
   pub walksAt : ℕ → Bool
   -- what a WALK of publisher p by up to b looks comes to
   pub looks : State → ℕ → ℕ → Progress
+
+-- In what such a kind differs for the companions: its last version, how many looks of a walk pass before it returns, and the places of ENTER.
+abbrev pub traitsOf : Rules → ℕ → (Given → ℕ) → (ℕ → ℕ) → Traits
+traitsOf R last passes onward = record { first = λ z. firstTable; last = last; passes = passes; onward = onward; exclusive = R .exclusive }
 
 module _ (R : Rules) where
   unfoldable pub damaged : State → Bool

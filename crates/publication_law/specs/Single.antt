@@ -10,24 +10,24 @@ use Rattle.calls.specs.RowLaws.{clash, not-both}
 use Rattle.publication_law.specs.Core.{Hold, hold-map}
 
 -- The former slots of a publisher at place pl that holds hd.
-abbrev pub late : ℕ → ℕ → ℕ → Bool
-late pl hd x = leb 34 pl && eqb hd x
+abbrev pub formerAt : ℕ → ℕ → ℕ → Bool
+formerAt pl hd x = leb 34 pl && eqb hd x
 
-pub late-early : (pl hd x : ℕ) → pl ≤ 33 → late pl hd x ≡ false
-late-early pl hd x l = rw (lt-leb 34 pl (omega arith)) refl
+pub former-early : (pl hd x : ℕ) → pl ≤ 33 → formerAt pl hd x ≡ false
+former-early pl hd x l = rw (lt-leb 34 pl (omega arith)) refl
 
-pub late-same : (pl pl′ hd x : ℕ) → 34 ≤ pl → 34 ≤ pl′ → late pl′ hd x ≡ late pl hd x
-late-same pl pl′ hd x l l′ = rw (le-leb 34 pl l, le-leb 34 pl′ l′) refl
+pub former-same : (pl pl′ hd x : ℕ) → 34 ≤ pl → 34 ≤ pl′ → formerAt pl′ hd x ≡ formerAt pl hd x
+former-same pl pl′ hd x l l′ = rw (le-leb 34 pl l, le-leb 34 pl′ l′) refl
 
-pub late-swap : (pl hd cur x : ℕ) → pl ≤ 33 → late 34 cur x ≡ eqb cur x || late pl hd x
-late-swap pl hd cur x l = rw (late-early pl hd x l) (go (eqb cur x))
+pub former-swap : (pl hd cur x : ℕ) → pl ≤ 33 → formerAt 34 cur x ≡ eqb cur x || formerAt pl hd x
+former-swap pl hd cur x l = rw (former-early pl hd x l) (go (eqb cur x))
   where
     go : (b : Bool) → b ≡ b || false
     go true = refl
     go false = refl
 
 -- The store's own test for a slot that a publisher holds.
-pub single : (pl hd x : ℕ) → (not (eqb pl 0) && eqb hd x) ≡ ((leb 1 pl && leb pl 33) && eqb hd x) || late pl hd x
+pub single : (pl hd x : ℕ) → (not (eqb pl 0) && eqb hd x) ≡ ((leb 1 pl && leb pl 33) && eqb hd x) || formerAt pl hd x
 single pl hd x = go (eqb pl 0) refl (leb 34 pl) refl (eqb hd x)
   where
     go : (a : Bool) → eqb pl 0 ≡ a → (b : Bool) → leb 34 pl ≡ b → (c : Bool) → (not a && c) ≡ ((leb 1 pl && leb pl 33) && c) || (b && c)
@@ -37,8 +37,8 @@ single pl hd x = go (eqb pl 0) refl (leb 34 pl) refl (eqb hd x)
     go false d false e true = rw (le-leb 1 pl (let q = eqb-false pl 0 d in omega arith), le-leb pl 33 (let q = leb-false 34 pl e in omega arith)) refl
     go false d false e false = rw (le-leb 1 pl (let q = eqb-false pl 0 d in omega arith), le-leb pl 33 (let q = leb-false 34 pl e in omega arith)) refl
 
-pub single-free : (pl hd x : ℕ) → (not (eqb pl 0) && eqb hd x) ≡ false → Hold pl hd (late pl hd) x → ⊥
-single-free pl hd x free o = hold-map pl hd (late pl hd) x o
+pub single-free : (pl hd x : ℕ) → (not (eqb pl 0) && eqb hd x) ≡ false → Hold pl hd (formerAt pl hd) x → ⊥
+single-free pl hd x free o = hold-map pl hd (formerAt pl hd) x o
     (λ a b e. not-both (not (eqb pl 0) && eqb hd x) (rw (ne-eqb pl 0 (λ z. omega arith), eq-eqb hd x e) refl) free)
     (λ e. go (leb 34 pl) refl e)
   where

@@ -45,9 +45,6 @@ reader s r = readerAt (s .words) r
 abbrev pub publisher : State → ℕ → Publisher
 publisher s p = publisherAt (s .words) p
 
-abbrev pub putReader : State → ℕ → Reader → State
-putReader s r x = state (withReader (s .words) r x) (s .entries)
-
 abbrev pub putPublisher : State → ℕ → Publisher → State
 putPublisher s p y = state (withPublisher (s .words) p y) (s .entries)
 
@@ -88,7 +85,7 @@ publisherTurn wrong = wrong gives PUBLISHER-TURN
 abbrev pub enterTests : State → ℕ → List Test
 enterTests s r = noSuchReader s r ∷ readerTurn (leb 5 (reader s r .place)) ∷ []
 
--- LOOK r k (place 5) replies with entry k of the picked slot.
+-- LOOK r k (place 5) replies with entry k of the picked slot. (An undamaged store has that entry: the 0 is never read.)
 abbrev pub lookTests : State → ℕ → ℕ → List Test
 lookTests s r k = noSuchReader s r ∷ noSuchEntry k ∷ readerTurn (not (eqb (reader s r .place) 5)) ∷ []
 

@@ -11,7 +11,7 @@ use Rattle.calls.specs.declared.WalkReply.the-variants.{Waiting, Spent, Quiet, 
 use Rattle.calls.specs.Base.{pick, upd}
 use Rattle.calls.specs.Numbers.{MODULUS}
 use Rattle.calls.specs.RowLaws.{same, at-or}
-use Rattle.calls.specs.Tally.{Phase, Tally, tally₀, withPlace, withPhase, withWaits, withReleases, walked}
+use Rattle.calls.specs.Tally.{Phase, Tally, tally₀, withPlace, withPhase, withWaits, withReleases, withWalk}
 use Rattle.calls.specs.Tally.Phase.{idle, writing, swapped, syncing, returned}
 
 -- The phase that a publisher's place tells.
@@ -23,6 +23,25 @@ phase-writing pl l h = rw (ne-eqb pl 0 (λ z. omega arith), le-leb pl 33 h) refl
 
 pub phase-syncing : (pl : ℕ) → 35 ≤ pl → pl ≤ 37 → phaseAt pl ≡ syncing
 phase-syncing pl l h = rw (ne-eqb pl 0 (λ z. omega arith), lt-leb pl 33 (omega arith), ne-eqb pl 34 (λ z. omega arith), le-leb pl 37 h) refl
+
+-- The places of a phase.
+abbrev pub InPhase : ℕ → Phase → Type 0
+InPhase pl idle = pl ≡ 0
+InPhase pl writing = (1 ≤ pl) × (pl ≤ 33)
+InPhase pl swapped = pl ≡ 34
+InPhase pl syncing = (35 ≤ pl) × (pl ≤ 37)
+InPhase pl returned = 38 ≤ pl
+
+pub in-phase : (pl : ℕ) → InPhase pl (phaseAt pl)
+in-phase pl = go (eqb pl 0) refl (leb pl 33) refl (eqb pl 34) refl (leb pl 37) refl
+  where
+    go : (a : Bool) → eqb pl 0 ≡ a → (b : Bool) → leb pl 33 ≡ b → (c : Bool) → eqb pl 34 ≡ c → (d : Bool) → leb pl 37 ≡ d
+        → InPhase pl (pick a idle (pick b writing (pick c swapped (pick d syncing returned))))
+    go true ea b eb c ec d ed = eqb-true pl 0 ea
+    go false ea true eb c ec d ed = let q = eqb-false pl 0 ea in (omega arith, leb-true pl 33 eb)
+    go false ea false eb true ec d ed = eqb-true pl 34 ec
+    go false ea false eb false ec true ed = let q = leb-false pl 33 eb in let r = eqb-false pl 34 ec in (omega arith, leb-true pl 37 ed)
+    go false ea false eb false ec false ed = leb-false pl 37 ed
 
 -- Readers' places, publishers' places and waits, and releases.
 pub record Tallied (y : Tally) (rpl ppl pws : ℕ → ℕ) (rel : ℕ) : Type 0 where

@@ -1,38 +1,46 @@
 -- The companions of demand 3, without which a store of no use would meet it.
-use Prim.Native.Nat.{ℕ, _+_, _%_, _<_, _≤_}
+use Prim.Native.Nat.{ℕ, _+_, _*_, _%_, _<_, _≤_}
 use mathlib.Core.Path.{_≡_}
-use mathlib.Core.Logic.{_≢_}
+use mathlib.Core.Logic.{_≢_, _⊎_}
 use mathlib.Core.Bool.{Bool, true, false}
 use mathlib.Core.List.{List, [], _∷_, _++_}
 use mathlib.Core.Option.{Option, none, some}
 use lib.IntN.{ℤ}
+use lib.Signed.{ltZ}
 use lib.ListN.{getD, length}
 use Rattle.calls.specs.declared.Call.{Call}
 use Rattle.calls.specs.declared.Call.the-variants.{Enter, Look, Leave, Claim, Write, Swap, Sync, Raise, Walk, Release}
 use Rattle.calls.specs.declared.Reply.{Reply}
-use Rattle.calls.specs.declared.Reply.the-variants.{At, Left, Claimed, Walked, Refused}
+use Rattle.calls.specs.declared.Reply.the-variants.{Made, At, Left, Claimed, Written, Swapped, Walked, Freed, Refused}
 use Rattle.calls.specs.declared.WalkReply.the-variants.{Returned}
-use Rattle.calls.specs.Numbers.{TABLE, DAMAGED, MODULUS}
+use Rattle.calls.specs.Numbers.{READERS-MAX, PUBLISHERS-MAX, SLOTS-MIN, SLOTS-MAX, TABLE, PITCH-LOW, PITCH-HIGH, NUMBER-MAX, MODULUS, DAMAGED, BUSY}
 use Rattle.calls.specs.Events.{Event, accepted}
 use Rattle.calls.specs.Events.Event.{_⇒_}
-use Rattle.calls.specs.Model.{modelOf}
-use Rattle.calls.specs.Told.{Told, toldBy, holds, Role, Has}
+use Rattle.calls.specs.Model.{Model, modelOf}
+use Rattle.calls.specs.Told.{Told, toldBy, holds, Has}
 use Rattle.calls.specs.Told.Role.{free}
 use Rattle.calls.specs.Tally.{Tally, tallyOf}
-use Rattle.calls.specs.Tally.Phase.{syncing, returned}
-use Rattle.layout.specs.Layout.{HEAD, releases, readerAt, publisherAt}
-use Rattle.statement.specs.Machine.{State, Given, Machine, Fresh, events, afterAll}
+use Rattle.calls.specs.Tally.Phase.{writing, swapped, syncing, returned}
+use Rattle.layout.specs.Layout.{WORDS, HEAD, version, releases, readerAt, publisherAt}
+use Rattle.statement.specs.Machine.{State, Given, Machine, Fresh, events, afterAll, currentSlot}
 
 -- In what the kinds differ here.
 pub record Traits : Type 0 where
   -- the first table of a store made so
   pub first : Given → List ℤ
+  -- the last version
+  pub last : ℕ
   -- how many looks of a walk pass before it returns
   pub passes : Given → ℕ
   -- the place that follows a reader's place
   pub onward : ℕ → ℕ
-  -- whether a claim needs that nobody holds a slot
+  -- whether a claim needs that nobody else holds a slot
   pub exclusive : Bool
+
+-- A making with every argument in its range, and lent words and entries of the right lengths, is accepted.
+abbrev pub MakingAccepts : Machine → Traits → Type 0
+MakingAccepts M T = (g : Given) (s : State) → length (s .words) ≡ WORDS → 1 ≤ g .readers → g .readers ≤ READERS-MAX → 1 ≤ g .publishers → g .publishers ≤ PUBLISHERS-MAX
+    → SLOTS-MIN ≤ g .slots → g .slots ≤ SLOTS-MAX → length (s .entries) ≡ g .slots * TABLE → g .version ≤ T .last → M .making g s .reply ≡ Made
 
 -- A refused call changes neither the store nor the entries, and a refused making leaves both as lent.
 pub record RefusedLeaves (M : Machine) : Type 0 where
@@ -64,15 +72,21 @@ publisherNamed (Raise p) = some p
 publisherNamed (Walk p b) = some p
 publisherNamed (Release p) = some p
 
--- A call moves the record of the reader or publisher named and of no other; a WALK moves nothing else.
-pub record Frame (M : Machine) : Type 0 where
-  pub readers : (s : State) (c : Call) (r : ℕ) → readerNamed c ≢ some r → readerAt (M .step s c .after .words) r ≡ readerAt (s .words) r
-  pub publishers : (s : State) (c : Call) (p : ℕ) → publisherNamed c ≢ some p → publisherAt (M .step s c .after .words) p ≡ publisherAt (s .words) p
-  pub walk-head : (s : State) (p b k : ℕ) → k < HEAD → getD (M .step s (Walk p b) .after .words) k 0 ≡ getD (s .words) k 0
-  pub walk-entries : (s : State) (p b : ℕ) → M .step s (Walk p b) .after .entries ≡ s .entries
+-- Only the record named moved.
+pub record Framed (c : Call) (w w′ : List ℕ) : Type 0 where
+  pub readers : (r : ℕ) → readerNamed c ≢ some r → readerAt w′ r ≡ readerAt w r
+  pub publishers : (p : ℕ) → publisherNamed c ≢ some p → publisherAt w′ p ≡ publisherAt w p
 
--- What a state offers after a list of calls that told t and y.
-pub record Offers (M : Machine) (T : Traits) (g : Given) (t : Told) (y : Tally) (s : State) : Type 0 where
+-- For every state: a call moves the record of the reader or publisher named and of no other, and a WALK nothing else;
+-- only WRITE moves the entries, only SWAP the current slot.
+pub record Frame (M : Machine) : Type 0 where
+  pub records : (s : State) (c : Call) → Framed c (s .words) (M .step s c .after .words)
+  pub walk-head : (s : State) (p b k : ℕ) → k < HEAD → getD (M .step s (Walk p b) .after .words) k 0 ≡ getD (s .words) k 0
+  pub entries : (s : State) (c : Call) → ((p : ℕ) (v : ℤ) → c ≢ Write p v) → M .step s c .after .entries ≡ s .entries
+  pub current : (s : State) (c : Call) → ((p : ℕ) → c ≢ Swap p) → currentSlot (M .step s c .after) ≡ currentSlot s
+
+-- What holds of a state after a list of calls that told h, t and y.
+pub record StateCompanions (M : Machine) (T : Traits) (g : Given) (h : Model) (t : Told) (y : Tally) (s : State) : Type 0 where
   -- never damaged: no call is refused with 1
   pub undamaged : (c : Call) → M .step s c .reply ≢ Refused DAMAGED
   -- readers never wait: the next ENTER replies the next place, whatever stands between;
@@ -80,15 +94,26 @@ pub record Offers (M : Machine) (T : Traits) (g : Given) (t : Told) (y : Tally) 
   pub enters : (r : ℕ) → r < g .readers → y .place r < 5 → M .step s (Enter r) .reply ≡ At (T .onward (y .place r))
   pub looks : (r k : ℕ) → r < g .readers → k < TABLE → y .place r ≡ 5 → accepted (M .step s (Look r k) .reply) ≡ true
   pub leaves : (r : ℕ) → r < g .readers → 4 ≤ y .place r → M .step s (Leave r) .reply ≡ Left
-  -- a claim of a slot told free by a publisher that holds nothing, both in range, is accepted (exclusive: if nobody holds one)
+  -- a claim of a slot told free by a publisher that holds nothing, both in range, is accepted (exclusive: if nobody else holds one, else 31)
   pub claims : (p x : ℕ) → p < g .publishers → x < g .slots → Has t x free → ((z : ℕ) → holds t p z ≡ false)
       → (T .exclusive ≡ true → (q z : ℕ) → holds t q z ≡ false) → M .step s (Claim p x) .reply ≡ Claimed x
+  pub busy : T .exclusive ≡ true → (p x q z : ℕ) → p < g .publishers → x < g .slots → ((z : ℕ) → holds t p z ≡ false) → q ≢ p → holds t q z ≡ true
+      → M .step s (Claim p x) .reply ≡ Refused BUSY
+  -- a publisher gets on: it writes 32 entries, then swaps, then synchronises unless the version is the last, raises or walks, and releases what it held
+  pub writes : (p : ℕ) (v : ℤ) → p < g .publishers → y .phase p ≡ writing → length (h .draft p) < TABLE → ltZ v PITCH-LOW ≡ false → ltZ PITCH-HIGH v ≡ false
+      → M .step s (Write p v) .reply ≡ Written (length (h .draft p) + 1)
+  pub swaps : (p : ℕ) → p < g .publishers → y .phase p ≡ writing → length (h .draft p) ≡ TABLE → (x : ℕ) × (t .current ≡ some x) × (M .step s (Swap p) .reply ≡ Swapped x)
+  pub syncs : (p : ℕ) → p < g .publishers → y .phase p ≡ swapped → version (s .words) < T .last → accepted (M .step s (Sync p) .reply) ≡ true
+  pub waits : (p b : ℕ) → p < g .publishers → y .phase p ≡ syncing → publisherAt (s .words) p .walk .looks + b ≤ NUMBER-MAX
+      → (accepted (M .step s (Raise p) .reply) ≡ true) ⊎ (accepted (M .step s (Walk p b) .reply) ≡ true)
+  pub frees : (p : ℕ) → p < g .publishers → y .phase p ≡ returned
+      → (x : ℕ) × (t .former p x ≡ true) × (M .step s (Release p) .reply ≡ Freed x ((y .releases + 1) % MODULUS))
   -- releases is the number of accepted RELEASEs modulo 2^64
   pub counted : releases (s .words) ≡ y .releases % MODULUS
 
 -- What stands beside demand 3 after every list of calls on a fresh state.
-pub record Beside (M : Machine) (T : Traits) (g : Given) (s : State) (cs : List Call) : Type 0 where
-  pub offers : Offers M T g (toldBy (events M s cs)) (tallyOf (events M s cs)) (afterAll M s cs)
+pub record ListCompanions (M : Machine) (T : Traits) (g : Given) (s : State) (cs : List Call) : Type 0 where
+  pub state-companions : StateCompanions M T g (modelOf (T .first g) (events M s cs)) (toldBy (events M s cs)) (tallyOf (events M s cs)) (afterAll M s cs)
   -- whole tables: the model's table always has 32 entries
   pub tables : length (modelOf (T .first g) (events M s cs) .table) ≡ TABLE
   -- order: of a publisher's CLAIM, SWAP, SYNC, return and RELEASE the last one before a return is a SYNC ..
@@ -100,4 +125,4 @@ pub record Beside (M : Machine) (T : Traits) (g : Given) (s : State) (cs : List 
   pub waits-are : (pre post : List Event) (p b l w : ℕ) → events M s cs ≡ pre ++ (Walk p b ⇒ Walked (Returned l w)) ∷ post → w ≡ tallyOf pre .waits p
 
 abbrev pub Companions : Machine → Traits → Type 0
-Companions M T = (s : State) (f : Fresh M s) (cs : List Call) → Beside M T (f .arguments) s cs
+Companions M T = (s : State) (f : Fresh M s) (cs : List Call) → ListCompanions M T (f .arguments) s cs

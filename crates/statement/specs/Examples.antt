@@ -3,26 +3,28 @@ use Prim.Native.Nat.{ℕ, _*_}
 use mathlib.Core.Path.{_≡_}
 use mathlib.Core.Bool.{Bool, true, _&&_}
 use mathlib.Core.List.{List, [], _∷_, _++_}
-use lib.IntN.{ℤ, pos}
+use lib.IntN.{ℤ, pos, negℤ}
 use lib.ListN.{replicate}
 use Rattle.calls.specs.declared.Call.{Call}
 use Rattle.calls.specs.declared.Call.the-variants.{Enter, Claim, Write, Swap}
 use Rattle.calls.specs.declared.Reply.{Reply}
+use Rattle.calls.specs.declared.Reply.the-variants.{Made, Written, Refused}
 use Rattle.calls.specs.Base.{pick}
 use Rattle.calls.specs.Numbers.{TABLE}
 use Rattle.calls.specs.Events.{accepted}
 use Rattle.layout.specs.Layout.{WORDS}
-use Rattle.statement.specs.Machine.{State, state, Given, Machine}
+use Rattle.statement.specs.Machine.{State, state, Given, given, Machine, afterAll}
 
 -- What is lent to the making of an example: words of the right length and as many entries as asked, all 0.
 abbrev pub lentFor : Given → State
 lentFor g = state (replicate WORDS 0) (replicate (g .slots * TABLE) (pos 0))
 
--- The replies to calls, after some calls that lead there, of which each must be accepted (else there is no reply).
+-- The replies to calls.
 abbrev pub replies : Machine → State → List Call → List Reply
 replies M s [] = []
 replies M s (c ∷ cs) = let o = M .step s c in o .reply ∷ replies M (o .after) cs
 
+-- The same after some calls that lead there; each of those must be accepted, else there are no replies.
 abbrev pub repliesAfter : Machine → Bool → State → List Call → List Call → List Reply
 repliesAfter M ok s [] cs = pick ok (replies M s cs) []
 repliesAfter M ok s (d ∷ ds) cs = let o = M .step s d in repliesAfter M (ok && accepted (o .reply)) (o .after) ds cs
@@ -31,22 +33,25 @@ repliesAfter M ok s (d ∷ ds) cs = let o = M .step s d in repliesAfter M (ok &&
 abbrev pub played : Machine → Given → List Call → List Call → List Reply
 played M g ds cs = let o = M .making g (lentFor g) in o .reply ∷ repliesAfter M true (o .after) ds cs
 
-abbrev pub stateAfter : Machine → State → List Call → State
-stateAfter M s [] = s
-stateAfter M s (c ∷ cs) = stateAfter M (M .step s c .after) cs
-
--- An example: calls that lead there, the calls shown, and the replies due; or that a call leaves the whole state unchanged.
+-- An example: calls that lead there, the calls shown, and the replies due; or a call, its reply, and that it leaves the whole state unchanged.
 pub data Example : Type 0 where
   shows : Machine → Given → List Call → List Call → List Reply → Example
-  unchanged : Machine → Given → List Call → Call → Example
+  unchanged : Machine → Given → List Call → Call → Reply → Example
+
+abbrev pub leadTo : Machine → Given → List Call → State
+leadTo M g ds = afterAll M (M .making g (lentFor g) .after) ds
 
 abbrev pub Holds : Example → Type 0
 Holds (shows M g ds cs due) = played M g ds cs ≡ due
-Holds (unchanged M g ds c) = let s = stateAfter M (M .making g (lentFor g) .after) ds in M .step s c .after ≡ s
+Holds (unchanged M g ds c a) = (played M g ds (c ∷ []) ≡ Made ∷ a ∷ []) × (M .step (leadTo M g ds) c .after ≡ leadTo M g ds)
 
 abbrev pub AllHold : List Example → Type 0
 AllHold [] = Unit {0}
 AllHold (e ∷ es) = Holds e × AllHold es
+
+pub all-hold-append : (es fs : List Example) → AllHold es → AllHold fs → AllHold (es ++ fs)
+all-hold-append [] fs a b = b
+all-hold-append (e ∷ es) fs a b = (a .0, all-hold-append es fs (a .1) b)
 
 -- n ENTERs of reader r; a whole table of v by publisher p into slot x; the same swapped in.
 abbrev pub enters : ℕ → ℕ → List Call
@@ -55,5 +60,18 @@ enters n r = replicate n (Enter r)
 abbrev pub tableOf : ℕ → ℕ → ℤ → List Call
 tableOf p x v = Claim p x ∷ replicate TABLE (Write p v)
 
-abbrev pub published : ℕ → ℕ → ℤ → List Call
-published p x v = tableOf p x v ++ (Swap p ∷ [])
+abbrev pub publication : ℕ → ℕ → ℤ → List Call
+publication p x v = tableOf p x v ++ (Swap p ∷ [])
+
+-- Examples that name no kind.
+-- P9: pitches -500, 9500 accepted; -501, 9501 get 14.
+abbrev pub P9 : Machine → Example
+P9 M = shows M (given 1 1 2 0) (Claim 0 1 ∷ [])
+    (Write 0 (negℤ (pos 500)) ∷ Write 0 (pos 9500) ∷ Write 0 (negℤ (pos 501)) ∷ Write 0 (pos 9501) ∷ [])
+    (Made ∷ Written 1 ∷ Written 2 ∷ Refused 14 ∷ Refused 14 ∷ [])
+
+-- P10: SWAP with 31 written and a 33rd WRITE get 21.
+abbrev pub P10 : Machine → Example
+P10 M = shows M (given 1 1 2 0) (Claim 0 1 ∷ replicate 31 (Write 0 (pos 5)))
+    (Swap 0 ∷ Write 0 (pos 5) ∷ Write 0 (pos 5) ∷ [])
+    (Made ∷ Refused 21 ∷ Written 32 ∷ Refused 21 ∷ [])

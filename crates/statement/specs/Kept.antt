@@ -27,8 +27,8 @@ use Rattle.calls.specs.Told.Role.{current, heldBy, free}
 use Rattle.calls.specs.Tally.{Tally, tally₀, tally}
 use Rattle.calls.specs.Tally.Phase.{syncing, returned}
 use Rattle.statement.specs.Machine.{State, Outcome, Given, Machine, Fresh, events, afterAll}
-use Rattle.statement.specs.Demand3.{Left, Slots, Picks, Due, Demand3}
-use Rattle.statement.specs.Companions.{Traits, Offers, Beside, Companions}
+use Rattle.statement.specs.Demand3.{LeftIn, Slots, Picks, Due, Demand3}
+use Rattle.statement.specs.Companions.{Traits, StateCompanions, ListCompanions, Companions}
 
 -- For which readers the last synchronise of a publisher has still to wait: open at it, and not left since.
 abbrev pub Pend : Type 0
@@ -57,34 +57,34 @@ abbrev pub ghost₀ : List ℤ → Ghost
 ghost₀ first = record { model = model₀ first; told = told₀; pend = λ p r. false; tally = tally₀ }
 
 -- After an accepted call, and after any call.
-abbrev pub onward : Ghost → Call → Reply → Ghost
-onward g c a = record { model = shelve (g .model) c a; told = tell (g .told) c a; pend = pending (g .pend) (g .told) c; tally = tally (g .tally) c a }
+abbrev pub advance : Ghost → Call → Reply → Ghost
+advance g c a = record { model = shelve (g .model) c a; told = tell (g .told) c a; pend = pending (g .pend) (g .told) c; tally = tally (g .tally) c a }
 
 abbrev pub next : Ghost → Event → Ghost
-next g e = moved onward g e
+next g e = moved advance g e
 
 abbrev pub nextAll : Ghost → List Event → Ghost
-nextAll g es = foldEvents onward g es
+nextAll g es = foldEvents advance g es
 
 -- The parts of the ghost are the folds of the statement.
 next-model : (g : Ghost) (c : Call) (a : Reply) → next g (c ⇒ a) .model ≡ moved shelve (g .model) (c ⇒ a)
 next-model g c a = go (accepted a)
   where
-    go : (b : Bool) → pick b (onward g c a) g .model ≡ pick b (shelve (g .model) c a) (g .model)
+    go : (b : Bool) → pick b (advance g c a) g .model ≡ pick b (shelve (g .model) c a) (g .model)
     go true = refl
     go false = refl
 
 next-told : (g : Ghost) (c : Call) (a : Reply) → next g (c ⇒ a) .told ≡ moved tell (g .told) (c ⇒ a)
 next-told g c a = go (accepted a)
   where
-    go : (b : Bool) → pick b (onward g c a) g .told ≡ pick b (tell (g .told) c a) (g .told)
+    go : (b : Bool) → pick b (advance g c a) g .told ≡ pick b (tell (g .told) c a) (g .told)
     go true = refl
     go false = refl
 
 next-tally : (g : Ghost) (c : Call) (a : Reply) → next g (c ⇒ a) .tally ≡ moved tally (g .tally) (c ⇒ a)
 next-tally g c a = go (accepted a)
   where
-    go : (b : Bool) → pick b (onward g c a) g .tally ≡ pick b (tally (g .tally) c a) (g .tally)
+    go : (b : Bool) → pick b (advance g c a) g .tally ≡ pick b (tally (g .tally) c a) (g .tally)
     go true = refl
     go false = refl
 
@@ -121,7 +121,7 @@ pub record Kept (M : Machine) (T : Traits) : Type 1 where
   pub slots : (z : Given) (g : Ghost) (s : State) → Inv z g s → Slots (g .told) s
   pub picks : (z : Given) (g : Ghost) (s : State) → Inv z g s → Picks (g .told)
   pub table : (z : Given) (g : Ghost) (s : State) → Inv z g s → length (g .model .table) ≡ TABLE
-  pub offers : (z : Given) (g : Ghost) (s : State) → Inv z g s → Offers M T z (g .told) (g .tally) s
+  pub state-companions : (z : Given) (g : Ghost) (s : State) → Inv z g s → StateCompanions M T z (g .model) (g .told) (g .tally) s
 
 no-cons : {A : Type 0} (x : A) (l : List A) → [] ≡ x ∷ l → ⊥
 no-cons x l e = let z : _≡_ {A = ℕ} 0 1 = cc in omega arith
@@ -171,12 +171,12 @@ entered-inside t q r place e = pick-split (λ (x : Told). x .inside r ≡ true) 
     there true d = rw (d, ← eqb-true r q d) e
     there false d = rw d e
 
-still-call : (g : Ghost) (p r : ℕ) → Still g p r → (c : Call) (a : Reply) → (c ≡ Leave r) ⊎ Still (onward g c a) p r
+still-call : (g : Ghost) (p r : ℕ) → Still g p r → (c : Call) (a : Reply) → (c ≡ Leave r) ⊎ Still (advance g c a) p r
 still-call g p r k (Enter q) a = inr (record { awaited = k .awaited; opened = entered-inside (g .told) q r (placeOf a) (k .opened) })
 still-call g p r k (Look q i) a = inr (record { awaited = k .awaited; opened = k .opened })
 still-call g p r k (Leave q) a = go (eqb r q) refl
   where
-    go : (b : Bool) → eqb r q ≡ b → (Leave q ≡ Leave r) ⊎ Still (onward g (Leave q) a) p r
+    go : (b : Bool) → eqb r q ≡ b → (Leave q ≡ Leave r) ⊎ Still (advance g (Leave q) a) p r
     go true e = inl (ap Leave (sym (eqb-true r q e)))
     go false e = inr (record { awaited = rw e (k .awaited); opened = rw e (k .opened) })
 still-call g p r k (Claim q s) a = inr (record { awaited = k .awaited; opened = k .opened })
@@ -194,22 +194,22 @@ still-call g p r k (Release q) a = inr (record { awaited = k .awaited; opened = 
 still-one : (g : Ghost) (p r : ℕ) → Still g p r → (c : Call) (a : Reply) → ((c ≡ Leave r) × (accepted a ≡ true)) ⊎ Still (next g (c ⇒ a)) p r
 still-one g p r k c a = go (accepted a) refl (still-call g p r k c a)
   where
-    go : (b : Bool) → accepted a ≡ b → (c ≡ Leave r) ⊎ Still (onward g c a) p r → ((c ≡ Leave r) × (accepted a ≡ true)) ⊎ Still (next g (c ⇒ a)) p r
+    go : (b : Bool) → accepted a ≡ b → (c ≡ Leave r) ⊎ Still (advance g c a) p r → ((c ≡ Leave r) × (accepted a ≡ true)) ⊎ Still (next g (c ⇒ a)) p r
     go true e (inl q) = inl (q, e)
     go true e (inr m) = inr (rw e m)
     go false e o = inr (rw e k)
 
 still-next : (g : Ghost) (p r : ℕ) (c : Call) (a : Reply) (es : List Event) → ((c ≡ Leave r) × (accepted a ≡ true)) ⊎ Still (next g (c ⇒ a)) p r
-    → (Still (next g (c ⇒ a)) p r → Left r es ⊎ (nextAll (next g (c ⇒ a)) es .pend p r ≡ true))
-    → Left r ((c ⇒ a) ∷ es) ⊎ (nextAll (next g (c ⇒ a)) es .pend p r ≡ true)
+    → (Still (next g (c ⇒ a)) p r → LeftIn r es ⊎ (nextAll (next g (c ⇒ a)) es .pend p r ≡ true))
+    → LeftIn r ((c ⇒ a) ∷ es) ⊎ (nextAll (next g (c ⇒ a)) es .pend p r ≡ true)
 still-next g p r c a es (inl q) f = inl (record { before = []; reply = a; behind = es; here = ap (λ x. (x ⇒ a) ∷ es) (q .0); taken = q .1 })
 still-next g p r c a es (inr k) f = go (f k)
   where
-    go : Left r es ⊎ (nextAll (next g (c ⇒ a)) es .pend p r ≡ true) → Left r ((c ⇒ a) ∷ es) ⊎ (nextAll (next g (c ⇒ a)) es .pend p r ≡ true)
+    go : LeftIn r es ⊎ (nextAll (next g (c ⇒ a)) es .pend p r ≡ true) → LeftIn r ((c ⇒ a) ∷ es) ⊎ (nextAll (next g (c ⇒ a)) es .pend p r ≡ true)
     go (inl l) = inl (record { before = (c ⇒ a) ∷ l .before; reply = l .reply; behind = l .behind; here = ap (λ x. (c ⇒ a) ∷ x) (l .here); taken = l .taken })
     go (inr e) = inr e
 
-still : (g : Ghost) (p r : ℕ) → Still g p r → (es : List Event) → Left r es ⊎ (nextAll g es .pend p r ≡ true)
+still : (g : Ghost) (p r : ℕ) → Still g p r → (es : List Event) → LeftIn r es ⊎ (nextAll g es .pend p r ≡ true)
 still g p r k [] = inr (k .awaited)
 still g p r k ((c ⇒ a) ∷ es) = still-next g p r c a es (still-one g p r k c a) (λ m. still (next g (c ⇒ a)) p r m es)
 
@@ -244,7 +244,7 @@ module _ (M : Machine) (T : Traits) (K : Kept M T) (s : State) (f : Fresh M s) (
         let x = to pre (Sync p) a (mid ++ (Walk p b ⇒ Walked (Returned l w)) ∷ post) e in
         let q = M .step (x .at-state) (Sync p) .reply in
         let y = reach M T K (f .arguments) _ (M .step (x .at-state) (Sync p) .after) (K .keep _ _ (x .at-state) (x .inv) (Sync p)) (x .rest) mid (Walk p b) (Walked (Returned l w)) post (x .post-is) in
-        or-left (Left r mid) _
+        or-left (LeftIn r mid) _
         (still _ p r (still-synced (nextAll (ghost₀ (T .first (f .arguments))) pre) p r q (rw (x .reply-is) at ok) (rw (all-told (ghost₀ (T .first (f .arguments))) pre) inside)) mid)
         (K .back _ _ (y .at-state) (y .inv) p b l w (sym (y .reply-is)) .none-pending r);
     slots = rw (← all-told (ghost₀ (T .first (f .arguments))) (events M s cs)) (K .slots _ _ _ ending);
@@ -254,9 +254,9 @@ module _ (M : Machine) (T : Traits) (K : Kept M T) (s : State) (f : Fresh M s) (
         K .claim _ _ (x .at-state) (x .inv) p c r (rw (x .reply-is) at ok) (rw (all-told (ghost₀ (T .first (f .arguments))) pre) picked);
   }
 
-  beside : Beside M T (f .arguments) s cs
-  beside = record {
-    offers = rw (← all-told (ghost₀ (T .first (f .arguments))) (events M s cs), ← all-tally (ghost₀ (T .first (f .arguments))) (events M s cs)) (K .offers _ _ _ ending);
+  list-companions : ListCompanions M T (f .arguments) s cs
+  list-companions = record {
+    state-companions = rw (← all-model (ghost₀ (T .first (f .arguments))) (events M s cs), ← all-told (ghost₀ (T .first (f .arguments))) (events M s cs), ← all-tally (ghost₀ (T .first (f .arguments))) (events M s cs)) (K .state-companions _ _ _ ending);
     tables = rw (← all-model (ghost₀ (T .first (f .arguments))) (events M s cs)) (K .table _ _ _ ending);
     returns-after = λ pre post p b l w e. let x = to pre (Walk p b) (Walked (Returned l w)) post e in
         rw (← all-tally (ghost₀ (T .first (f .arguments))) pre) (K .back _ _ (x .at-state) (x .inv) p b l w (sym (x .reply-is)) .in-order);
@@ -272,4 +272,4 @@ pub demand3 : (M : Machine) (T : Traits) → Kept M T → Demand3 M (T .first)
 demand3 M T K s f cs = due M T K s f cs
 
 pub companions : (M : Machine) (T : Traits) → Kept M T → Companions M T
-companions M T K s f cs = beside M T K s f cs
+companions M T K s f cs = list-companions M T K s f cs
