@@ -1,6 +1,5 @@
 -- The reference model, document 01's plain shelf: it sees the calls' arguments and replies and none of the store's numbers.
 use Prim.Native.Nat.{ℕ, zero, suc}
-use mathlib.Core.Bool.{Bool, true, false}
 use mathlib.Core.List.{List, [], _∷_, _++_}
 use mathlib.Core.Option.{Option, none, some}
 use lib.IntN.{ℤ}

@@ -1,13 +1,13 @@
 -- Laws of tests, of rows and of scans: all that proofs use of them. Assumes nothing.
 use Prim.Native.Nat.{ℕ, zero, suc, _+_, _<_, _≤_}
 use native.Mathlib.Omega.{arith}
-use mathlib.Core.Path.{_≡_, refl, sym, ap, _∙_, subst, fun-ext}
+use mathlib.Core.Path.{_≡_, refl, sym, subst}
 use mathlib.Core.Logic.{_≢_}
 use mathlib.Core.Bool.{Bool, true, false, not, _&&_, _||_}
 use mathlib.Core.List.{List, [], _∷_}
-use lib.Dec.{leb, ltb, eqb}
+use lib.Dec.{ltb, eqb}
 use borrow.Author.Tests.{eqb-true, eqb-false, eq-eqb, ltb-true, ltb-false, lt-ltb, le-ltb}
-use Rattle.calls.specs.Base.{pick, upd}
+use Rattle.calls.specs.Base.{pick}
 use Rattle.calls.specs.Rows.{Test, firstOf, anyTrue, anyBelow, countBelow, outside}
 use Rattle.calls.specs.Rows.Test.{_gives_}
 

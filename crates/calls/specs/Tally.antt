@@ -1,6 +1,5 @@
 -- What the companions of demand 3 count and order, told by the calls alone.
 use Prim.Native.Nat.{ℕ, suc}
-use mathlib.Core.Bool.{Bool, true, false}
 use mathlib.Core.List.{List}
 use mathlib.Core.Option.{Option, none, some}
 use Rattle.calls.specs.declared.Call.{Call}
@@ -8,7 +7,7 @@ use Rattle.calls.specs.declared.Call.the-variants.{Enter, Look, Leave, C
 use Rattle.calls.specs.declared.Reply.{Reply}
 use Rattle.calls.specs.declared.WalkReply.{WalkReply}
 use Rattle.calls.specs.declared.WalkReply.the-variants.{Waiting, Spent, Quiet, Returned}
-use Rattle.calls.specs.Base.{pick, upd}
+use Rattle.calls.specs.Base.{upd}
 use Rattle.calls.specs.Events.{Event, placeOf, walkOf, foldEvents}
 
 -- What a publisher did last, of CLAIM, SWAP, SYNC, a WALK that returned and RELEASE; idle if nothing yet.

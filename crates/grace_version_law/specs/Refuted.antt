@@ -1,21 +1,20 @@
 -- Stores and readings that break demand 3, each refuted by one run. Assumes nothing.
-use Prim.Native.Nat.{ℕ, _+_}
+use Prim.Native.Nat.{ℕ}
 use native.Mathlib.Omega.{arith}
 use mathlib.Core.Path.{_≡_, refl}
 use mathlib.Core.List.{List, [], _∷_, _++_}
-use mathlib.Core.Option.{Option, none, some}
+use mathlib.Core.Option.{some}
 use lib.IntN.{ℤ, pos}
 use Rattle.calls.specs.declared.Call.{Call}
 use Rattle.calls.specs.declared.Call.the-variants.{Enter, Look, Sync, Raise, Walk}
 use Rattle.calls.specs.declared.Reply.{Reply}
 use Rattle.calls.specs.declared.Reply.the-variants.{Made, At, Pitch, Left, Claimed, Written, Swapped, Synced, Raised, Shared, Walked, Freed, Refused}
-use Rattle.calls.specs.declared.WalkReply.the-variants.{Returned}
 use Rattle.calls.specs.Rows.{anyBelow}
 use Rattle.calls.specs.Events.{Event}
 use Rattle.calls.specs.Events.Event.{_⇒_}
 use Rattle.calls.specs.Model.{firstTable}
 use Rattle.layout.specs.Layout.{readers, readerAt, publisherAt, withReader, withPublisher, withReaders, fresh}
-use Rattle.statement.specs.Machine.{State, Outcome, outcome, Given, given, Machine, Fresh, events}
+use Rattle.statement.specs.Machine.{State, outcome, Given, given, Machine, events}
 use Rattle.statement.specs.Demand3.{Demand3}
 use Rattle.statement.specs.Examples.{lentFor, enters, publication}
 use Rattle.statement.specs.Refute.{someLeave, not-left, ReturnsFrom}

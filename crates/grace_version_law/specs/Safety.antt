@@ -1,39 +1,30 @@
 -- Demand 3 and its companions hold of the new store.
 -- Why: a reader whose section was open at a SYNC published a version below that mark, and keeps it until it leaves; so the walk does not pass it before. Assumes nothing.
-use Prim.Native.Nat.{ℕ, zero, suc, _+_, _-_, _*_, _%_, _<_, _≤_}
+use Prim.Native.Nat.{ℕ, zero, suc, _+_, _-_, _<_, _≤_}
 use native.Mathlib.Omega.{arith}
-use mathlib.Core.Path.{_≡_, refl, sym, ap, _∙_, subst}
+use mathlib.Core.Path.{_≡_, refl, sym, _∙_, subst}
 use mathlib.Core.Logic.{_≢_, _⊎_, inl, inr}
-use mathlib.Core.Bool.{Bool, true, false, not, _&&_, _||_}
-use mathlib.Core.List.{List, [], _∷_}
-use mathlib.Core.Option.{Option, none, some}
-use lib.IntN.{ℤ, pos}
-use lib.ListN.{getD, length, replicate}
+use mathlib.Core.Bool.{Bool, true, false, _||_}
+use mathlib.Core.List.{List}
+use lib.IntN.{ℤ}
 use lib.Dec.{leb, ltb, eqb}
-use borrow.Author.Tests.{eqb-true, eqb-false, eq-eqb, ne-eqb, leb-true, leb-false, le-leb, lt-leb, ltb-true, ltb-false, lt-ltb, le-ltb, not-false}
-use Rattle.calls.specs.declared.Call.{Call}
-use Rattle.calls.specs.declared.Call.the-variants.{Enter, Look, Leave, Claim, Write, Swap, Sync, Raise, Walk, Release}
-use Rattle.calls.specs.declared.Reply.{Reply}
+use borrow.Author.Tests.{eqb-true, eqb-false, eq-eqb, ne-eqb, leb-true, leb-false, lt-leb, ltb-true, ltb-false, le-ltb, not-false}
+use Rattle.calls.specs.declared.Call.the-variants.{Enter, Leave, Sync, Walk}
 use Rattle.calls.specs.declared.Reply.the-variants.{At, Left, Synced, Walked}
 use Rattle.calls.specs.declared.WalkReply.{WalkReply}
 use Rattle.calls.specs.declared.WalkReply.the-variants.{Waiting, Spent, Quiet, Returned}
-use Rattle.calls.specs.Base.{pick, upd, is}
-use Rattle.calls.specs.Numbers.{READERS-MAX, PUBLISHERS-MAX, TABLE, FEATHERED, NOT-READING, KIND-NEW, DAMAGED, MODULUS, NO-SUCH-PUBLISHER, NO-SUCH-SLOT, PUBLISHER-TURN, SLOT-IN-USE}
-use Rattle.calls.specs.Rows.{Test, firstOf, anyTrue, anyBelow}
-use Rattle.calls.specs.Rows.Test.{_gives_}
-use Rattle.calls.specs.RowLaws.{clash, not-both, by-test, and-false, and-not, or-false, neither, negated, all-false, none-true, no-below, pick-split, same, at-or, AllClear, AllFalse}
-use Rattle.calls.specs.Events.{accepted}
-use Rattle.calls.specs.Events.Event.{_⇒_}
-use Rattle.calls.specs.Model.{shelve, entry, firstTable}
-use Rattle.calls.specs.Told.{tell, holds, Has}
-use Rattle.calls.specs.Told.Role.{free}
+use Rattle.calls.specs.Base.{upd}
+use Rattle.calls.specs.Numbers.{READERS-MAX, PUBLISHERS-MAX, KIND-NEW}
+use Rattle.calls.specs.Rows.{anyTrue}
+use Rattle.calls.specs.RowLaws.{clash, by-test, and-false, and-not, or-false, neither, all-false, none-true, pick-split, same, at-or, AllClear, AllFalse}
+use Rattle.calls.specs.Model.{shelve, firstTable}
+use Rattle.calls.specs.Told.{tell}
 use Rattle.layout.specs.declared.Reader.{Reader}
 use Rattle.layout.specs.declared.Publisher.{Publisher}
-use Rattle.layout.specs.declared.Progress.{Progress}
 use Rattle.layout.specs.declared.Walk.{Walk as WalkNumbers}
-use Rattle.layout.specs.Layout.{READERS-AT, VERSION-AT, WORDS, HEAD, readers, publishers, slots, current, version, releases, readerAt, publisherAt, withReader, withPublisher, noReader, noPublisher, fresh}
-use Rattle.layout.specs.Laws.{fresh-head, fresh-reader, fresh-publisher, head-publisher}
-use Rattle.statement.specs.Machine.{State, state, Outcome, outcome, Given}
+use Rattle.layout.specs.Layout.{READERS-AT, VERSION-AT, readers, publishers, slots, current, version, readerAt, publisherAt, withReader}
+use Rattle.layout.specs.Laws.{fresh-reader, fresh-publisher}
+use Rattle.statement.specs.Machine.{State, state, Outcome, Given}
 use Rattle.statement.specs.Kept.{Pend, Ghost, ghost₀, Back}
 use Rattle.statement.specs.Kept as kept
 use Rattle.publication_law.specs.Steps.{reader, publisher, atPlace, enterTests, leaveTests, syncTests, sync, raise, walked, walk, newWalk, placeAfter, made}
@@ -46,7 +37,7 @@ use Rattle.publication_law.specs.Tallied.{place-tallied}
 use Rattle.publication_law.specs.Entries.{slotEntry}
 use Rattle.publication_law.specs.Moves.{MovesPublisher, moves-publisher, moves-head, moves-reader}
 use Rattle.publication_law.specs.Invariant.{formers, CoreOf, reader-moved}
-use Rattle.publication_law.specs.Keeps.{KindLaw, VersionsLaw, up-to-law, publisher-fine, sync-keeps, raise-keeps, walk-keeps, syncing-in-order}
+use Rattle.publication_law.specs.Keeps.{KindLaw, up-to-law, publisher-fine, sync-keeps, raise-keeps, walk-keeps, syncing-in-order}
 use Rattle.publication_law.specs.Rules.{traitsOf}
 use Rattle.publication_law.specs.Lawful.{Good, Lawful}
 use Rattle.grace_version_law.specs.Steps.{LAST, versions, kind, readerRows, ownRows, onward, entered, leaving, lookedAt, looksOf, looksFrom, freshReader, rules}

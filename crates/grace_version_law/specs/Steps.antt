@@ -1,6 +1,6 @@
 -- The new store (GraceVersion): what it fixes of the damage test and of the ten calls. `rules` gathers it; publication_law has the rest.
 use Prim.Native.Nat.{ℕ, zero, suc, _+_}
-use mathlib.Core.Bool.{Bool, true, false, not, _&&_, _||_}
+use mathlib.Core.Bool.{Bool, false, not, _&&_, _||_}
 use mathlib.Core.List.{List, [], _∷_}
 use lib.Dec.{leb, ltb, eqb}
 use Rattle.calls.specs.declared.WalkReply.{WalkReply}

@@ -6,7 +6,6 @@ use mathlib.Core.Path.{_≡_, refl, sym, ap, _∙_, fun-ext}
 use mathlib.Core.Logic.{_≢_, _⊎_, inl, inr}
 use mathlib.Core.Bool.{Bool, true, false}
 use mathlib.Core.List.{List, [], _∷_}
-use lib.IntN.{ℤ, pos}
 use lib.ListN.{getD, set, length, length-set, replicate, length-replicate}
 use lib.Seq.{getD-set-same, getD-set-other, set-getD}
 use lib.Dec.{ltb, eqb}
@@ -14,9 +13,9 @@ use borrow.Author.Tests.{eqb-true, eqb-false, ne-eqb, ltb-true, ltb-false, lt-lt
 use Rattle.layout.specs.declared.Reader.{Reader}
 use Rattle.layout.specs.declared.Publisher.{Publisher}
 use Rattle.calls.specs.Base.{pick, upd}
-use Rattle.calls.specs.Numbers.{READERS-MAX, PUBLISHERS-MAX, TABLE}
+use Rattle.calls.specs.Numbers.{READERS-MAX, PUBLISHERS-MAX}
 use Rattle.calls.specs.RowLaws.{pick-same}
-use Rattle.layout.specs.Layout.{INDICATORS-AT, INDICATORS, indicator, withIndicator, KIND-AT, READERS-AT, PUBLISHERS-AT, SLOTS-AT, CURRENT-AT, VERSION-AT, HEAD, READER-WORDS, PUBLISHER-WORDS, FIRST-PUBLISHER, WORDS, readerOf, readerWords, publisherOf, publisherWords, noReader, noPublisher, putWords, readerAt, publisherAt, withReader, withPublisher, withReaders, fresh, entryAt}
+use Rattle.layout.specs.Layout.{INDICATORS-AT, INDICATORS, indicator, withIndicator, KIND-AT, READERS-AT, PUBLISHERS-AT, SLOTS-AT, VERSION-AT, HEAD, READER-WORDS, PUBLISHER-WORDS, FIRST-PUBLISHER, WORDS, readerOf, readerWords, publisherOf, publisherWords, noReader, noPublisher, putWords, readerAt, publisherAt, withReader, withPublisher, withReaders, fresh}
 
 -- Words put in a row.
 pub length-put : (vs w : List ℕ) (b i : ℕ) → length (putWords w b i vs) ≡ length w

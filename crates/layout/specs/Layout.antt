@@ -1,12 +1,10 @@
 -- Where each number of a store stands among its words: a head of 9, 64 readers of 5, 16 publishers of 6. docs/LAYOUT.md has the table.
 use Prim.Native.Nat.{ℕ, zero, suc, _+_, _*_}
 use mathlib.Core.List.{List, [], _∷_}
-use lib.IntN.{ℤ, pos}
 use lib.ListN.{getD, set, replicate}
 use lib.Dec.{ltb}
 use Rattle.layout.specs.declared.Reader.{Reader}
 use Rattle.layout.specs.declared.Publisher.{Publisher}
-use Rattle.layout.specs.declared.Walk.{Walk}
 use Rattle.calls.specs.Base.{pick}
 use Rattle.calls.specs.Numbers.{READERS-MAX, PUBLISHERS-MAX, TABLE}
 

@@ -1,17 +1,16 @@
 -- The damage test as facts, to and from its rows. Assumes nothing.
-use Prim.Native.Nat.{ℕ, _+_, _*_, _<_, _≤_}
+use Prim.Native.Nat.{ℕ, _*_, _<_, _≤_}
 use native.Mathlib.Omega.{arith}
-use mathlib.Core.Path.{_≡_, refl, sym, _∙_}
-use mathlib.Core.Bool.{Bool, true, false, not, _&&_, _||_}
-use mathlib.Core.List.{List, [], _∷_}
+use mathlib.Core.Path.{_≡_, refl}
+use mathlib.Core.Bool.{true, false, not, _||_}
+use mathlib.Core.List.{List}
 use lib.IntN.{ℤ}
 use lib.ListN.{length, replicate}
 use lib.Dec.{leb, ltb, eqb}
 use borrow.Author.Tests.{eqb-true, eqb-false, eq-eqb, ne-eqb, not-true, leb-true, leb-false, lt-leb, le-leb, ltb-false, le-ltb, not-false}
 use Rattle.calls.specs.Numbers.{READERS-MAX, PUBLISHERS-MAX, SLOTS-MIN, SLOTS-MAX, TABLE}
-use Rattle.calls.specs.Rows.{anyTrue, anyBelow, outside}
+use Rattle.calls.specs.Rows.{anyTrue}
 use Rattle.calls.specs.RowLaws.{and-false, and-not, or-false, or-left, or-right, neither, negated, within, not-outside, all-false, none-true, none-below, no-below}
-use Rattle.layout.specs.declared.Reader.{Reader}
 use Rattle.layout.specs.declared.Publisher.{Publisher}
 use Rattle.layout.specs.Layout.{WORDS, kind, readers, publishers, slots, current, version}
 use Rattle.statement.specs.Machine.{State, state}

@@ -1,27 +1,27 @@
 -- A call moves the record of the reader or publisher that it names, and of no other: for every state. Assumes nothing.
-use Prim.Native.Nat.{ℕ, _+_, _<_, _≤_}
+use Prim.Native.Nat.{ℕ, _<_}
 use native.Mathlib.Omega.{arith}
 use mathlib.Core.Path.{_≡_, refl, sym, ap, _∙_}
 use mathlib.Core.Logic.{_≢_}
-use mathlib.Core.Bool.{Bool, true, false}
-use mathlib.Core.List.{List, [], _∷_}
-use mathlib.Core.Option.{Option, none, some}
+use mathlib.Core.Bool.{Bool}
+use mathlib.Core.List.{List}
+use mathlib.Core.Option.{some}
 use lib.IntN.{ℤ}
 use lib.ListN.{length}
-use lib.Dec.{leb, eqb}
-use borrow.Author.Tests.{eqb-true, eqb-false, ne-eqb, leb-false}
+use lib.Dec.{eqb}
+use borrow.Author.Tests.{ne-eqb, leb-false}
 use Rattle.calls.specs.declared.Call.{Call}
-use Rattle.calls.specs.declared.Call.the-variants.{Enter, Look, Leave, Claim, Write, Swap, Sync, Raise, Walk, Release}
-use Rattle.calls.specs.Base.{pick, upd}
+use Rattle.calls.specs.declared.Call.the-variants.{Claim, Write, Swap, Sync, Raise, Walk, Release}
+use Rattle.calls.specs.Base.{upd}
 use Rattle.calls.specs.Numbers.{PUBLISHERS-MAX}
 use Rattle.calls.specs.RowLaws.{AllClear, pick-split}
 use Rattle.layout.specs.declared.Reader.{Reader}
 use Rattle.layout.specs.declared.Publisher.{Publisher}
 use Rattle.layout.specs.declared.Progress.{Progress}
 use Rattle.layout.specs.Layout.{CURRENT-AT, VERSION-AT, RELEASES-AT, WORDS, publishers, version, readerAt, publisherAt}
-use Rattle.statement.specs.Machine.{State, state, Outcome}
+use Rattle.statement.specs.Machine.{State, Outcome}
 use Rattle.statement.specs.Companions.{readerNamed, publisherNamed, Framed}
-use Rattle.publication_law.specs.Steps.{Versions, publisher, look, lookTests, claim, claimTests, write, writeTests, swap, swapTests, sync, syncTests, raise, walk, release, releaseTests, oneMore}
+use Rattle.publication_law.specs.Steps.{Versions, publisher, claim, claimTests, write, writeTests, swap, swapTests, sync, syncTests, raise, walk, release, releaseTests, oneMore}
 use Rattle.publication_law.specs.Damage.{Kind}
 use Rattle.publication_law.specs.DamageLaws.{Fine, publisher-below}
 use Rattle.publication_law.specs.Moves.{MovesPublisher, MovesReader, moves-publisher, moves-head}

@@ -1,12 +1,12 @@
 -- What a kind with SYNC and RELEASE keeps of the readers that a synchronise has still to wait for. Assumes nothing.
-use Prim.Native.Nat.{ℕ, zero, suc, _+_, _-_, _<_, _≤_}
+use Prim.Native.Nat.{ℕ, _≤_}
 use native.Mathlib.Omega.{arith}
 use mathlib.Core.Path.{_≡_, refl, sym, _∙_}
 use mathlib.Core.Bool.{Bool, true, false}
 use lib.Dec.{leb, eqb}
 use borrow.Author.Tests.{eqb-true, eqb-false, leb-true}
 use Rattle.calls.specs.declared.Call.the-variants.{Leave, Sync}
-use Rattle.calls.specs.Base.{pick, upd}
+use Rattle.calls.specs.Base.{upd}
 use Rattle.calls.specs.RowLaws.{clash, not-both, same, at-or}
 use Rattle.calls.specs.Told.{Told}
 use Rattle.statement.specs.Kept.{Pend, pending}

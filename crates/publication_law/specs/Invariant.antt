@@ -1,50 +1,27 @@
 -- The shared invariant of a store on its words, through the views; each shared step keeps it. Assumes nothing.
-use Prim.Native.Nat.{ℕ, zero, suc, _+_, _-_, _*_, _%_, _<_, _≤_}
+use Prim.Native.Nat.{ℕ, _<_}
 use native.Mathlib.Omega.{arith}
-use mathlib.Core.Path.{_≡_, refl, sym, ap, _∙_, subst}
-use mathlib.Core.Logic.{_≢_}
-use mathlib.Core.Bool.{Bool, true, false, not, _&&_, _||_}
-use mathlib.Core.List.{List, [], _∷_}
-use mathlib.Core.Option.{Option, none, some}
-use lib.IntN.{ℤ, pos}
-use lib.ListN.{getD, set, length, length-set, replicate, length-replicate}
-use lib.Dec.{leb, ltb, eqb}
-use borrow.Author.Tests.{eqb-true, eqb-false, eq-eqb, ne-eqb, leb-true, leb-false, le-leb, lt-leb, ltb-true, ltb-false, lt-ltb, not-false}
-use Rattle.calls.specs.declared.Call.{Call}
-use Rattle.calls.specs.declared.Call.the-variants.{Enter, Look, Leave, Claim, Write, Swap, Sync, Raise, Walk, Release}
-use Rattle.calls.specs.declared.Reply.{Reply}
-use Rattle.calls.specs.declared.Reply.the-variants.{Made, At, Pitch, Left, Claimed, Written, Swapped, Synced, Raised, Shared, Walked, Freed, Refused}
-use Rattle.calls.specs.declared.WalkReply.{WalkReply}
-use Rattle.calls.specs.declared.WalkReply.the-variants.{Waiting, Spent, Quiet, Returned}
-use Rattle.calls.specs.Base.{pick, upd, is}
-use Rattle.calls.specs.Numbers.{READERS-MAX, PUBLISHERS-MAX, SLOTS-MIN, SLOTS-MAX, TABLE, FEATHERED, MODULUS}
-use Rattle.calls.specs.Rows.{Test, firstOf, anyTrue, anyBelow, outside}
-use Rattle.calls.specs.Rows.Test.{_gives_}
-use Rattle.calls.specs.RowLaws.{clash, not-both, and-false, or-false, within, none-below, pick-split, same, at-or, AllClear}
-use Rattle.calls.specs.Events.{accepted}
-use Rattle.calls.specs.Model.{Model, entry}
-use Rattle.calls.specs.Told.{Told, holds, Has}
-use Rattle.calls.specs.Told.Role.{free}
-use Rattle.calls.specs.Tally.{Tally}
-use Rattle.calls.specs.Tally.Phase.{idle, writing, swapped, syncing, returned}
+use mathlib.Core.Path.{_≡_, _∙_}
+use mathlib.Core.Bool.{Bool, false}
+use mathlib.Core.List.{List}
+use lib.IntN.{ℤ}
+use lib.ListN.{length}
+use Rattle.calls.specs.Base.{upd}
+use Rattle.calls.specs.RowLaws.{same, at-or}
 use Rattle.layout.specs.declared.Reader.{Reader}
 use Rattle.layout.specs.declared.Publisher.{Publisher}
-use Rattle.layout.specs.declared.Progress.{Progress}
-use Rattle.layout.specs.Layout.{KIND-AT, READERS-AT, PUBLISHERS-AT, SLOTS-AT, CURRENT-AT, VERSION-AT, RELEASES-AT, WORDS, kind, readers, publishers, slots, current, version, releases, readerAt, publisherAt, withReader, withPublisher, withCurrent, withVersion, withReleases, entryAt, fresh, noReader, noPublisher}
-use Rattle.layout.specs.Laws.{fresh-long, fresh-head, fresh-reader, fresh-publisher}
-use Rattle.statement.specs.Machine.{State, state, Outcome, outcome, Given, heldSlot, pickedSlot, currentSlot}
-use Rattle.statement.specs.Demand3.{Slots, Picks}
-use Rattle.statement.specs.Kept.{Pend, pending, Ghost, ghost₀, advance}
-use Rattle.publication_law.specs.Steps.{Versions, reader, publisher, putPublisher, atPlace, lookTests, look, claimTests, claim, inUse, writeTests, write, swapTests, swap, syncTests, sync, newWalk, raise, placeAfter, walked, walk, releaseTests, release, oneMore, makingTests, made}
-use Rattle.publication_law.specs.Damage.{Kind, publisherRows}
-use Rattle.publication_law.specs.DamageLaws.{HeadFine, Fine, PublisherFine, publisher-of}
-use Rattle.publication_law.specs.Core.{Core, Hold, hold-map, claim-core, late-core, swap-core, release-core, write-core, held-is, role-core, safe-core, free-core, fresh-core}
-use Rattle.publication_law.specs.Core.Hold.{by-swap}
-use Rattle.publication_law.specs.Grace.{Grace, early-grace, wait-grace, sync-grace, nobody, release-grace, fresh-grace}
-use Rattle.publication_law.specs.Single.{formerAt, former-early, former-same, former-swap, single, single-free}
-use Rattle.publication_law.specs.Tallied.{Tallied, phaseAt, phase-writing, phase-syncing, stay-tallied, phase-tallied, sync-tallied, wait-tallied, return-tallied, release-tallied, fresh-tallied}
-use Rattle.publication_law.specs.Entries.{slotEntry, set-entry, entry-same, slot-same}
-use Rattle.publication_law.specs.Moves.{MovesPublisher, publisher-field, moves-publisher, moves-head, MovesReader, reader-field}
+use Rattle.layout.specs.Layout.{KIND-AT, READERS-AT, PUBLISHERS-AT, SLOTS-AT, CURRENT-AT, VERSION-AT, RELEASES-AT, readers, publishers, slots, current, releases, readerAt, publisherAt}
+use Rattle.statement.specs.Machine.{State, state, Given}
+use Rattle.statement.specs.Kept.{Ghost}
+use Rattle.publication_law.specs.Steps.{reader, publisher, walk}
+use Rattle.publication_law.specs.Damage.{Kind}
+use Rattle.publication_law.specs.DamageLaws.{Fine}
+use Rattle.publication_law.specs.Core.{Core}
+use Rattle.publication_law.specs.Grace.{Grace}
+use Rattle.publication_law.specs.Single.{formerAt}
+use Rattle.publication_law.specs.Tallied.{Tallied}
+use Rattle.publication_law.specs.Entries.{slotEntry}
+use Rattle.publication_law.specs.Moves.{MovesPublisher, publisher-field, MovesReader, reader-field}
 
 -- The slots that were current before a publisher's swaps.
 abbrev pub formers : Publisher → ℕ → Bool

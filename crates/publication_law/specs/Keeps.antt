@@ -1,51 +1,45 @@
 -- Each shared step keeps the shared invariant, and what the invariant gives at the end of a list. Assumes nothing.
-use Prim.Native.Nat.{ℕ, zero, suc, _+_, _-_, _*_, _%_, _<_, _≤_}
+use Prim.Native.Nat.{ℕ, _+_, _-_, _*_, _<_, _≤_}
 use native.Mathlib.Omega.{arith}
-use mathlib.Core.Path.{_≡_, refl, sym, ap, _∙_, subst, fun-ext}
+use mathlib.Core.Path.{_≡_, refl, sym, ap, _∙_, fun-ext}
 use mathlib.Core.Logic.{_≢_}
-use mathlib.Core.Bool.{Bool, true, false, not, _&&_, _||_}
-use mathlib.Core.List.{List, [], _∷_}
-use mathlib.Core.Option.{Option, none, some}
+use mathlib.Core.Bool.{Bool, true, false, not}
+use mathlib.Core.List.{List}
+use mathlib.Core.Option.{some}
 use lib.IntN.{ℤ, pos}
 use lib.ListN.{getD, set, length, length-set, replicate, length-replicate}
-use lib.Dec.{leb, ltb, eqb}
-use borrow.Author.Tests.{eqb-true, eqb-false, eq-eqb, ne-eqb, leb-true, leb-false, le-leb, lt-leb, ltb-true, ltb-false, lt-ltb, le-ltb, not-true, not-false}
-use Rattle.calls.specs.declared.Call.{Call}
-use Rattle.calls.specs.declared.Call.the-variants.{Enter, Look, Leave, Claim, Write, Swap, Sync, Raise, Walk, Release}
-use Rattle.calls.specs.declared.Reply.{Reply}
-use Rattle.calls.specs.declared.Reply.the-variants.{Made, At, Pitch, Left, Claimed, Written, Swapped, Synced, Raised, Shared, Walked, Freed, Refused}
+use lib.Dec.{ltb, eqb}
+use borrow.Author.Tests.{eqb-true, eqb-false, ne-eqb, leb-false, le-leb, ltb-false, lt-ltb, le-ltb, not-true, not-false}
+use Rattle.calls.specs.declared.Call.the-variants.{Claim, Write, Swap, Sync, Raise, Walk, Release}
+use Rattle.calls.specs.declared.Reply.the-variants.{Claimed, Written, Swapped, Synced, Walked, Freed}
 use Rattle.calls.specs.declared.WalkReply.{WalkReply}
 use Rattle.calls.specs.declared.WalkReply.the-variants.{Waiting, Spent, Quiet, Returned}
-use Rattle.calls.specs.Base.{pick, upd, is}
-use Rattle.calls.specs.Numbers.{READERS-MAX, PUBLISHERS-MAX, SLOTS-MIN, SLOTS-MAX, TABLE, FEATHERED, MODULUS}
-use Rattle.calls.specs.Rows.{Test, firstOf, anyTrue, anyBelow, outside}
-use Rattle.calls.specs.Rows.Test.{_gives_}
-use Rattle.calls.specs.RowLaws.{clash, not-both, and-true, and-false, or-false, neither, within, none-below, no-below, pick-split, same, at-or, AllClear}
-use Rattle.calls.specs.Events.{accepted}
-use Rattle.calls.specs.Model.{Model, entry, firstTable}
-use Rattle.calls.specs.Told.{Told, holds, Has}
+use Rattle.calls.specs.Base.{pick, upd}
+use Rattle.calls.specs.Numbers.{READERS-MAX, PUBLISHERS-MAX, SLOTS-MIN, SLOTS-MAX, TABLE, FEATHERED}
+use Rattle.calls.specs.Rows.{anyTrue}
+use Rattle.calls.specs.RowLaws.{not-both, and-true, or-false, neither, within, none-below, no-below, pick-split, same, AllClear}
+use Rattle.calls.specs.Model.{entry, firstTable}
+use Rattle.calls.specs.Told.{holds, Has}
 use Rattle.calls.specs.Told.Role.{free}
-use Rattle.calls.specs.Tally.{Tally}
-use Rattle.calls.specs.Tally.Phase.{idle, writing, swapped, syncing, returned}
+use Rattle.calls.specs.Tally.Phase.{writing, swapped, syncing, returned}
 use Rattle.layout.specs.declared.Reader.{Reader}
 use Rattle.layout.specs.declared.Publisher.{Publisher}
 use Rattle.layout.specs.declared.Progress.{Progress}
-use Rattle.layout.specs.Layout.{HEAD, KIND-AT, READERS-AT, PUBLISHERS-AT, SLOTS-AT, CURRENT-AT, VERSION-AT, RELEASES-AT, WORDS, kind, readers, publishers, slots, current, version, releases, readerAt, publisherAt, withReader, withPublisher, withCurrent, withVersion, withReleases, entryAt, fresh, noReader, noPublisher}
+use Rattle.layout.specs.Layout.{HEAD, KIND-AT, READERS-AT, PUBLISHERS-AT, SLOTS-AT, CURRENT-AT, VERSION-AT, RELEASES-AT, WORDS, readers, publishers, slots, current, version, releases, readerAt, publisherAt, entryAt, fresh, noReader, noPublisher}
 use Rattle.layout.specs.Laws.{fresh-long, fresh-head, fresh-reader, fresh-publisher}
-use Rattle.statement.specs.Machine.{State, state, Outcome, outcome, Given, heldSlot, pickedSlot, currentSlot}
+use Rattle.statement.specs.Machine.{State, Outcome, Given, heldSlot}
 use Rattle.statement.specs.Demand3.{Slots, Picks}
-use Rattle.statement.specs.Kept.{Pend, pending, Ghost, ghost₀, advance}
-use Rattle.publication_law.specs.Steps.{Versions, upTo, noSuchPublisher, reader, publisher, putPublisher, atPlace, lookTests, look, claimTests, claim, inUse, writeTests, write, swapTests, swap, syncTests, sync, newWalk, raise, placeAfter, walked, walk, releaseTests, release, oneMore, makingTests, made}
+use Rattle.statement.specs.Kept.{Ghost, ghost₀, advance}
+use Rattle.publication_law.specs.Steps.{Versions, upTo, reader, publisher, atPlace, lookTests, claimTests, claim, inUse, writeTests, write, swapTests, swap, syncTests, sync, newWalk, raise, placeAfter, walked, walk, releaseTests, release, oneMore, makingTests, made}
 use Rattle.publication_law.specs.Damage.{Kind, publisherRows}
-use Rattle.publication_law.specs.DamageLaws.{HeadFine, Fine, PublisherFine, publisher-of, publisher-below}
-use Rattle.publication_law.specs.Core.{Core, Hold, hold-map, claim-core, late-core, swap-core, release-core, write-core, held-is, held-bound, role-core, safe-core, free-core, fresh-core}
-use Rattle.publication_law.specs.Core.Hold.{by-swap}
+use Rattle.publication_law.specs.DamageLaws.{Fine, PublisherFine, publisher-of, publisher-below}
+use Rattle.publication_law.specs.Core.{Core, Hold, claim-core, late-core, swap-core, release-core, write-core, held-is, held-bound, role-core, safe-core, free-core, fresh-core}
 use Rattle.publication_law.specs.Grace.{Grace, early-grace, wait-grace, sync-grace, nobody, release-grace, fresh-grace}
 use Rattle.publication_law.specs.Single.{formerAt, former-early, former-same, former-swap, single, single-free}
-use Rattle.publication_law.specs.Tallied.{Tallied, phaseAt, phase-writing, phase-syncing, stay-tallied, phase-tallied, sync-tallied, wait-tallied, return-tallied, release-tallied, fresh-tallied}
+use Rattle.publication_law.specs.Tallied.{Tallied, phase-writing, phase-syncing, stay-tallied, phase-tallied, sync-tallied, wait-tallied, return-tallied, release-tallied, fresh-tallied}
 use Rattle.publication_law.specs.Entries.{slotEntry, set-entry, entry-same, slot-same}
-use Rattle.publication_law.specs.Moves.{MovesPublisher, publisher-field, moves-publisher, moves-head, MovesReader, reader-field}
-use Rattle.publication_law.specs.Invariant.{formers, Sized, Invariant, publisher-moved}
+use Rattle.publication_law.specs.Moves.{moves-publisher, moves-head}
+use Rattle.publication_law.specs.Invariant.{formers, Invariant, publisher-moved}
 
 -- What the shared steps need of a kind's versions: one before a mark is the version that it was made at;
 -- a SYNC that is not refused gives a mark that fits, and such a mark is a version that fits.

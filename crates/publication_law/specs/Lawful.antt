@@ -1,12 +1,12 @@
 -- Demand 3 and its companions of a kind with the ten calls, from what only that kind can show: its own invariant, and that its
 -- ENTER, LEAVE, SYNC, RAISE and WALK keep it. Assumes nothing.
-use Prim.Native.Nat.{ℕ, zero, suc, _+_, _%_, _<_, _≤_}
+use Prim.Native.Nat.{ℕ, _+_, _%_, _<_, _≤_}
 use native.Mathlib.Omega.{arith}
 use mathlib.Core.Path.{_≡_, refl, sym, ap, _∙_, subst}
 use mathlib.Core.Logic.{_≢_, _⊎_, inl, inr}
-use mathlib.Core.Bool.{Bool, true, false, not, _&&_, _||_}
+use mathlib.Core.Bool.{Bool, true, false, not, _&&_}
 use mathlib.Core.List.{List, [], _∷_}
-use mathlib.Core.Option.{Option, none, some}
+use mathlib.Core.Option.{some}
 use lib.IntN.{ℤ, pos}
 use lib.Signed.{ltZ}
 use lib.ListN.{getD, length}
@@ -29,7 +29,6 @@ use Rattle.calls.specs.Told.{holds}
 use Rattle.calls.specs.Tally.{Phase}
 use Rattle.calls.specs.Tally.Phase.{writing, swapped, syncing, returned}
 use Rattle.layout.specs.declared.Publisher.{Publisher}
-use Rattle.layout.specs.declared.Progress.{Progress}
 use Rattle.layout.specs.Layout.{CURRENT-AT, VERSION-AT, RELEASES-AT, WORDS, readers, publishers, slots, current, version, noPublisher, withPublisher}
 use Rattle.layout.specs.Laws.{head-publisher, publisher-back}
 use Rattle.statement.specs.Machine.{State, state, Outcome, outcome, Given, Fresh, afterAll}

@@ -1,7 +1,7 @@
 -- A step writes one record, and perhaps one number of the head: what the words then hold, by the laws of the layout. Assumes nothing.
-use Prim.Native.Nat.{ℕ, _+_, _<_, _≤_}
+use Prim.Native.Nat.{ℕ, _<_, _≤_}
 use native.Mathlib.Omega.{arith}
-use mathlib.Core.Path.{_≡_, refl, sym, ap, _∙_, fun-ext}
+use mathlib.Core.Path.{_≡_, refl, ap, _∙_, fun-ext}
 use mathlib.Core.Bool.{Bool, true, false}
 use mathlib.Core.List.{List}
 use lib.ListN.{getD, set, length, length-set}
@@ -12,7 +12,7 @@ use Rattle.calls.specs.Base.{pick, upd}
 use Rattle.calls.specs.Numbers.{READERS-MAX, PUBLISHERS-MAX}
 use Rattle.layout.specs.declared.Reader.{Reader}
 use Rattle.layout.specs.declared.Publisher.{Publisher}
-use Rattle.layout.specs.Layout.{HEAD, INDICATORS-AT, indicator, CURRENT-AT, VERSION-AT, RELEASES-AT, WORDS, current, version, releases, readerAt, publisherAt, withReader, withPublisher}
+use Rattle.layout.specs.Layout.{HEAD, indicator, CURRENT-AT, VERSION-AT, RELEASES-AT, WORDS, current, version, releases, readerAt, publisherAt, withReader, withPublisher}
 use Rattle.layout.specs.Laws.{length-reader, length-publisher, head-reader, head-publisher, reader-head, publisher-head, reader-publisher, publisher-reader, reader-put, publisher-put, indicator-by}
 
 upd-field : {A B : Type 0} (f : A → B) (u v : ℕ → A) (i : ℕ) (x : A) → u ≡ upd v i x → _≡_ {A = ℕ → B} (λ j. f (u j)) (upd (λ j. f (v j)) i (f x))

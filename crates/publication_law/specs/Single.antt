@@ -1,11 +1,10 @@
 -- A publisher that holds one slot: claimed at places 1 to 33, former from 34 on. Assumes nothing.
-use Prim.Native.Nat.{ℕ, zero, suc, _+_, _-_, _<_, _≤_}
+use Prim.Native.Nat.{ℕ, _≤_}
 use native.Mathlib.Omega.{arith}
-use mathlib.Core.Path.{_≡_, refl, sym, _∙_}
+use mathlib.Core.Path.{_≡_, refl, sym}
 use mathlib.Core.Bool.{Bool, true, false, not, _&&_, _||_}
 use lib.Dec.{leb, eqb}
 use borrow.Author.Tests.{eqb-true, eqb-false, eq-eqb, ne-eqb, leb-true, leb-false, le-leb, lt-leb}
-use Rattle.calls.specs.Base.{pick, upd}
 use Rattle.calls.specs.RowLaws.{clash, not-both}
 use Rattle.publication_law.specs.Core.{Hold, hold-map}
 

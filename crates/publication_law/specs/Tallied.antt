@@ -1,17 +1,15 @@
 -- What the calls told of places, phases, waits and releases is what the store records. Assumes nothing.
-use Prim.Native.Nat.{ℕ, zero, suc, _+_, _-_, _%_, _<_, _≤_}
+use Prim.Native.Nat.{ℕ, suc, _+_, _%_, _≤_}
 use native.Mathlib.Omega.{arith}
-use mathlib.Core.Path.{_≡_, refl, sym, ap, _∙_}
+use mathlib.Core.Path.{_≡_, refl, sym, _∙_}
 use mathlib.Core.Bool.{Bool, true, false}
-use mathlib.Core.Option.{Option, none, some}
+use mathlib.Core.Option.{some}
 use lib.Dec.{leb, eqb}
-use borrow.Author.Tests.{eqb-true, eqb-false, eq-eqb, ne-eqb, leb-true, leb-false, le-leb, lt-leb}
-use Rattle.calls.specs.declared.WalkReply.{WalkReply}
-use Rattle.calls.specs.declared.WalkReply.the-variants.{Waiting, Spent, Quiet, Returned}
+use borrow.Author.Tests.{eqb-true, eqb-false, ne-eqb, leb-true, leb-false, le-leb, lt-leb}
 use Rattle.calls.specs.Base.{pick, upd}
 use Rattle.calls.specs.Numbers.{MODULUS}
 use Rattle.calls.specs.RowLaws.{same, at-or}
-use Rattle.calls.specs.Tally.{Phase, Tally, tally₀, withPlace, withPhase, withWaits, withReleases, withWalk}
+use Rattle.calls.specs.Tally.{Phase, Tally, tally₀, withPlace, withPhase, withWaits, withReleases}
 use Rattle.calls.specs.Tally.Phase.{idle, writing, swapped, syncing, returned}
 
 -- The phase that a publisher's place tells.

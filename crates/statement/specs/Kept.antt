@@ -1,16 +1,16 @@
 -- Demand 3 and its companions from an invariant that each step keeps, once for every kind of store.
 -- The ghost is what the calls told so far; one lemma carries an invariant of ghost and state to any split of the events. Assumes nothing.
-use Prim.Native.Nat.{ℕ, zero, suc, _+_, _%_, _<_, _≤_}
+use Prim.Native.Nat.{ℕ, _+_}
 use native.Mathlib.Omega.{arith}
 use mathlib.Core.Path.{_≡_, refl, sym, ap, _∙_, subst}
-use mathlib.Core.Logic.{_≢_, _⊎_, inl, inr}
-use mathlib.Core.Bool.{Bool, true, false, _&&_, _||_}
+use mathlib.Core.Logic.{_⊎_, inl, inr}
+use mathlib.Core.Bool.{Bool, true, false}
 use mathlib.Core.List.{List, [], _∷_, _++_}
-use mathlib.Core.Option.{Option, none, some}
+use mathlib.Core.Option.{Option, some}
 use lib.IntN.{ℤ}
 use lib.ListN.{length}
 use lib.Dec.{eqb}
-use borrow.Author.Tests.{eqb-true, eqb-false}
+use borrow.Author.Tests.{eqb-true}
 use Rattle.calls.specs.declared.Call.{Call}
 use Rattle.calls.specs.declared.Call.the-variants.{Enter, Look, Leave, Claim, Write, Swap, Sync, Raise, Walk, Release}
 use Rattle.calls.specs.declared.Reply.{Reply}
@@ -18,15 +18,14 @@ use Rattle.calls.specs.declared.Reply.the-variants.{Pitch, Walked}
 use Rattle.calls.specs.declared.WalkReply.the-variants.{Returned}
 use Rattle.calls.specs.Base.{pick, upd, is}
 use Rattle.calls.specs.Numbers.{TABLE}
-use Rattle.calls.specs.RowLaws.{not-both, clash, same, pick-split}
+use Rattle.calls.specs.RowLaws.{not-both, same, pick-split}
 use Rattle.calls.specs.Events.{Event, accepted, placeOf, moved, foldEvents}
 use Rattle.calls.specs.Events.Event.{_⇒_}
 use Rattle.calls.specs.Model.{Model, model₀, shelve, entry}
-use Rattle.calls.specs.Told.{Told, told₀, tell, entered, withSection, holds, Role, Has}
-use Rattle.calls.specs.Told.Role.{current, heldBy, free}
+use Rattle.calls.specs.Told.{Told, told₀, tell, entered}
 use Rattle.calls.specs.Tally.{Tally, tally₀, tally}
 use Rattle.calls.specs.Tally.Phase.{syncing, returned}
-use Rattle.statement.specs.Machine.{State, Outcome, Given, Machine, Fresh, events, afterAll}
+use Rattle.statement.specs.Machine.{State, Given, Machine, Fresh, events, afterAll}
 use Rattle.statement.specs.Demand3.{LeftIn, Slots, Picks, Due, Demand3}
 use Rattle.statement.specs.Companions.{Traits, StateCompanions, ListCompanions, Companions}
 

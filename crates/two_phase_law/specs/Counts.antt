@@ -1,26 +1,23 @@
 -- The indicators count the readers that added to them, and one look at an indicator. Assumes nothing.
-use Prim.Native.Nat.{ℕ, zero, suc, _+_, _-_, _%_, _<_, _≤_}
+use Prim.Native.Nat.{ℕ, zero, suc, _+_, _-_, _<_, _≤_}
 use native.Mathlib.Omega.{arith}
 use mathlib.Core.Path.{_≡_, refl, sym, _∙_}
 use mathlib.Core.Logic.{_≢_, _⊎_, inl, inr}
-use mathlib.Core.Bool.{Bool, true, false, not, _&&_, _||_}
-use mathlib.Core.List.{List, [], _∷_}
-use lib.ListN.{getD, set, length}
-use lib.Dec.{leb, ltb, eqb}
-use borrow.Author.Tests.{eqb-true, eqb-false, eq-eqb, ne-eqb, le-leb, lt-leb, not-false}
-use Rattle.calls.specs.declared.WalkReply.{WalkReply}
-use Rattle.calls.specs.declared.WalkReply.the-variants.{Waiting, Spent, Quiet, Returned}
+use mathlib.Core.Bool.{Bool, true, false, _||_}
+use lib.Dec.{leb, eqb}
+use borrow.Author.Tests.{eqb-true, eqb-false, eq-eqb, le-leb, lt-leb, not-false}
+use Rattle.calls.specs.declared.WalkReply.the-variants.{Waiting, Spent, Returned}
 use Rattle.calls.specs.Base.{pick, upd}
 use Rattle.calls.specs.Rows.{countBelow}
-use Rattle.calls.specs.RowLaws.{clash, and-false, negated, neither, or-false, pick-split, same, count-zero, count-upd}
+use Rattle.calls.specs.RowLaws.{and-false, negated, neither, or-false, pick-split, same, count-zero, count-upd}
 use Rattle.layout.specs.declared.Reader.{Reader}
 use Rattle.layout.specs.declared.Publisher.{Publisher}
 use Rattle.layout.specs.declared.Progress.{Progress}
 use Rattle.layout.specs.Layout.{readers, indicator, readerAt}
 use Rattle.statement.specs.Machine.{State}
-use Rattle.publication_law.specs.Steps.{reader, publisher, placeAfter}
+use Rattle.publication_law.specs.Steps.{placeAfter}
 use Rattle.publication_law.specs.Keeps.{waitsAfter}
-use Rattle.two_phase_law.specs.Steps.{parity, addedTo, miscounted, watched, progress, lookAt}
+use Rattle.two_phase_law.specs.Steps.{parity, addedTo, miscounted, watched, lookAt}
 
 pub two : (Q : ℕ → Type 0) → Q 0 → Q 1 → (i : ℕ) → i < 2 → Q i
 two Q a b zero l = a
@@ -72,7 +69,7 @@ abbrev pub passedAt : ℕ → ℕ
 passedAt place = pick (eqb place 35) 0 (pick (eqb place 38) 2 1)
 
 -- What one look comes to.
-pub record Looked (count : ℕ) (y : Publisher) (k : Progress) : Type 0 where
+pub record Looked (count : ℕ) (y : Publisher) (b : ℕ) (k : Progress) : Type 0 where
   pub mark-same : k .walk .mark ≡ y .walk .mark
   -- each look passed or waited
   pub counted : k .walk .looks + passedAt (y .place) + y .walk .waits ≡ y .walk .looks + passedAt (placeAfter (y .place) (k .reply)) + k .walk .waits
@@ -80,6 +77,10 @@ pub record Looked (count : ℕ) (y : Publisher) (k : Progress) : Type 0 where
   pub enough : y .walk .waits ≤ y .walk .looks → k .walk .waits ≤ k .walk .looks
   pub quiet-zero : y .place ≡ 35 → placeAfter (y .place) (k .reply) ≢ 35 → count ≡ 0
   pub returned-zero : y .place ≡ 37 → placeAfter (y .place) (k .reply) ≢ 37 → count ≡ 0
+  -- waiting names the indicator looked at, which is not zero; spent exactly if b = 0
+  pub waiting-is : (w : ℕ) → k .reply ≡ Waiting w → (w ≡ watched y) × (count ≢ 0)
+  pub spent-only : k .reply ≡ Spent → b ≡ 0
+  pub spent-if : b ≡ 0 → k .reply ≡ Spent
   pub returns : (l w : ℕ) → k .reply ≡ Returned l w → (y .place ≢ 35) × (l ≡ k .walk .looks) × (w ≡ k .walk .waits)
   pub low : 35 ≤ placeAfter (y .place) (k .reply)
   pub high : placeAfter (y .place) (k .reply) ≤ 38
@@ -96,86 +97,23 @@ module _ (count mark next looks waits held b : ℕ) where
   at : ℕ → Publisher
   at place = record { place = place; held = held; walk = record { mark = mark; next = next; looks = looks; waits = waits } }
 
-  clash-reply : {A : Type 0} (r l w : ℕ) → Waiting r ≡ Returned l w → A
-  clash-reply r l w e = absurd (let z : _≡_ {A = ℕ} 0 1 = cc in omega arith)
-
-  looked-35 : Looked count (at 35) (lookAt count (at 35) b)
+  looked-35 : Looked count (at 35) b (lookAt count (at 35) b)
   unfolding lookAt at
-  looked-35 = pick-split (Looked count (at 35)) (eqb b 0)
-      (λ _. record {
-        mark-same = refl;
-        counted = refl;
-        waits-are = refl;
-        enough = λ l. l;
-        quiet-zero = λ _ n. absurd (n refl);
-        returned-zero = λ e. absurd (omega arith);
-        returns = λ l w e. absurd (let z : _≡_ {A = ℕ} 0 1 = cc in omega arith);
-        low = omega arith;
-        high = omega arith;
-      })
-      (λ _. pick-split (Looked count (at 35)) (eqb count 0)
-      (λ z. record {
-        mark-same = refl;
-        counted = omega arith;
-        waits-are = refl;
-        enough = λ l. omega arith;
-        quiet-zero = λ _ _. eqb-true count 0 z;
-        returned-zero = λ e. absurd (omega arith);
-        returns = λ l w e. absurd (let z : _≡_ {A = ℕ} 0 1 = cc in omega arith);
-        low = omega arith;
-        high = omega arith;
-      })
-      (λ _. record {
-        mark-same = refl;
-        counted = omega arith;
-        waits-are = refl;
-        enough = λ l. omega arith;
-        quiet-zero = λ _ n. absurd (n refl);
-        returned-zero = λ e. absurd (omega arith);
-        returns = λ l w e. clash-reply _ l w e;
-        low = omega arith;
-        high = omega arith;
-      }))
+  looked-35 = pick-split (Looked count (at 35) b) (eqb b 0)
+      (λ s. record { mark-same = refl; counted = refl; waits-are = refl; enough = λ l. l; returned-zero = λ e. absurd (omega arith); quiet-zero = λ _ n. absurd (n refl); waiting-is = λ w e. absurd (let z : _≡_ {A = ℕ} 0 1 = cc in omega arith); spent-only = λ _. eqb-true b 0 s; spent-if = λ _. refl; returns = λ l w e. absurd (let z : _≡_ {A = ℕ} 0 1 = cc in omega arith); low = omega arith; high = omega arith })
+      (λ s. pick-split (Looked count (at 35) b) (eqb count 0)
+      (λ z. record { mark-same = refl; counted = omega arith; waits-are = refl; enough = λ l. omega arith; returned-zero = λ e. absurd (omega arith); quiet-zero = λ _ _. eqb-true count 0 z; waiting-is = λ w e. absurd (let z : _≡_ {A = ℕ} 0 1 = cc in omega arith); spent-only = λ e. absurd (let z : _≡_ {A = ℕ} 0 1 = cc in omega arith); spent-if = λ e. absurd (eqb-false b 0 s e); returns = λ l w e. absurd (let z : _≡_ {A = ℕ} 0 1 = cc in omega arith); low = omega arith; high = omega arith })
+      (λ z. record { mark-same = refl; counted = omega arith; waits-are = refl; enough = λ l. omega arith; returned-zero = λ e. absurd (omega arith); quiet-zero = λ _ n. absurd (n refl); waiting-is = λ w e. ((let c : watched (at 35) ≡ w = cc in sym c), eqb-false count 0 z); spent-only = λ e. absurd (let z : _≡_ {A = ℕ} 0 1 = cc in omega arith); spent-if = λ e. absurd (eqb-false b 0 s e); returns = λ l w e. absurd (let z : _≡_ {A = ℕ} 0 1 = cc in omega arith); low = omega arith; high = omega arith }))
 
-  looked-37 : Looked count (at 37) (lookAt count (at 37) b)
+  looked-37 : Looked count (at 37) b (lookAt count (at 37) b)
   unfolding lookAt at
-  looked-37 = pick-split (Looked count (at 37)) (eqb b 0)
-      (λ _. record {
-        mark-same = refl;
-        counted = refl;
-        waits-are = refl;
-        enough = λ l. l;
-        quiet-zero = λ e. absurd (omega arith);
-        returned-zero = λ _ n. absurd (n refl);
-        returns = λ l w e. absurd (let z : _≡_ {A = ℕ} 0 1 = cc in omega arith);
-        low = omega arith;
-        high = omega arith;
-      })
-      (λ _. pick-split (Looked count (at 37)) (eqb count 0)
-      (λ z. record {
-        mark-same = refl;
-        counted = omega arith;
-        waits-are = refl;
-        enough = λ l. omega arith;
-        quiet-zero = λ e. absurd (omega arith);
-        returned-zero = λ _ _. eqb-true count 0 z;
-        returns = λ l w e. (λ q. omega arith, (let c : looks + 1 ≡ l = cc in sym c), (let d : waits ≡ w = cc in sym d));
-        low = omega arith;
-        high = omega arith;
-      })
-      (λ _. record {
-        mark-same = refl;
-        counted = omega arith;
-        waits-are = refl;
-        enough = λ l. omega arith;
-        quiet-zero = λ e. absurd (omega arith);
-        returned-zero = λ _ n. absurd (n refl);
-        returns = λ l w e. clash-reply _ l w e;
-        low = omega arith;
-        high = omega arith;
-      }))
+  looked-37 = pick-split (Looked count (at 37) b) (eqb b 0)
+      (λ s. record { mark-same = refl; counted = refl; waits-are = refl; enough = λ l. l; quiet-zero = λ e. absurd (omega arith); returned-zero = λ _ n. absurd (n refl); waiting-is = λ w e. absurd (let z : _≡_ {A = ℕ} 0 1 = cc in omega arith); spent-only = λ _. eqb-true b 0 s; spent-if = λ _. refl; returns = λ l w e. absurd (let z : _≡_ {A = ℕ} 0 1 = cc in omega arith); low = omega arith; high = omega arith })
+      (λ s. pick-split (Looked count (at 37) b) (eqb count 0)
+      (λ z. record { mark-same = refl; counted = omega arith; waits-are = refl; enough = λ l. omega arith; quiet-zero = λ e. absurd (omega arith); returned-zero = λ _ _. eqb-true count 0 z; waiting-is = λ w e. absurd (let z : _≡_ {A = ℕ} 0 1 = cc in omega arith); spent-only = λ e. absurd (let z : _≡_ {A = ℕ} 0 1 = cc in omega arith); spent-if = λ e. absurd (eqb-false b 0 s e); returns = λ l w e. (λ q. omega arith, (let c : looks + 1 ≡ l = cc in sym c), (let d : waits ≡ w = cc in sym d)); low = omega arith; high = omega arith })
+      (λ z. record { mark-same = refl; counted = omega arith; waits-are = refl; enough = λ l. omega arith; quiet-zero = λ e. absurd (omega arith); returned-zero = λ _ n. absurd (n refl); waiting-is = λ w e. ((let c : watched (at 37) ≡ w = cc in sym c), eqb-false count 0 z); spent-only = λ e. absurd (let z : _≡_ {A = ℕ} 0 1 = cc in omega arith); spent-if = λ e. absurd (eqb-false b 0 s e); returns = λ l w e. absurd (let z : _≡_ {A = ℕ} 0 1 = cc in omega arith); low = omega arith; high = omega arith }))
 
-pub looked : (count : ℕ) (y : Publisher) (b : ℕ) → (y .place ≡ 35) ⊎ (y .place ≡ 37) → Looked count y (lookAt count y b)
+pub looked : (count : ℕ) (y : Publisher) (b : ℕ) → (y .place ≡ 35) ⊎ (y .place ≡ 37) → Looked count y b (lookAt count y b)
 unfolding at
 looked count y b (inl e) = rw (← e) at (looked-35 count (y .walk .mark) (y .walk .next) (y .walk .looks) (y .walk .waits) (y .held) b)
 looked count y b (inr e) = rw (← e) at (looked-37 count (y .walk .mark) (y .walk .next) (y .walk .looks) (y .walk .waits) (y .held) b)

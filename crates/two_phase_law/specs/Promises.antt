@@ -1,48 +1,64 @@
 -- The theorems about the old store. Assumes nothing.
 use Prim.Native.Nat.{ℕ}
-use native.Mathlib.Omega.{arith}
-use mathlib.Core.Path.{_≡_, refl, ap}
-use mathlib.Core.Bool.{false}
+use mathlib.Core.Path.{_≡_, refl, sym}
+use mathlib.Core.Bool.{true, false}
 use mathlib.Core.List.{List}
-use borrow.Author.Tests.{leb-false}
+use lib.IntN.{pos}
+use lib.ListN.{getD}
+use borrow.Author.Tests.{not-false}
 use Rattle.calls.specs.declared.Call.{Call}
 use Rattle.calls.specs.declared.Call.the-variants.{Walk}
 use Rattle.calls.specs.declared.Reply.the-variants.{Walked}
 use Rattle.calls.specs.declared.WalkReply.the-variants.{Spent}
-use Rattle.layout.specs.Layout.{publishers}
-use Rattle.layout.specs.Laws.{publisher-back}
-use Rattle.statement.specs.Machine.{State, state, Outcome, Fresh, afterAll}
+use Rattle.calls.specs.RowLaws.{clash}
+use Rattle.calls.specs.AnswerLaws.{NarrowPitch, Proper}
+use Rattle.calls.specs.Events.{accepted}
+use Rattle.calls.specs.Model.{firstTable}
+use Rattle.layout.specs.Layout.{indicator}
+use Rattle.statement.specs.Machine.{State, Outcome, Fresh, afterAll}
 use Rattle.statement.specs.Demand3.{Demand3}
-use Rattle.statement.specs.Companions.{Traits, RefusedLeaves, Frame, Companions}
+use Rattle.statement.specs.Companions.{Traits, MakingAccepts, RefusedLeaves, Frame, Companions}
+use Rattle.publication_law.specs.Steps.{publisher}
 use Rattle.publication_law.specs.Rules.{damaged, act, rows, step}
 use Rattle.publication_law.specs.Decide.{decided}
-use Rattle.publication_law.specs.Lawful.{firstTable, traitsOf, fine-undamaged, demand3-of, companions-of, never-damaged-of, refused-leaves-of, frame-of}
-use Rattle.two_phase_law.specs.Steps.{lookAt, rules, TwoPhase}
-use Rattle.two_phase_law.specs.Safety.{placeOn, lawful}
+use Rattle.publication_law.specs.Lawful.{demand3-of, companions-of, never-damaged-of, making-accepts-of, refused-leaves-of, frame-of, proper-of, walk-zero-of}
+use Rattle.two_phase_law.specs.Steps.{LAST, placeOn, watched, looksOf, rules, TwoPhase}
+use Rattle.two_phase_law.specs.Counts.{Looked, look-turn, looked}
+use Rattle.two_phase_law.specs.Safety.{lawful}
 
--- A return passes two looks; ENTER goes 1, 4, 5; a claim needs that nobody holds a slot.
+-- No version is above LAST; a return passes two looks; ENTER goes 1, 4, 5; a claim needs that nobody else holds a slot.
 abbrev pub traits : Traits
-traits = traitsOf rules (λ z. 2) placeOn
+traits = record { first = λ z. firstTable; last = LAST; passes = λ z. 2; onward = placeOn; exclusive = true }
 
 pub old-demand3 : Demand3 TwoPhase (λ z. firstTable)
-old-demand3 = demand3-of rules (λ z. 2) placeOn lawful
+old-demand3 = demand3-of rules LAST (λ z. 2) placeOn lawful
 
 pub old-companions : Companions TwoPhase traits
-old-companions = companions-of rules (λ z. 2) placeOn lawful
+old-companions = companions-of rules LAST (λ z. 2) placeOn lawful
 
 pub old-never-damaged : (s : State) → Fresh TwoPhase s → (cs : List Call) → damaged rules (afterAll TwoPhase s cs) ≡ false
-old-never-damaged = never-damaged-of rules (λ z. 2) placeOn lawful
+old-never-damaged = never-damaged-of rules LAST (λ z. 2) placeOn lawful
+
+pub old-making-accepts : MakingAccepts TwoPhase traits
+old-making-accepts = making-accepts-of rules LAST (λ z. 2) placeOn lawful
 
 pub old-refused-leaves : RefusedLeaves TwoPhase
-old-refused-leaves = refused-leaves-of rules (λ z. 2) placeOn lawful
+old-refused-leaves = refused-leaves-of rules LAST (λ z. 2) placeOn lawful
 
 pub old-frame : Frame TwoPhase
-old-frame = frame-of rules (λ z. 2) placeOn lawful
+old-frame = frame-of rules LAST (λ z. 2) placeOn lawful
 
--- A WALK with no looks that is accepted leaves the whole state as it was.
+-- Every reply of a store whose entries are pitches of 64 bits has an answer that no other reply has.
+pub old-proper : (s : State) (c : Call) → ((j : ℕ) → NarrowPitch (getD (s .entries) j (pos 0))) → Proper (step rules s c .reply)
+old-proper = proper-of rules LAST (λ z. 2) placeOn lawful
+
 pub old-walk-zero : (s : State) (p : ℕ) → step rules s (Walk p 0) .reply ≡ Walked Spent → step rules s (Walk p 0) .after ≡ s
-unfolding step lookAt
-old-walk-zero s p = decided (λ (o : Outcome). o .reply ≡ Walked Spent → o .after ≡ s) (rows rules s (Walk p 0)) (act rules s (Walk p 0)) s refl
-    (λ f _. let h = fine-undamaged rules (λ z. 2) placeOn lawful s (f .0) .head in
-    ap (λ (w : List ℕ). state w (s .entries)) (publisher-back (s .words) p (omega (arith, leb-false (publishers (s .words)) p (f .1 .0), h .publishers-high))))
-    (λ _. refl)
+old-walk-zero = walk-zero-of rules LAST (λ z. 2) placeOn lawful
+
+-- The facts of every accepted WALK, for every state: waiting, spent, quiet and returned are said of a look that was made.
+pub old-walk-facts : (s : State) (p b : ℕ) → accepted (step rules s (Walk p b) .reply) ≡ true → Looked (indicator (s .words) (watched (publisher s p))) (publisher s p) b (looksOf s (publisher s p) b)
+unfolding step
+old-walk-facts s p b = decided (λ (o : Outcome). accepted (o .reply) ≡ true → Looked (indicator (s .words) (watched (publisher s p))) (publisher s p) b (looksOf s (publisher s p) b))
+    (rows rules s (Walk p b)) (act rules s (Walk p b)) s refl
+    (λ f _. looked (indicator (s .words) (watched (publisher s p))) (publisher s p) b (look-turn (publisher s p .place) (not-false _ (f .1 .1 .0))))
+    (λ ok. clash (sym ok))

@@ -1,28 +1,28 @@
 -- Two-Phase as published, with several publishers, breaks demand 3: document 01's trap as a run. Assumes nothing.
-use Prim.Native.Nat.{ℕ, _+_}
+-- `Published` is the old store without 31 and with line 21's break; lines 20, 23 and 28 make no difference in this run.
+use Prim.Native.Nat.{ℕ}
 use mathlib.Core.Path.{_≡_, refl, ap, _∙_}
 use mathlib.Core.Bool.{Bool, true, false, not, _&&_}
 use mathlib.Core.List.{List, [], _∷_, _++_}
-use lib.IntN.{ℤ, pos}
+use lib.IntN.{pos}
 use lib.Dec.{ltb, eqb}
 use Rattle.calls.specs.declared.Call.{Call}
 use Rattle.calls.specs.declared.Call.the-variants.{Enter, Look, Leave, Claim, Write, Swap, Sync, Raise, Walk, Release}
-use Rattle.calls.specs.declared.Reply.{Reply}
 use Rattle.calls.specs.declared.Reply.the-variants.{Synced, Raised, Walked}
 use Rattle.calls.specs.declared.WalkReply.the-variants.{Spent, Returned}
 use Rattle.calls.specs.Base.{pick}
 use Rattle.calls.specs.Rows.{anyBelow, countBelow}
 use Rattle.calls.specs.Events.{Event}
 use Rattle.calls.specs.Events.Event.{_⇒_}
+use Rattle.calls.specs.Model.{firstTable}
 use Rattle.calls.specs.Told.{toldBy}
 use Rattle.layout.specs.Layout.{publishers, version, indicator, readerAt, publisherAt, withReader, withPublisher, withReaders, fresh}
 use Rattle.statement.specs.Machine.{State, Outcome, outcome, Given, given, Machine, Fresh, events, afterAll}
 use Rattle.statement.specs.Demand3.{Demand3}
-use Rattle.statement.specs.Examples.{lentFor, enters, tableOf, published}
+use Rattle.statement.specs.Examples.{lentFor, tableOf, publication}
 use Rattle.statement.specs.Refute.{someLeave, not-left, events-append}
 use Rattle.publication_law.specs.Steps.{publisher, putPublisher, atPlace}
 use Rattle.publication_law.specs.Rules.{Rules, damaged, step, making}
-use Rattle.publication_law.specs.Lawful.{firstTable}
 use Rattle.two_phase_law.specs.Steps.{onward, watched, lookAt, rules}
 
 -- Several publishers: no 31.
@@ -75,7 +75,7 @@ start = making several small (lentFor small) .after
 -- V is publisher 0, U publisher 1. The reader loads 0; V publishes at version 0 and at version 1, where it sees indicator 0 empty;
 -- the reader arrives there and picks; U swaps ..
 before : List Call
-before = Enter 0 ∷ (published 0 1 (pos 100) ++ (Sync 0 ∷ Walk 0 1 ∷ Raise 0 ∷ Walk 0 1 ∷ Release 0 ∷ (published 0 0 (pos 200) ++ (Sync 0 ∷ Walk 0 1 ∷ (tableOf 1 2 (pos 300)
+before = Enter 0 ∷ (publication 0 1 (pos 100) ++ (Sync 0 ∷ Walk 0 1 ∷ Raise 0 ∷ Walk 0 1 ∷ Release 0 ∷ (publication 0 0 (pos 200) ++ (Sync 0 ∷ Walk 0 1 ∷ (tableOf 1 2 (pos 300)
     ++ (Enter 0 ∷ Enter 0 ∷ Swap 1 ∷ []))))))
 
 -- .. and synchronises with mark 2; V raises; U takes line 21's break, finds indicator 1 empty and returns.

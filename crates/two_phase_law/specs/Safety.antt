@@ -1,29 +1,28 @@
 -- Demand 3 and its companions hold of the old store.
 -- Why: from place 36 on, a reader that a synchronise still waits for added to the other indicator, since the first was seen empty after the SYNC;
 -- so the second empty one shows that nobody is waited for. Assumes nothing.
-use Prim.Native.Nat.{ℕ, zero, suc, _+_, _-_, _*_, _%_, _<_, _≤_}
+use Prim.Native.Nat.{ℕ, zero, suc, _+_, _-_, _<_, _≤_}
 use native.Mathlib.Omega.{arith}
-use mathlib.Core.Path.{_≡_, refl, sym, ap, _∙_, subst}
+use mathlib.Core.Path.{_≡_, refl, sym, _∙_}
 use mathlib.Core.Logic.{_≢_, _⊎_, inl, inr}
-use mathlib.Core.Bool.{Bool, true, false, not, _&&_, _||_}
-use mathlib.Core.List.{List, [], _∷_}
+use mathlib.Core.Bool.{Bool, true, false, _||_}
+use mathlib.Core.List.{List}
 use lib.IntN.{ℤ}
-use lib.ListN.{getD, length}
-use lib.Dec.{leb, ltb, eqb}
-use borrow.Author.Tests.{eqb-true, eqb-false, eq-eqb, ne-eqb, leb-true, leb-false, le-leb, lt-leb, ltb-true, ltb-false, le-ltb, not-false}
-use Rattle.calls.specs.declared.Call.the-variants.{Enter, Leave, Sync, Raise, Walk}
+use lib.ListN.{length}
+use lib.Dec.{ltb, eqb}
+use borrow.Author.Tests.{eqb-true, eqb-false, eq-eqb, ne-eqb, leb-false, le-leb, lt-leb, ltb-false, le-ltb, not-false}
+use Rattle.calls.specs.declared.Call.the-variants.{Enter, Leave, Sync, Walk}
 use Rattle.calls.specs.declared.Reply.the-variants.{At, Left, Synced, Walked}
 use Rattle.calls.specs.declared.WalkReply.{WalkReply}
 use Rattle.calls.specs.declared.WalkReply.the-variants.{Waiting, Spent, Quiet, Returned}
 use Rattle.calls.specs.Base.{pick, upd}
 use Rattle.calls.specs.Numbers.{READERS-MAX, PUBLISHERS-MAX, KIND-OLD}
-use Rattle.calls.specs.Rows.{anyTrue, countBelow}
-use Rattle.calls.specs.RowLaws.{clash, not-both, by-test, or-false, neither, all-false, none-true, count-none, pick-split, same, at-or, AllClear, AllFalse}
-use Rattle.calls.specs.Model.{shelve}
+use Rattle.calls.specs.Rows.{anyTrue}
+use Rattle.calls.specs.RowLaws.{clash, by-test, or-false, neither, all-false, none-true, count-none, pick-split, same, at-or, AllClear, AllFalse}
+use Rattle.calls.specs.Model.{shelve, firstTable}
 use Rattle.calls.specs.Told.{tell}
 use Rattle.layout.specs.declared.Reader.{Reader}
 use Rattle.layout.specs.declared.Publisher.{Publisher}
-use Rattle.layout.specs.declared.Progress.{Progress}
 use Rattle.layout.specs.Layout.{HEAD, INDICATORS, READERS-AT, VERSION-AT, INDICATORS-AT, readers, publishers, slots, current, version, indicator, readerAt, publisherAt, withReader, withIndicator, noReader}
 use Rattle.layout.specs.Laws.{length-reader, indicator-reader, indicator-put, fresh-indicator, fresh-reader, fresh-publisher}
 use Rattle.statement.specs.Machine.{State, state, Outcome, Given}
@@ -31,7 +30,7 @@ use Rattle.statement.specs.Kept.{Pend, Ghost, ghost₀, Back}
 use Rattle.statement.specs.Kept as kept
 use Rattle.publication_law.specs.Steps.{reader, publisher, atPlace, enterTests, leaveTests, syncTests, sync, raise, walked, walk, newWalk, placeAfter, made}
 use Rattle.publication_law.specs.Damage.{publisherRows}
-use Rattle.publication_law.specs.DamageLaws.{Fine, PublisherFine, publisher-to}
+use Rattle.publication_law.specs.DamageLaws.{Fine, PublisherFine, publisher-to, reader-below, publisher-below}
 use Rattle.publication_law.specs.Core.{Core, enter-below, enter-open, enter-pick, leave-core}
 use Rattle.publication_law.specs.Core.Hold.{by-swap}
 use Rattle.publication_law.specs.Grace.{enter-grace, leave-grace}
@@ -39,15 +38,17 @@ use Rattle.publication_law.specs.Tallied.{place-tallied}
 use Rattle.publication_law.specs.Entries.{slotEntry}
 use Rattle.publication_law.specs.Moves.{MovesPublisher, MovesReader, moves-publisher, moves-head, moves-reader, moves-indicator}
 use Rattle.publication_law.specs.Invariant.{formers, CoreOf, reader-moved}
-use Rattle.publication_law.specs.Keeps.{KindLaw, VersionsLaw, up-to-law, publisher-fine, sync-keeps, raise-keeps, walk-keeps, syncing-in-order}
-use Rattle.publication_law.specs.Lawful.{Good, Lawful, firstTable, traitsOf}
-use Rattle.two_phase_law.specs.Steps.{LAST, versions, kind, readerRows, parity, addedTo, onward, entered, enterWords, leaving, leaveWords, watched, looksOf, lookAt, rules}
+use Rattle.publication_law.specs.Keeps.{KindLaw, up-to-law, publisher-fine, sync-keeps, raise-keeps, walk-keeps, syncing-in-order}
+use Rattle.publication_law.specs.Rules.{traitsOf}
+use Rattle.publication_law.specs.Lawful.{Good, Lawful}
+use Rattle.two_phase_law.specs.Steps.{LAST, versions, kind, readerRows, parity, addedTo, onward, placeOn, entered, enterWords, leaving, leaveWords, watched, looksOf, lookAt, rules}
 use Rattle.two_phase_law.specs.Counts.{Counted, counted-to, none-added, stays-counted, arrives-counted, leaves-counted, passedAt, Looked, look-turn, looked}
 
 law : KindLaw kind
 law = record {
   shared-rows = λ rs ss y e. or-false (ltb 38 (y .place)) (anyTrue (publisherRows versions ss y)) e .1;
   versions-law = up-to-law LAST;
+  places = λ rs ss y e. ltb-false 38 (y .place) (or-false (ltb 38 (y .place)) (anyTrue (publisherRows versions ss y)) e .0);
 }
 
 -- The kind's own numbers: from 36 on a synchronise waits only for readers that added to the other indicator.
@@ -87,10 +88,6 @@ module _ (ver cur : ℕ) where
   onward-fits slots (suc zero) f s u k c = (refl, (refl, (refl, (refl, tt))))
   onward-fits slots (suc (suc pl)) f s u k c = rw (ne-eqb (suc (suc pl)) 0 (λ z. omega arith), ne-eqb (suc (suc pl)) 1 (λ z. omega arith)) (refl, (refl, (refl, (lt-leb slots cur c, tt))))
 
--- The place that follows: 1, 4, 5.
-abbrev pub placeOn : ℕ → ℕ
-placeOn pl = pick (eqb pl 0) 1 (pick (eqb pl 1) 4 5)
-
 onward-place : (ver cur : ℕ) (x : Reader) → onward ver cur x .place ≡ placeOn (x .place)
 unfolding onward
 onward-place ver cur x = go (eqb (x .place) 0) (eqb (x .place) 1)
@@ -122,12 +119,12 @@ module _ (g : Ghost) (n m cur ver : ℕ) (R : ℕ → Reader) (P : ℕ → Publi
 -- The words after an ENTER and a LEAVE.
 enter-moves : (s : State) → Fine kind s → (r : ℕ) → r < readers (s .words) → MovesReader (s .words) (enterWords s r) r (entered s r)
 enter-moves s f r l =
-    let m = moves-reader (s .words) r (entered s r) (f .head .long) (omega (arith, f .head .readers-high)) in
+    let m = moves-reader (s .words) r (entered s r) (f .head .long) (reader-below kind s f r l) in
     pick-split (λ (w : List ℕ). MovesReader (s .words) w r (entered s r)) (eqb (reader s r .place) 1)
     (λ _. moves-indicator _ _ r _ m (INDICATORS-AT + parity (reader s r .first)) _ (omega arith) (omega arith)) (λ _. m)
 
 leave-moves : (s : State) → Fine kind s → (r : ℕ) → r < readers (s .words) → MovesReader (s .words) (leaveWords s r) r (leaving (reader s r))
-leave-moves s f r l = moves-indicator _ _ r _ (moves-reader (s .words) r (leaving (reader s r)) (f .head .long) (omega (arith, f .head .readers-high)))
+leave-moves s f r l = moves-indicator _ _ r _ (moves-reader (s .words) r (leaving (reader s r)) (f .head .long) (reader-below kind s f r l))
     (INDICATORS-AT + parity (reader s r .first)) _ (omega arith) (omega arith)
 
 -- The indicators after a reader is written, with one of them anew.
@@ -160,7 +157,7 @@ module _ (w : Pend) (n : ℕ) (ind : ℕ → ℕ) (R : ℕ → Reader) (P : ℕ 
 -- Each of the kind's own steps keeps the invariant.
 module _ (z : Given) (g : Ghost) (s : State) (i : Good kind OwnOf z g s) where
   p16 : (p : ℕ) → p < publishers (s .words) → p < PUBLISHERS-MAX
-  p16 p l = omega (arith, i .shared .fine .head .publishers-high)
+  p16 = publisher-below kind s (i .shared .fine)
 
   head-long : HEAD ≤ length (s .words)
   head-long = omega (arith, i .shared .fine .head .long)
@@ -190,7 +187,7 @@ module _ (z : Given) (g : Ghost) (s : State) (i : Good kind OwnOf z g s) where
       rw (ne-eqb (reader s r .place) 0 (λ q. omega arith), ne-eqb (reader s r .place) 1 (λ q. omega arith)) (same-counted r x rn (λ k. sym (in-added (reader s r) k (omega arith))))
   arrived r (suc (suc (suc (suc (suc pl))))) rn e l n2 n3 = absurd (omega arith)
 
-  enter-kept : (r : ℕ) → AllClear (enterTests s r) → Good kind OwnOf z (kept.onward g (Enter r) (At (entered s r .place))) (state (enterWords s r) (s .entries))
+  enter-kept : (r : ℕ) → AllClear (enterTests s r) → Good kind OwnOf z (kept.advance g (Enter r) (At (entered s r .place))) (state (enterWords s r) (s .entries))
   enter-kept r f =
       let lt : r < readers (s .words) = leb-false _ _ (f .0) in
       let l : reader s r .place ≤ 4 = let q = leb-false 5 (reader s r .place) (f .1 .0) in omega arith in
@@ -209,7 +206,7 @@ module _ (z : Given) (g : Ghost) (s : State) (i : Good kind OwnOf z g s) where
             (arrived r _ lt refl l n2 n3));
       }
 
-  leave-kept : (r : ℕ) → AllClear (leaveTests s r) → Good kind OwnOf z (kept.onward g (Leave r) Left) (state (leaveWords s r) (s .entries))
+  leave-kept : (r : ℕ) → AllClear (leaveTests s r) → Good kind OwnOf z (kept.advance g (Leave r) Left) (state (leaveWords s r) (s .entries))
   leave-kept r f =
       let lt : r < readers (s .words) = leb-false _ _ (f .0) in
       let inside : 4 ≤ reader s r .place = ltb-false _ _ (f .1 .0) in
@@ -233,7 +230,7 @@ module _ (z : Given) (g : Ghost) (s : State) (i : Good kind OwnOf z g s) where
   moved-own g′ w′ es′ p y cur ver rel m others a c = rw (m .head READERS-AT (omega arith), m .indicators-stay, m .readers-stay, m .publishers-are)
       (publisher-own _ _ _ _ _ (i .own) p y _ others a c)
 
-  sync-kept : (p : ℕ) → AllClear (syncTests versions s p) → Good kind OwnOf z (kept.onward g (Sync p) (Synced (version (s .words) + 1))) (sync versions s p .after)
+  sync-kept : (p : ℕ) → AllClear (syncTests versions s p) → Good kind OwnOf z (kept.advance g (Sync p) (Synced (version (s .words) + 1))) (sync versions s p .after)
   sync-kept p f =
       let lt : p < publishers (s .words) = leb-false _ _ (f .0) in
       let at34 = eqb-true (publisher s p .place) 34 (not-false _ (f .1 .0)) in
@@ -246,7 +243,7 @@ module _ (z : Given) (g : Ghost) (s : State) (i : Good kind OwnOf z g s) where
               mark-fits = λ l. law .versions-law .mark-fits (version (s .words)) (h .version-fits) (f .1 .1 .0);
               waits-low = λ l. omega arith;
             }));
-        own = moved-own (kept.onward g (Sync p) (Synced (version (s .words) + 1))) _ (s .entries) p y _ _ _ (moves-publisher (s .words) p y (h .long) (p16 p lt)) (λ q r e. rw e refl) (λ r e l. absurd (omega arith)) (λ l. refl);
+        own = moved-own (kept.advance g (Sync p) (Synced (version (s .words) + 1))) _ (s .entries) p y _ _ _ (moves-publisher (s .words) p y (h .long) (p16 p lt)) (λ q r e. rw e refl) (λ r e l. absurd (omega arith)) (λ l. refl);
       }
 
   raise-kept : (p : ℕ) → p < publishers (s .words) → eqb (publisher s p .place) 36 ≡ true → Good kind OwnOf z g (raise versions s p .after)
@@ -267,7 +264,7 @@ module _ (z : Given) (g : Ghost) (s : State) (i : Good kind OwnOf z g s) where
 
   -- A look of publisher p.
   module _ (p b : ℕ) (lt : p < publishers (s .words)) (turn : (publisher s p .place ≡ 35) ⊎ (publisher s p .place ≡ 37)) where
-    came : Looked (indicator (s .words) (watched (publisher s p))) (publisher s p) (looksOf s (publisher s p) b)
+    came : Looked (indicator (s .words) (watched (publisher s p))) (publisher s p) b (looksOf s (publisher s p) b)
     came = looked (indicator (s .words) (watched (publisher s p))) (publisher s p) b turn
 
     low : 35 ≤ publisher s p .place
@@ -313,7 +310,7 @@ module _ (z : Given) (g : Ghost) (s : State) (i : Good kind OwnOf z g s) where
             let y = not-added (1 - parity (publisher s p .walk .mark)) (omega arith) (rw (ne-eqb (publisher s p .place) 35 (λ e. omega arith)) at (came .returned-zero at37 (λ e. omega arith))) r q in
             omega arith
 
-    walk-kept : Good kind OwnOf z (kept.onward g (Walk p b) (Walked (looksOf s (publisher s p) b .reply))) (walk s p (looksOf s (publisher s p) b) .after)
+    walk-kept : Good kind OwnOf z (kept.advance g (Walk p b) (Walked (looksOf s (publisher s p) b .reply))) (walk s p (looksOf s (publisher s p) b) .after)
     walk-kept =
         let pf = publisher-fine kind law z g s (i .shared) p lt in
         let k = looksOf s (publisher s p) b in
@@ -321,11 +318,11 @@ module _ (z : Given) (g : Ghost) (s : State) (i : Good kind OwnOf z g s) where
           shared = walk-keeps kind law z g s (i .shared) p b lt low high k none-pending (came .waits-are)
               (publisher-fits (readers (s .words)) (slots (s .words)) y (came .high)
               (record { held-below = λ _. pf .held-below (omega (arith, low)); mark-fits = λ _. rw (came .mark-same) (pf .mark-fits low); waits-low = λ _. came .enough (pf .waits-low low) }));
-          own = moved-own (kept.onward g (Walk p b) (Walked (k .reply))) _ (s .entries) p y _ _ _ (moves-publisher (s .words) p y (i .shared .fine .head .long) (p16 p lt)) (λ q r e. refl)
+          own = moved-own (kept.advance g (Walk p b) (Walked (k .reply))) _ (s .entries) p y _ _ _ (moves-publisher (s .words) p y (i .shared .fine .head .long) (p16 p lt)) (λ q r e. refl)
               (λ r q l. rw (came .mark-same) (after-behind r q l)) (λ _. omega (arith, came .counted, i .own .looks-counted p low));
         }
 
-    return-shown : (l w : ℕ) → looksOf s (publisher s p) b .reply ≡ Returned l w → Back (traitsOf rules (λ z. 2) placeOn) z g p l w
+    return-shown : (l w : ℕ) → looksOf s (publisher s p) b .reply ≡ Returned l w → Back (traitsOf rules LAST (λ z. 2) placeOn) z g p l w
     return-shown l w q =
         let n = came .returns l w q in
         let at37 : publisher s p .place ≡ 37 = second turn (n .0) in
@@ -361,10 +358,27 @@ start-own z s = record {
     none : (k r : ℕ) → addedTo k (readerAt w r) ≡ false
     none k r = rw (fresh-reader KIND-OLD (z .readers) (z .publishers) (z .slots) (z .version) noReader r) (pick-split (λ (x : Reader). addedTo k x ≡ false) (ltb r READERS-MAX) (λ _. refl) (λ _. refl))
 
+-- From 35 to 37 a RAISE (36) or a WALK (35, 37) is in turn.
+goes-on : (rs ss : ℕ) (y : Publisher) → kind .publisherDamaged rs ss y ≡ false → 35 ≤ y .place → y .place ≤ 37 → (eqb (y .place) 36 ≡ true) ⊎ ((eqb (y .place) 35 || eqb (y .place) 37) ≡ true)
+goes-on rs ss y e low high = go (eqb (y .place) 36) refl (eqb (y .place) 35) refl
+  where
+    go : (a : Bool) → eqb (y .place) 36 ≡ a → (b : Bool) → eqb (y .place) 35 ≡ b → (a ≡ true) ⊎ ((b || eqb (y .place) 37) ≡ true)
+    go true c b d = inl refl
+    go false c true d = inr refl
+    go false c false d = let n = eqb-false (y .place) 36 c in let m = eqb-false (y .place) 35 d in inr (eq-eqb (y .place) 37 (omega arith))
+
+no-looks : (s : State) (p : ℕ) → looksOf s (publisher s p) 0 ≡ record { walk = publisher s p .walk; reply = Spent }
+unfolding lookAt
+no-looks s p = refl
+
 -- All that only the old store can show: a walk passes two looks, ENTER goes 1, 4, 5.
-pub lawful : Lawful rules (λ z. 2) placeOn
+pub lawful : Lawful rules LAST (λ z. 2) placeOn
 lawful = record {
   kind-law = law;
+  last-fits = λ v l. le-ltb LAST v l;
+  below-last = λ v l. ne-eqb v LAST (λ e. omega arith);
+  goes-on = goes-on;
+  no-looks = no-looks;
   Own = OwnOf;
   start-own = λ z s f. start-own z s;
   fresh-out = (refl, refl);

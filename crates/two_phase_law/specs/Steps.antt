@@ -1,7 +1,7 @@
 -- The old store (Two-Phase with one publisher): what it fixes of the damage test and of the ten calls. `rules` gathers it; publication_law has the rest.
 -- A reader's second and published version and a walk's next have no use here: they are 0 from the making on and not tested.
 use Prim.Native.Nat.{ℕ, _+_, _-_, _%_}
-use mathlib.Core.Bool.{Bool, true, false, not, _&&_, _||_}
+use mathlib.Core.Bool.{Bool, true, not, _&&_, _||_}
 use mathlib.Core.List.{List, [], _∷_}
 use lib.Dec.{leb, ltb, eqb}
 use Rattle.calls.specs.declared.WalkReply.{WalkReply}
@@ -56,6 +56,10 @@ onward version current x =
     pick (eqb (x .place) 0) (record { place = 1; first = version; second = x .second; published = x .published; picked = x .picked })
     (pick (eqb (x .place) 1) (record { place = 4; first = x .first; second = x .second; published = x .published; picked = x .picked })
     (record { place = 5; first = x .first; second = x .second; published = x .published; picked = current }))
+
+-- The place that follows: 1, 4, 5.
+abbrev pub placeOn : ℕ → ℕ
+placeOn place = pick (eqb place 0) 1 (pick (eqb place 1) 4 5)
 
 abbrev pub entered : State → ℕ → Reader
 entered s r = onward (version (s .words)) (current (s .words)) (reader s r)
