@@ -20,13 +20,13 @@ use Rattle.calls.specs.AnswerLaws.{NarrowPitch, Proper}
 use Rattle.calls.specs.Events.{accepted}
 use Rattle.calls.specs.Model.{firstTable}
 use Rattle.layout.specs.Layout.{readers, publishers, slots}
-use Rattle.statement.specs.Machine.{State, Outcome, Fresh, afterAll}
+use Rattle.statement.specs.Machine.{State, Outcome, Given, Fresh, afterAll}
 use Rattle.statement.specs.Demand3.{Demand3}
 use Rattle.statement.specs.Companions.{Traits, MakingAccepts, RefusedLeaves, Frame, Companions}
 use Rattle.publication_law.specs.Steps.{publisher, inUse}
-use Rattle.publication_law.specs.Rules.{damaged, act, rows, step}
+use Rattle.publication_law.specs.Rules.{damaged, act, rows, step, making}
 use Rattle.publication_law.specs.Decide.{decided, decide-why}
-use Rattle.publication_law.specs.Lawful.{fine-undamaged, demand3-of, companions-of, never-damaged-of, making-accepts-of, refused-leaves-of, frame-of, proper-of, walk-zero-of}
+use Rattle.publication_law.specs.Lawful.{fine-undamaged, demand3-of, companions-of, never-damaged-of, making-accepts-of, refused-leaves-of, frame-of, proper-of, proper-making-of, walk-zero-of}
 use Rattle.grace_version_law.specs.Steps.{LAST, looksOf, rules, GraceVersion}
 use Rattle.grace_version_law.specs.Walks.{Looked, looked}
 use Rattle.grace_version_law.specs.Safety.{next-below, lawful}
@@ -56,6 +56,9 @@ new-frame = frame-of rules LAST (λ z. z .readers) suc lawful
 -- Every reply of a store whose entries are pitches of 64 bits has an answer that no other reply has.
 pub new-proper : (s : State) (c : Call) → ((j : ℕ) → NarrowPitch (getD (s .entries) j (pos 0))) → Proper (step rules s c .reply)
 new-proper = proper-of rules LAST (λ z. z .readers) suc lawful
+
+pub new-proper-making : (g : Given) (s : State) → Proper (making rules g s .reply)
+new-proper-making = proper-making-of rules LAST (λ z. z .readers) suc lawful
 
 pub new-walk-zero : (s : State) (p : ℕ) → step rules s (Walk p 0) .reply ≡ Walked Spent → step rules s (Walk p 0) .after ≡ s
 new-walk-zero = walk-zero-of rules LAST (λ z. z .readers) suc lawful

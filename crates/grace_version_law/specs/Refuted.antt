@@ -17,10 +17,11 @@ use Rattle.layout.specs.Layout.{readers, readerAt, publisherAt, withReader, wit
 use Rattle.statement.specs.Machine.{State, outcome, Given, given, Machine, events}
 use Rattle.statement.specs.Demand3.{Demand3}
 use Rattle.statement.specs.Examples.{lentFor, enters, publication}
-use Rattle.statement.specs.Refute.{someLeave, not-left, ReturnsFrom}
+use Rattle.statement.specs.Refute.{someLeave, not-left, ReturnsFrom, returns-from-4}
 use Rattle.publication_law.specs.Steps.{publisher, made}
 use Rattle.publication_law.specs.Rules.{Rules, damaged, step, making, machine}
 use Rattle.grace_version_law.specs.Steps.{onward, progress, looksFrom, rules, GraceVersion}
+use Rattle.grace_version_law.specs.Promises.{new-demand3}
 
 -- One reader, one publisher, two slots, version 0.
 small : Given
@@ -99,3 +100,7 @@ early-sections-refuted d =
     let mid : List Event = (Raise 0 ⇒ Raised) ∷ (Enter 0 ⇒ At 3) ∷ (Enter 0 ⇒ At 4) ∷ [] in
     not-left 0 mid refl
     (d start (record { arguments = small; lent = lentFor small; made = refl }) (cs ++ (Sync 0 ∷ Raise 0 ∷ Enter 0 ∷ Enter 0 ∷ Walk 0 1 ∷ [])) (events GraceVersion start cs) mid [] 0 1 1 0 0 (Synced 1) refl refl refl)
+
+-- From the ENTER that replies 4 it holds: that is demand 3's own word.
+pub sections-from-4 : ReturnsFrom 4 GraceVersion
+sections-from-4 = returns-from-4 GraceVersion (λ z. firstTable) new-demand3

@@ -1,4 +1,5 @@
 -- The new store (GraceVersion): what it fixes of the damage test and of the ten calls. `rules` gathers it; publication_law has the rest.
+-- The two indicators have no use here: they are 0 from the making on and not tested.
 use Prim.Native.Nat.{ℕ, zero, suc, _+_}
 use mathlib.Core.Bool.{Bool, false, not, _&&_, _||_}
 use mathlib.Core.List.{List, [], _∷_}

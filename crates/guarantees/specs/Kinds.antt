@@ -1,18 +1,20 @@
 -- Demands 1 and 3 on the steps, and the companions, for every kind of store. Assumes nothing.
 use Prim.Native.Nat.{ℕ}
 use mathlib.Core.Path.{_≡_}
-use mathlib.Core.Bool.{false}
+use mathlib.Core.Bool.{true, false}
 use mathlib.Core.List.{List}
-use lib.IntN.{pos}
-use lib.ListN.{getD}
+use lib.IntN.{ℤ, pos}
+use lib.ListN.{getD, replicate}
 use Rattle.calls.specs.declared.Call.{Call}
 use Rattle.calls.specs.declared.Call.the-variants.{Claim}
 use Rattle.calls.specs.declared.Reply.the-variants.{Refused}
 use Rattle.calls.specs.AnswerLaws.{NarrowPitch, Proper}
 use Rattle.calls.specs.Model.{firstTable}
-use Rattle.statement.specs.Machine.{State, Machine, Fresh, afterAll}
+use Rattle.statement.specs.Machine.{State, state, Given, Machine, Fresh, afterAll}
 use Rattle.statement.specs.Demand3.{Demand3}
 use Rattle.statement.specs.Companions.{Traits, MakingAccepts, RefusedLeaves, Frame, Companions}
+use Rattle.layout.specs.Layout.{WORDS}
+use Rattle.publication_law.specs.DamageLaws.{zero-damaged}
 use Rattle.publication_law.specs.Rules.{Rules, damaged, step, machine}
 use Rattle.grace_version_law.specs.Steps as new-store
 use Rattle.grace_version_law.specs.Promises as new-promises
@@ -68,6 +70,14 @@ frame old = old-promises.old-frame
 pub proper : (k : Name) (s : State) (c : Call) → ((j : ℕ) → NarrowPitch (getD (s .entries) j (pos 0))) → Proper (storeOf k .step s c .reply)
 proper new = new-promises.new-proper
 proper old = old-promises.old-proper
+
+pub proper-making : (k : Name) (g : Given) (s : State) → Proper (storeOf k .making g s .reply)
+proper-making new = new-promises.new-proper-making
+proper-making old = old-promises.old-proper-making
+
+-- A store with every number 0, as a refused making by value hands back, is damaged.
+pub zero-store-damaged : (k : Name) (es : List ℤ) → damaged (rulesOf k) (state (replicate WORDS 0) es) ≡ true
+zero-store-damaged k es = zero-damaged (rulesOf k) es
 
 -- The new store may not refuse another publisher as busy: a claim on an undamaged one is refused only for a wrong name, a wrong turn or a slot in use.
 pub claim-refusals : (s : State) (p x n : ℕ) → damaged new-store.rules s ≡ false → step new-store.rules s (Claim p x) .reply ≡ Refused n → new-promises.ClaimRefusal n

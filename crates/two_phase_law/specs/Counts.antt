@@ -19,18 +19,9 @@ use Rattle.publication_law.specs.Steps.{placeAfter}
 use Rattle.publication_law.specs.Keeps.{waitsAfter}
 use Rattle.two_phase_law.specs.Steps.{parity, addedTo, miscounted, watched, lookAt}
 
-pub two : (Q : ℕ → Type 0) → Q 0 → Q 1 → (i : ℕ) → i < 2 → Q i
-two Q a b zero l = a
-two Q a b (suc zero) l = b
-two Q a b (suc (suc i)) l = absurd (omega arith)
-
 -- Each indicator is the number of readers that added to it.
 abbrev pub Counted : ℕ → (ℕ → ℕ) → (ℕ → Reader) → Type 0
 Counted n ind R = (i : ℕ) → i < 2 → ind i ≡ countBelow (λ r. addedTo i (R r)) n
-
-pub counted-of : (s : State) → miscounted s 0 || miscounted s 1 ≡ false → Counted (readers (s .words)) (indicator (s .words)) (readerAt (s .words))
-counted-of s e = let q = or-false (miscounted s 0) (miscounted s 1) e in
-    two _ (eqb-true _ _ (not-false _ (q .0))) (eqb-true _ _ (not-false _ (q .1)))
 
 pub counted-to : (s : State) → Counted (readers (s .words)) (indicator (s .words)) (readerAt (s .words)) → miscounted s 0 || miscounted s 1 ≡ false
 counted-to s c = neither (miscounted s 0) (miscounted s 1) (negated _ (eq-eqb _ _ (c 0 (omega arith)))) (negated _ (eq-eqb _ _ (c 1 (omega arith))))

@@ -15,13 +15,13 @@ use Rattle.calls.specs.AnswerLaws.{NarrowPitch, Proper}
 use Rattle.calls.specs.Events.{accepted}
 use Rattle.calls.specs.Model.{firstTable}
 use Rattle.layout.specs.Layout.{indicator}
-use Rattle.statement.specs.Machine.{State, Outcome, Fresh, afterAll}
+use Rattle.statement.specs.Machine.{State, Outcome, Given, Fresh, afterAll}
 use Rattle.statement.specs.Demand3.{Demand3}
 use Rattle.statement.specs.Companions.{Traits, MakingAccepts, RefusedLeaves, Frame, Companions}
 use Rattle.publication_law.specs.Steps.{publisher}
-use Rattle.publication_law.specs.Rules.{damaged, act, rows, step}
+use Rattle.publication_law.specs.Rules.{damaged, act, rows, step, making}
 use Rattle.publication_law.specs.Decide.{decided}
-use Rattle.publication_law.specs.Lawful.{demand3-of, companions-of, never-damaged-of, making-accepts-of, refused-leaves-of, frame-of, proper-of, walk-zero-of}
+use Rattle.publication_law.specs.Lawful.{demand3-of, companions-of, never-damaged-of, making-accepts-of, refused-leaves-of, frame-of, proper-of, proper-making-of, walk-zero-of}
 use Rattle.two_phase_law.specs.Steps.{LAST, placeOn, watched, looksOf, rules, TwoPhase}
 use Rattle.two_phase_law.specs.Counts.{Looked, look-turn, looked}
 use Rattle.two_phase_law.specs.Safety.{lawful}
@@ -51,6 +51,9 @@ old-frame = frame-of rules LAST (λ z. 2) placeOn lawful
 -- Every reply of a store whose entries are pitches of 64 bits has an answer that no other reply has.
 pub old-proper : (s : State) (c : Call) → ((j : ℕ) → NarrowPitch (getD (s .entries) j (pos 0))) → Proper (step rules s c .reply)
 old-proper = proper-of rules LAST (λ z. 2) placeOn lawful
+
+pub old-proper-making : (g : Given) (s : State) → Proper (making rules g s .reply)
+old-proper-making = proper-making-of rules LAST (λ z. 2) placeOn lawful
 
 pub old-walk-zero : (s : State) (p : ℕ) → step rules s (Walk p 0) .reply ≡ Walked Spent → step rules s (Walk p 0) .after ≡ s
 old-walk-zero = walk-zero-of rules LAST (λ z. 2) placeOn lawful
