@@ -1,6 +1,6 @@
 -- The theorems about the new store. Assumes nothing.
-use Prim.Native.Nat.{ℕ, suc}
-use mathlib.Core.Path.{_≡_, refl, sym, subst}
+use Prim.Native.Nat.{ℕ, suc, _+_, _<_, _≤_}
+use mathlib.Core.Path.{_≡_, refl, sym, ap, _∙_, subst}
 use mathlib.Core.Logic.{_≢_}
 use mathlib.Core.Bool.{Bool, true, false, not}
 use mathlib.Core.List.{List, [], _∷_}
@@ -15,20 +15,24 @@ use Rattle.calls.specs.declared.WalkReply.the-variants.{Spent}
 use Rattle.calls.specs.Numbers.{NO-SUCH-PUBLISHER, NO-SUCH-SLOT, PUBLISHER-TURN, BUSY, SLOT-IN-USE}
 use Rattle.calls.specs.Rows.{firstOf}
 use Rattle.calls.specs.Rows.Test.{_gives_}
-use Rattle.calls.specs.RowLaws.{clash}
+use Rattle.calls.specs.RowLaws.{clash, same}
 use Rattle.calls.specs.AnswerLaws.{NarrowPitch, Proper}
 use Rattle.calls.specs.Events.{accepted}
 use Rattle.calls.specs.Model.{firstTable}
+use Rattle.layout.specs.declared.Publisher.{Publisher}
+use Rattle.layout.specs.declared.Progress.{Progress}
 use Rattle.layout.specs.Layout.{readers, publishers, slots}
+use Rattle.layout.specs.Laws.{publisher-put}
 use Rattle.statement.specs.Machine.{State, Outcome, Given, Fresh, afterAll}
 use Rattle.statement.specs.Demand3.{Demand3}
 use Rattle.statement.specs.Companions.{Traits, MakingAccepts, RefusedLeaves, Frame, Companions}
-use Rattle.publication_law.specs.Steps.{publisher, inUse}
+use Rattle.publication_law.specs.Steps.{reader, publisher, inUse, walked}
 use Rattle.publication_law.specs.Rules.{damaged, act, rows, step, making}
+use Rattle.publication_law.specs.DamageLaws.{publisher-below}
 use Rattle.publication_law.specs.Decide.{decided, decide-why}
 use Rattle.publication_law.specs.Lawful.{fine-undamaged, demand3-of, companions-of, never-damaged-of, making-accepts-of, refused-leaves-of, frame-of, proper-of, proper-making-of, walk-zero-of}
-use Rattle.grace_version_law.specs.Steps.{LAST, looksOf, rules, GraceVersion}
-use Rattle.grace_version_law.specs.Walks.{Looked, looked}
+use Rattle.grace_version_law.specs.Steps.{LAST, kind, lookedAt, looksOf, rules, GraceVersion}
+use Rattle.grace_version_law.specs.Walks.{Looked, looked, spent-if}
 use Rattle.grace_version_law.specs.Safety.{next-below, lawful}
 
 -- No version is above LAST; a return passes each reader once; ENTER goes 1, 2, 3, 4, 5; a claim needs nobody's leave.
@@ -53,7 +57,7 @@ new-refused-leaves = refused-leaves-of rules LAST (λ z. z .readers) suc lawful
 pub new-frame : Frame GraceVersion
 new-frame = frame-of rules LAST (λ z. z .readers) suc lawful
 
--- Every reply of a store whose entries are pitches of 64 bits has an answer that no other reply has.
+-- Every reply of a store whose entries are pitches of 64 bits has an answer that no other proper reply has.
 pub new-proper : (s : State) (c : Call) → ((j : ℕ) → NarrowPitch (getD (s .entries) j (pos 0))) → Proper (step rules s c .reply)
 new-proper = proper-of rules LAST (λ z. z .readers) suc lawful
 
@@ -63,14 +67,27 @@ new-proper-making = proper-making-of rules LAST (λ z. z .readers) suc lawful
 pub new-walk-zero : (s : State) (p : ℕ) → step rules s (Walk p 0) .reply ≡ Walked Spent → step rules s (Walk p 0) .after ≡ s
 new-walk-zero = walk-zero-of rules LAST (λ z. z .readers) suc lawful
 
--- The facts of every accepted WALK, for every state: waiting, spent and returned are said of looks that were made.
-pub new-walk-facts : (s : State) (p b : ℕ) → accepted (step rules s (Walk p b) .reply) ≡ true
-    → Looked (s .words) (readers (s .words)) (publisher s p .walk .mark) b (publisher s p .walk .next) (publisher s p .walk .looks) (publisher s p .walk .waits) (looksOf s (publisher s p .walk) b)
+-- The facts of every accepted WALK, for every state: reply and record are those of the looks made, waiting, spent and returned are said of them,
+-- and spent exactly if b looks all passed and readers are left.
+pub record WalkFacts (s : State) (p b : ℕ) (k : Progress) (o : Outcome) : Type 0 where
+  pub reply-is : o .reply ≡ Walked (k .reply)
+  pub record-is : publisher (o .after) p ≡ walked (publisher s p) k
+  pub looks-are : Looked (s .words) (readers (s .words)) (publisher s p .walk .mark) b (publisher s p .walk .next) (publisher s p .walk .looks) (publisher s p .walk .waits) k
+  pub spent-exactly : publisher s p .walk .next + b < readers (s .words)
+      → ((i : ℕ) → publisher s p .walk .next ≤ i → i < publisher s p .walk .next + b → publisher s p .walk .mark ≤ reader s (lookedAt (readers (s .words)) i) .published) → k .reply ≡ Spent
+
+pub new-walk-facts : (s : State) (p b : ℕ) → accepted (step rules s (Walk p b) .reply) ≡ true → WalkFacts s p b (looksOf s (publisher s p .walk) b) (step rules s (Walk p b))
 unfolding step
-new-walk-facts s p b = decided (λ (o : Outcome). accepted (o .reply) ≡ true → Looked (s .words) (readers (s .words)) (publisher s p .walk .mark) b (publisher s p .walk .next) (publisher s p .walk .looks) (publisher s p .walk .waits) (looksOf s (publisher s p .walk) b))
-    (rows rules s (Walk p b)) (act rules s (Walk p b)) s refl
-    (λ f _. looked (s .words) (readers (s .words)) (publisher s p .walk .mark) (publisher s p .walk .waits) b (publisher s p .walk .next) (publisher s p .walk .looks)
-    (next-below _ _ (publisher s p) (fine-undamaged rules LAST (λ z. z .readers) suc lawful s (f .0) .publishers-fine p (leb-false _ _ (f .1 .0))) (rw (eqb-true (publisher s p .place) 37 (not-false _ (f .1 .1 .0))) refl)))
+new-walk-facts s p b = decided (λ (o : Outcome). accepted (o .reply) ≡ true → WalkFacts s p b (looksOf s (publisher s p .walk) b) o) (rows rules s (Walk p b)) (act rules s (Walk p b)) s refl
+    (λ f _.
+    let fine = fine-undamaged rules LAST (λ z. z .readers) suc lawful s (f .0) in
+    let lt : p < publishers (s .words) = leb-false _ _ (f .1 .0) in
+    let low = next-below _ _ (publisher s p) (fine .publishers-fine p lt) (rw (eqb-true (publisher s p .place) 37 (not-false _ (f .1 .1 .0))) refl) in record {
+      reply-is = refl;
+      record-is = ap (λ (g : ℕ → Publisher). g p) (publisher-put (λ (y : Publisher). y) (s .words) p (walked (publisher s p) (looksOf s (publisher s p .walk) b)) (fine .head .long) (publisher-below kind s fine p lt)) ∙ rw (same p) refl;
+      looks-are = looked (s .words) (readers (s .words)) (publisher s p .walk .mark) (publisher s p .walk .waits) b (publisher s p .walk .next) (publisher s p .walk .looks) low;
+      spent-exactly = λ l all. spent-if (s .words) (readers (s .words)) (publisher s p .walk .mark) (publisher s p .walk .waits) b (publisher s p .walk .next) (publisher s p .walk .looks) l all;
+    })
     (λ ok. clash (sym ok))
 
 -- A claim on an unspoiled new store is refused only for a wrong name, a wrong turn or a slot in use.

@@ -56,7 +56,7 @@ pub record Shown (ver : ℕ) (x : Reader) : Type 0 where
   pub second-low : x .second ≤ ver
   pub shown : 2 ≤ x .place → x .published ≤ ver
 
--- A synchronise waits for a reader that published a version below its mark and that its walk has not lookedAt.
+-- A synchronise waits for a reader that published a version below its mark and that its walk has not passed.
 pub record Behind (n : ℕ) (x : Reader) (k : WalkNumbers) (r : ℕ) : Type 0 where
   pub below : x .published < k .mark
   pub unpassed : (i : ℕ) → i < k .next → lookedAt n i ≢ r
@@ -263,7 +263,7 @@ module _ (z : Given) (g : Ghost) (s : State) (i : Good kind OwnOf z g s) where
     came = looked (s .words) (readers (s .words)) (publisher s p .walk .mark) (publisher s p .walk .waits) b (publisher s p .walk .next) (publisher s p .walk .looks)
         (next-below _ _ (publisher s p) (i .shared .fine .publishers-fine p lt) (rw at37 refl))
 
-    -- A reader waited for has not been lookedAt.
+    -- A reader waited for has not been passed.
     still-behind : (r : ℕ) → g .pend p r ≡ true → Behind (readers (s .words)) (reader s r) (looksOf s (publisher s p .walk) b .walk) r
     still-behind r e = let a = i .own .behind p r e in record {
       below = rw (came .mark-same) (a .below);

@@ -66,7 +66,7 @@ pub frame : (k : Name) → Frame (storeOf k)
 frame new = new-promises.new-frame
 frame old = old-promises.old-frame
 
--- Every reply of a store whose entries are pitches of 64 bits has an answer that no other reply has.
+-- Every reply of a store whose entries are pitches of 64 bits has an answer that no other proper reply has.
 pub proper : (k : Name) (s : State) (c : Call) → ((j : ℕ) → NarrowPitch (getD (s .entries) j (pos 0))) → Proper (storeOf k .step s c .reply)
 proper new = new-promises.new-proper
 proper old = old-promises.old-proper

@@ -1,4 +1,4 @@
--- The laws of the layout: all that the steps and the proofs above know of it.
+-- The laws of the layout: all that is known above of where the records stand.
 -- A record is some words in a row: what is put there is read there and nowhere else. Assumes nothing.
 use Prim.Native.Nat.{ℕ, zero, suc, _+_, _*_, _<_, _≤_}
 use native.Mathlib.Omega.{arith}

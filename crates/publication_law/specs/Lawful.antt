@@ -417,7 +417,7 @@ module _ (R : Rules) (last : ℕ) (passes : Given → ℕ) (onward-place : ℕ �
   making-accepts-of g s long rl rh pl ph sl sh len low = rw (decide-accepts (makingTests (R .kind .versions) g s) (outcome Made (made (R .kind .number) (R .freshReader) g s)) s
       (negated _ (eq-eqb _ _ long), (not-outside 1 READERS-MAX _ rl rh, (not-outside 1 PUBLISHERS-MAX _ pl ph, (not-outside SLOTS-MIN SLOTS-MAX _ sl sh, (negated _ (eq-eqb _ _ len), (L .last-fits _ low, tt))))))) refl
 
-  -- A reply of a step or a making has an answer that no other reply has: a refusal's number is below 100, a pitch is an entry.
+  -- A reply of a step or a making has an answer that no other proper reply has: a refusal's number is below 100, a pitch is an entry.
   act-proper : (s : State) (c : Call) → ((j : ℕ) → NarrowPitch (getD (s .entries) j (pos 0))) → Proper (act R s c .reply)
   act-proper s (Enter r) n = tt
   act-proper s (Look r k) n = n _
@@ -445,7 +445,7 @@ module _ (R : Rules) (last : ℕ) (passes : Given → ℕ) (onward-place : ℕ �
   unfolding making
   proper-making-of g s = decided (λ (o : Outcome). Proper (o .reply)) (makingTests (R .kind .versions) g s) (outcome Made (made (R .kind .number) (R .freshReader) g s)) s refl (λ f. tt) (below-100 (makingTests (R .kind .versions) g s) refl)
 
-  -- A WALK with no looks that is accepted leaves the whole state as it was.
+  -- A WALK with no looks that replies spent leaves the whole state as it was.
   pub walk-zero-of : (s : State) (p : ℕ) → step R s (Walk p 0) .reply ≡ Walked Spent → step R s (Walk p 0) .after ≡ s
   unfolding step
   walk-zero-of s p = decided (λ (o : Outcome). o .reply ≡ Walked Spent → o .after ≡ s) (rows R s (Walk p 0)) (act R s (Walk p 0)) s refl

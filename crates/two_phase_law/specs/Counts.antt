@@ -6,7 +6,7 @@ use mathlib.Core.Logic.{_≢_, _⊎_, inl, inr}
 use mathlib.Core.Bool.{Bool, true, false, _||_}
 use lib.Dec.{leb, eqb}
 use borrow.Author.Tests.{eqb-true, eqb-false, eq-eqb, le-leb, lt-leb, not-false}
-use Rattle.calls.specs.declared.WalkReply.the-variants.{Waiting, Spent, Returned}
+use Rattle.calls.specs.declared.WalkReply.the-variants.{Quiet, Waiting, Spent, Returned}
 use Rattle.calls.specs.Base.{pick, upd}
 use Rattle.calls.specs.Rows.{countBelow}
 use Rattle.calls.specs.RowLaws.{and-false, negated, neither, or-false, pick-split, same, count-zero, count-upd}
@@ -68,7 +68,8 @@ pub record Looked (count : ℕ) (y : Publisher) (b : ℕ) (k : Progress) : Type 
   pub enough : y .walk .waits ≤ y .walk .looks → k .walk .waits ≤ k .walk .looks
   pub quiet-zero : y .place ≡ 35 → placeAfter (y .place) (k .reply) ≢ 35 → count ≡ 0
   pub returned-zero : y .place ≡ 37 → placeAfter (y .place) (k .reply) ≢ 37 → count ≡ 0
-  -- waiting names the indicator looked at, which is not zero; spent exactly if b = 0
+  -- quiet is said at 35 only; waiting names the indicator looked at, which is not zero; spent exactly if b = 0
+  pub quiets : k .reply ≡ Quiet → y .place ≡ 35
   pub waiting-is : (w : ℕ) → k .reply ≡ Waiting w → (w ≡ watched y) × (count ≢ 0)
   pub spent-only : k .reply ≡ Spent → b ≡ 0
   pub spent-if : b ≡ 0 → k .reply ≡ Spent
@@ -91,18 +92,18 @@ module _ (count mark next looks waits held b : ℕ) where
   looked-35 : Looked count (at 35) b (lookAt count (at 35) b)
   unfolding lookAt at
   looked-35 = pick-split (Looked count (at 35) b) (eqb b 0)
-      (λ s. record { mark-same = refl; counted = refl; waits-are = refl; enough = λ l. l; returned-zero = λ e. absurd (omega arith); quiet-zero = λ _ n. absurd (n refl); waiting-is = λ w e. absurd (let z : _≡_ {A = ℕ} 0 1 = cc in omega arith); spent-only = λ _. eqb-true b 0 s; spent-if = λ _. refl; returns = λ l w e. absurd (let z : _≡_ {A = ℕ} 0 1 = cc in omega arith); low = omega arith; high = omega arith })
+      (λ s. record { mark-same = refl; counted = refl; waits-are = refl; enough = λ l. l; returned-zero = λ e. absurd (omega arith); quiet-zero = λ _ n. absurd (n refl); quiets = λ _. refl; waiting-is = λ w e. absurd (let z : _≡_ {A = ℕ} 0 1 = cc in omega arith); spent-only = λ _. eqb-true b 0 s; spent-if = λ _. refl; returns = λ l w e. absurd (let z : _≡_ {A = ℕ} 0 1 = cc in omega arith); low = omega arith; high = omega arith })
       (λ s. pick-split (Looked count (at 35) b) (eqb count 0)
-      (λ z. record { mark-same = refl; counted = omega arith; waits-are = refl; enough = λ l. omega arith; returned-zero = λ e. absurd (omega arith); quiet-zero = λ _ _. eqb-true count 0 z; waiting-is = λ w e. absurd (let z : _≡_ {A = ℕ} 0 1 = cc in omega arith); spent-only = λ e. absurd (let z : _≡_ {A = ℕ} 0 1 = cc in omega arith); spent-if = λ e. absurd (eqb-false b 0 s e); returns = λ l w e. absurd (let z : _≡_ {A = ℕ} 0 1 = cc in omega arith); low = omega arith; high = omega arith })
-      (λ z. record { mark-same = refl; counted = omega arith; waits-are = refl; enough = λ l. omega arith; returned-zero = λ e. absurd (omega arith); quiet-zero = λ _ n. absurd (n refl); waiting-is = λ w e. ((let c : watched (at 35) ≡ w = cc in sym c), eqb-false count 0 z); spent-only = λ e. absurd (let z : _≡_ {A = ℕ} 0 1 = cc in omega arith); spent-if = λ e. absurd (eqb-false b 0 s e); returns = λ l w e. absurd (let z : _≡_ {A = ℕ} 0 1 = cc in omega arith); low = omega arith; high = omega arith }))
+      (λ z. record { mark-same = refl; counted = omega arith; waits-are = refl; enough = λ l. omega arith; returned-zero = λ e. absurd (omega arith); quiet-zero = λ _ _. eqb-true count 0 z; quiets = λ _. refl; waiting-is = λ w e. absurd (let z : _≡_ {A = ℕ} 0 1 = cc in omega arith); spent-only = λ e. absurd (let z : _≡_ {A = ℕ} 0 1 = cc in omega arith); spent-if = λ e. absurd (eqb-false b 0 s e); returns = λ l w e. absurd (let z : _≡_ {A = ℕ} 0 1 = cc in omega arith); low = omega arith; high = omega arith })
+      (λ z. record { mark-same = refl; counted = omega arith; waits-are = refl; enough = λ l. omega arith; returned-zero = λ e. absurd (omega arith); quiet-zero = λ _ n. absurd (n refl); quiets = λ _. refl; waiting-is = λ w e. ((let c : watched (at 35) ≡ w = cc in sym c), eqb-false count 0 z); spent-only = λ e. absurd (let z : _≡_ {A = ℕ} 0 1 = cc in omega arith); spent-if = λ e. absurd (eqb-false b 0 s e); returns = λ l w e. absurd (let z : _≡_ {A = ℕ} 0 1 = cc in omega arith); low = omega arith; high = omega arith }))
 
   looked-37 : Looked count (at 37) b (lookAt count (at 37) b)
   unfolding lookAt at
   looked-37 = pick-split (Looked count (at 37) b) (eqb b 0)
-      (λ s. record { mark-same = refl; counted = refl; waits-are = refl; enough = λ l. l; quiet-zero = λ e. absurd (omega arith); returned-zero = λ _ n. absurd (n refl); waiting-is = λ w e. absurd (let z : _≡_ {A = ℕ} 0 1 = cc in omega arith); spent-only = λ _. eqb-true b 0 s; spent-if = λ _. refl; returns = λ l w e. absurd (let z : _≡_ {A = ℕ} 0 1 = cc in omega arith); low = omega arith; high = omega arith })
+      (λ s. record { mark-same = refl; counted = refl; waits-are = refl; enough = λ l. l; quiet-zero = λ e. absurd (omega arith); returned-zero = λ _ n. absurd (n refl); quiets = λ e. absurd (let z : _≡_ {A = ℕ} 0 1 = cc in omega arith); waiting-is = λ w e. absurd (let z : _≡_ {A = ℕ} 0 1 = cc in omega arith); spent-only = λ _. eqb-true b 0 s; spent-if = λ _. refl; returns = λ l w e. absurd (let z : _≡_ {A = ℕ} 0 1 = cc in omega arith); low = omega arith; high = omega arith })
       (λ s. pick-split (Looked count (at 37) b) (eqb count 0)
-      (λ z. record { mark-same = refl; counted = omega arith; waits-are = refl; enough = λ l. omega arith; quiet-zero = λ e. absurd (omega arith); returned-zero = λ _ _. eqb-true count 0 z; waiting-is = λ w e. absurd (let z : _≡_ {A = ℕ} 0 1 = cc in omega arith); spent-only = λ e. absurd (let z : _≡_ {A = ℕ} 0 1 = cc in omega arith); spent-if = λ e. absurd (eqb-false b 0 s e); returns = λ l w e. (λ q. omega arith, (let c : looks + 1 ≡ l = cc in sym c), (let d : waits ≡ w = cc in sym d)); low = omega arith; high = omega arith })
-      (λ z. record { mark-same = refl; counted = omega arith; waits-are = refl; enough = λ l. omega arith; quiet-zero = λ e. absurd (omega arith); returned-zero = λ _ n. absurd (n refl); waiting-is = λ w e. ((let c : watched (at 37) ≡ w = cc in sym c), eqb-false count 0 z); spent-only = λ e. absurd (let z : _≡_ {A = ℕ} 0 1 = cc in omega arith); spent-if = λ e. absurd (eqb-false b 0 s e); returns = λ l w e. absurd (let z : _≡_ {A = ℕ} 0 1 = cc in omega arith); low = omega arith; high = omega arith }))
+      (λ z. record { mark-same = refl; counted = omega arith; waits-are = refl; enough = λ l. omega arith; quiet-zero = λ e. absurd (omega arith); returned-zero = λ _ _. eqb-true count 0 z; quiets = λ e. absurd (let z : _≡_ {A = ℕ} 0 1 = cc in omega arith); waiting-is = λ w e. absurd (let z : _≡_ {A = ℕ} 0 1 = cc in omega arith); spent-only = λ e. absurd (let z : _≡_ {A = ℕ} 0 1 = cc in omega arith); spent-if = λ e. absurd (eqb-false b 0 s e); returns = λ l w e. (λ q. omega arith, (let c : looks + 1 ≡ l = cc in sym c), (let d : waits ≡ w = cc in sym d)); low = omega arith; high = omega arith })
+      (λ z. record { mark-same = refl; counted = omega arith; waits-are = refl; enough = λ l. omega arith; quiet-zero = λ e. absurd (omega arith); returned-zero = λ _ n. absurd (n refl); quiets = λ e. absurd (let z : _≡_ {A = ℕ} 0 1 = cc in omega arith); waiting-is = λ w e. ((let c : watched (at 37) ≡ w = cc in sym c), eqb-false count 0 z); spent-only = λ e. absurd (let z : _≡_ {A = ℕ} 0 1 = cc in omega arith); spent-if = λ e. absurd (eqb-false b 0 s e); returns = λ l w e. absurd (let z : _≡_ {A = ℕ} 0 1 = cc in omega arith); low = omega arith; high = omega arith }))
 
 pub looked : (count : ℕ) (y : Publisher) (b : ℕ) → (y .place ≡ 35) ⊎ (y .place ≡ 37) → Looked count y b (lookAt count y b)
 unfolding at
