@@ -8,3 +8,4 @@ pub mod Tally
 pub mod Answer
 pub mod AnswerLaws
 pub mod RowLaws
+pub mod Fills

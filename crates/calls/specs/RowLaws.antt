@@ -1,6 +1,7 @@
 -- Laws of tests, of rows and of scans: all that proofs use of them. Assumes nothing.
 use Prim.Native.Nat.{ℕ, zero, suc, _+_, _<_, _≤_}
 use native.Mathlib.Omega.{arith}
+use native.Mathlib.Numerals.{add-one}
 use mathlib.Core.Path.{_≡_, refl, sym, subst}
 use mathlib.Core.Logic.{_≢_}
 use mathlib.Core.Bool.{Bool, true, false, not, _&&_, _||_}
@@ -49,6 +50,10 @@ or-right false b e = e
 pub neither : (a b : Bool) → a ≡ false → b ≡ false → a || b ≡ false
 neither true b e f = e
 neither false b e f = f
+
+pub or-none : (b : Bool) → b || false ≡ b
+or-none true = refl
+or-none false = refl
 
 pub negated : (b : Bool) → b ≡ true → not b ≡ false
 negated true e = refl
@@ -149,6 +154,15 @@ pub no-below : (f : ℕ → Bool) (n : ℕ) → ((i : ℕ) → i < n → f i ≡
 unfolding anyBelow
 no-below f zero h = refl
 no-below f (suc n) h = rw (no-below f n (λ i l. h i (omega arith))) (h n (omega arith))
+
+-- A scan as a loop makes it: of no number, and of one more.
+pub none-first : (f : ℕ → Bool) → anyBelow f 0 ≡ false
+unfolding anyBelow
+none-first f = refl
+
+pub none-more : (f : ℕ → Bool) (i : ℕ) → anyBelow f i ≡ false → f i ≡ false → anyBelow f (i + 1) ≡ false
+unfolding anyBelow
+none-more f i h e = rw (add-one i, h) e
 
 pub count-zero : (f : ℕ → Bool) (n i : ℕ) → countBelow f n ≡ 0 → i < n → f i ≡ false
 unfolding countBelow

@@ -13,7 +13,7 @@ use Rattle.layout.specs.declared.Reader.{Reader}
 use Rattle.layout.specs.declared.Publisher.{Publisher}
 use Rattle.layout.specs.declared.Walk.{Walk}
 use Rattle.layout.specs.declared.Progress.{Progress}
-use Rattle.layout.specs.Layout.{readers, current, version, readerAt, withReader}
+use Rattle.layout.specs.Layout.{readers, current, version, readerAt, withReader, blankReader}
 use Rattle.statement.specs.Machine.{State, Machine}
 use Rattle.publication_law.specs.Steps.{Versions, upTo, reader, publisher}
 use Rattle.publication_law.specs.Damage.{Kind, wrongPick, publisherRows}
@@ -91,7 +91,7 @@ looksOf s k b = looksFrom (s .words) (readers (s .words)) (k .mark) (k .waits) b
 
 -- A fresh reader's published version is NOT_READING, in all 64 records.
 abbrev pub freshReader : Reader
-freshReader = record { place = 0; first = 0; second = 0; published = NOT-READING; picked = 0 }
+freshReader = blankReader NOT-READING
 
 -- Nothing else spoils it; no 31; RAISE p at 35; WALK p b at 37.
 abbrev pub rules : Rules

@@ -2,6 +2,7 @@
 -- A record is some words in a row: what is put there is read there and nowhere else. Assumes nothing.
 use Prim.Native.Nat.{ℕ, zero, suc, _+_, _*_, _<_, _≤_}
 use native.Mathlib.Omega.{arith}
+use native.Mathlib.Numerals.{add-one}
 use mathlib.Core.Path.{_≡_, refl, sym, ap, _∙_, fun-ext}
 use mathlib.Core.Logic.{_≢_, _⊎_, inl, inr}
 use mathlib.Core.Bool.{Bool, true, false}
@@ -15,7 +16,7 @@ use Rattle.layout.specs.declared.Publisher.{Publisher}
 use Rattle.calls.specs.Base.{pick, upd}
 use Rattle.calls.specs.Numbers.{READERS-MAX, PUBLISHERS-MAX}
 use Rattle.calls.specs.RowLaws.{pick-same}
-use Rattle.layout.specs.Layout.{INDICATORS-AT, INDICATORS, indicator, withIndicator, KIND-AT, READERS-AT, PUBLISHERS-AT, SLOTS-AT, VERSION-AT, HEAD, READER-WORDS, PUBLISHER-WORDS, FIRST-PUBLISHER, WORDS, readerOf, readerWords, publisherOf, publisherWords, noReader, noPublisher, putWords, readerAt, publisherAt, withReader, withPublisher, withReaders, fresh}
+use Rattle.layout.specs.Layout.{INDICATORS-AT, INDICATORS, indicator, withIndicator, KIND-AT, READERS-AT, PUBLISHERS-AT, SLOTS-AT, VERSION-AT, HEAD, READER-WORDS, PUBLISHER-WORDS, FIRST-PUBLISHER, WORDS, readerOf, readerWords, blankReader, publisherOf, publisherWords, noReader, noPublisher, putWords, readerAt, publisherAt, withReader, withPublisher, withReaders, fresh}
 
 -- Words put in a row.
 pub length-put : (vs w : List ℕ) (b i : ℕ) → length (putWords w b i vs) ≡ length w
@@ -331,3 +332,35 @@ publisher-back w p lt = rw (lt-ltb p PUBLISHERS-MAX lt) (put-same w (FIRST-PUBLI
     six (suc (suc (suc (suc zero)))) l = refl
     six (suc (suc (suc (suc (suc zero))))) l = refl
     six (suc (suc (suc (suc (suc (suc k)))))) l = absurd (omega arith)
+
+-- Words that are all 0, in which the first n readers have published v: one more of them is one more word stored.
+set-zero : (w : List ℕ) (i : ℕ) → getD w i 0 ≡ 0 → set w i 0 ≡ w
+set-zero w i e = ap (λ (v : ℕ). set w i v) (sym e) ∙ set-getD w i 0
+
+untouched : (n : ℕ) (w : List ℕ) (x : Reader) (j : ℕ) → HEAD + READER-WORDS * n ≤ j → getD (withReaders n w x) j 0 ≡ getD w j 0
+unfolding withReaders withReader
+untouched zero w x j le = refl
+untouched (suc n) w x j le = put-other (readerWords x) (withReaders n w x) (HEAD + READER-WORDS * n) 0 j (inr (omega arith)) ∙ untouched n w x j (omega arith)
+
+pub readers-none : (w : List ℕ) (x : Reader) → withReaders 0 w x ≡ w
+unfolding withReaders
+readers-none w x = refl
+
+publish-suc : (n v : ℕ) → set (withReaders n (replicate WORDS 0) (blankReader v)) (HEAD + READER-WORDS * n + 3) v ≡ withReaders (suc n) (replicate WORDS 0) (blankReader v)
+unfolding withReaders withReader
+publish-suc n v = sym (go (withReaders n (replicate WORDS 0) (blankReader v)) (λ j le. untouched n (replicate WORDS 0) (blankReader v) j le ∙ zero-at WORDS j))
+  where
+    go : (w : List ℕ) → ((j : ℕ) → HEAD + READER-WORDS * n ≤ j → getD w j 0 ≡ 0) → putWords w (HEAD + READER-WORDS * n) 0 (readerWords (blankReader v)) ≡ set w (HEAD + READER-WORDS * n + 3) v
+    go w e =
+        let b = HEAD + READER-WORDS * n in
+        let after : set (set w (b + 3) v) (b + 4) 0 ≡ set w (b + 3) v = set-zero (set w (b + 3) v) (b + 4) (getD-set-other w (b + 3) (b + 4) v 0 (λ z. omega arith) ∙ e (b + 4) (omega arith)) in
+        rw (set-zero w (b + 0) (e (b + 0) (omega arith)), set-zero w (b + 1) (e (b + 1) (omega arith)), set-zero w (b + 2) (e (b + 2) (omega arith))) after
+
+pub publish-next : (n v : ℕ) → set (withReaders n (replicate WORDS 0) (blankReader v)) (HEAD + READER-WORDS * n + 3) v ≡ withReaders (n + 1) (replicate WORDS 0) (blankReader v)
+publish-next n v = rw (add-one n) (publish-suc n v)
+
+pub publish-none : (n : ℕ) → withReaders n (replicate WORDS 0) (blankReader 0) ≡ replicate WORDS 0
+publish-none zero = readers-none (replicate WORDS 0) (blankReader 0)
+publish-none (suc n) = sym (publish-suc n 0)
+    ∙ set-zero (withReaders n (replicate WORDS 0) (blankReader 0)) (HEAD + READER-WORDS * n + 3) (untouched n (replicate WORDS 0) (blankReader 0) (HEAD + READER-WORDS * n + 3) (omega arith) ∙ zero-at WORDS (HEAD + READER-WORDS * n + 3))
+    ∙ publish-none n

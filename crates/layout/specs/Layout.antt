@@ -110,6 +110,10 @@ noReader = readerOf (λ i. 0)
 abbrev pub noPublisher : Publisher
 noPublisher = publisherOf (λ i. 0)
 
+-- A reader of which only the published version is not 0.
+abbrev pub blankReader : ℕ → Reader
+blankReader v = record { place = 0; first = 0; second = 0; published = v; picked = 0 }
+
 -- The words with a list of words put at b + i and on.
 abbrev pub putWords : List ℕ → ℕ → ℕ → List ℕ → List ℕ
 putWords w b i [] = w

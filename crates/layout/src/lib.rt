@@ -3,10 +3,11 @@
 // It uses calls.
 ghost use mathlib.Core.Path.{_≡_};
 ghost use Prim.Native.Nat.{_<_};
-ghost use lib.ListN.{length};
+ghost use lib.ListN.{length, replicate};
 ghost use Rattle.calls.specs.Numbers.{READERS-MAX, PUBLISHERS-MAX};
-ghost use Rattle.layout.specs.Layout.{WORDS, INDICATORS, kind, readers, publishers, slots, current, version, releases, indicator, withCurrent, withVersion, withReleases, withIndicator, readerAt, publisherAt, withReader, withPublisher};
+ghost use Rattle.layout.specs.Layout.{WORDS, INDICATORS, kind, readers, publishers, slots, current, version, releases, indicator, withCurrent, withVersion, withReleases, withIndicator, readerAt, publisherAt, withReader, withPublisher, withReaders, blankReader, fresh};
 use calls::WalkReply;
+use calls::READERS_MAX;
 
 // The length of a store's words.
 pub const WORDS: usize = 425;
@@ -226,4 +227,42 @@ pub fn put_publisher(words: &mut [u64], p: usize, x: Publisher)
     words[b + NEXT] = x.walk.next;
     words[b + LOOKS] = x.walk.looks;
     words[b + WAITS] = x.walk.waits;
+}
+
+// Every word 0.
+fn clear(words: &mut [u64])
+    ensures { λ _. ⌜ now (words .exit) ≡ replicate (length (now (words .entry))) 0 ⌝ }
+{
+    for i in 0..words.len() {
+        words[i] = 0;
+    }
+}
+
+// Of words that are all 0, the version that each reader has published anew.
+fn publish_all(words: &mut [u64], published: u64)
+    requires { ⌜ now words ≡ replicate WORDS 0 ⌝ }
+    ensures { λ _. ⌜ now (words .exit) ≡ withReaders READERS-MAX (replicate WORDS 0) (blankReader published) ⌝ }
+{
+    if published == 0 {
+        return;
+    }
+    let mut r: usize = 0;
+    while r < READERS_MAX as usize {
+        words[FIRST_READER + READER_WORDS * r + PUBLISHED] = published;
+        r += 1;
+    }
+}
+
+// Fresh words: all 0, but for a head and what each reader has published.
+pub fn put_fresh(words: &mut [u64], kind: u64, readers: u64, publishers: u64, slots: u64, version: u64, published: u64)
+    requires { ⌜ length (now words) ≡ WORDS ⌝ }
+    ensures { λ _. ⌜ now (words .exit) ≡ fresh kind readers publishers slots version (blankReader published) ⌝ }
+{
+    clear(words);
+    publish_all(words, published);
+    words[KIND_AT] = kind;
+    words[READERS_AT] = readers;
+    words[PUBLISHERS_AT] = publishers;
+    words[SLOTS_AT] = slots;
+    words[VERSION_AT] = version;
 }

@@ -10,6 +10,8 @@ pub mod Moves
 pub mod DamageLaws
 pub mod Invariant
 pub mod Keeps
+pub mod Sound
+pub mod Calls
 pub mod Decide
 pub mod Frames
 pub mod Lawful

@@ -1,0 +1,112 @@
+/* Plays one list of calls, drawn from a seed and mostly in turn, on the proved store and on the C baseline side by side,
+   and compares every reply, the words and the entries. run counts the instructions of each call under callgrind. */
+#include "baseline.h"
+
+#include <stdio.h>
+#include <stdlib.h>
+#include <string.h>
+
+enum { WORDS = 425, TABLE = 32, ENTRIES_MAX = 1024, READERS_MAX = 64, PUBLISHERS_MAX = 16 };
+
+struct reply rv_make(uint64_t *words, size_t words_len, int16_t *entries, size_t entries_len, uint16_t readers, uint16_t publishers, uint16_t slots, uint64_t version);
+struct reply rv_enter(uint64_t *words, size_t words_len, const int16_t *entries, size_t entries_len, uint16_t r);
+struct reply rv_look(const uint64_t *words, size_t words_len, const int16_t *entries, size_t entries_len, uint16_t r, uint16_t k);
+struct reply rv_leave(uint64_t *words, size_t words_len, const int16_t *entries, size_t entries_len, uint16_t r);
+struct reply rv_claim(uint64_t *words, size_t words_len, const int16_t *entries, size_t entries_len, uint16_t p, uint16_t s);
+struct reply rv_write(uint64_t *words, size_t words_len, int16_t *entries, size_t entries_len, uint16_t p, int16_t v);
+struct reply rv_swap(uint64_t *words, size_t words_len, const int16_t *entries, size_t entries_len, uint16_t p);
+struct reply rv_sync(uint64_t *words, size_t words_len, const int16_t *entries, size_t entries_len, uint16_t p);
+struct reply rv_raise(uint64_t *words, size_t words_len, const int16_t *entries, size_t entries_len, uint16_t p);
+struct reply rv_walk(uint64_t *words, size_t words_len, const int16_t *entries, size_t entries_len, uint16_t p, uint16_t b);
+struct reply rv_release(uint64_t *words, size_t words_len, const int16_t *entries, size_t entries_len, uint16_t p);
+
+static uint64_t words[2][WORDS];
+static int16_t entries[2][ENTRIES_MAX];
+static size_t entries_len;
+static uint64_t state;
+
+static uint64_t below(uint64_t n)
+{
+    state ^= state << 13;
+    state ^= state >> 7;
+    state ^= state << 17;
+    return state % n;
+}
+
+static void compared(const char *call, struct reply ours, struct reply theirs)
+{
+    if (memcmp(&ours, &theirs, sizeof ours) != 0 || memcmp(words[0], words[1], sizeof words[0]) != 0 || memcmp(entries[0], entries[1], sizeof entries[0]) != 0) {
+        fprintf(stderr, "driver: %s differs: %llu %llu %llu and %llu %llu %llu\n", call, (unsigned long long)ours.code, (unsigned long long)ours.first,
+                (unsigned long long)ours.second, (unsigned long long)theirs.code, (unsigned long long)theirs.first, (unsigned long long)theirs.second);
+        exit(1);
+    }
+}
+
+#define BOTH(call, ...) compared(#call, rv_##call(words[0], WORDS, entries[0], entries_len, __VA_ARGS__), c_##call(words[1], WORDS, entries[1], entries_len, __VA_ARGS__))
+
+/* A reader goes on: it enters, looks a few times, and leaves. */
+static void reader_goes_on(uint16_t r)
+{
+    const uint16_t k = (uint16_t)below(TABLE);
+    switch (words[1][9 + 5 * r]) {
+    case 5:
+        if (below(4) != 0)
+            BOTH(look, r, k);
+        else
+            BOTH(leave, r);
+        break;
+    default:
+        BOTH(enter, r);
+    }
+}
+
+/* A publisher goes on: it claims a slot at random, writes, swaps, synchronises, raises, walks by small slices and releases. */
+static void publisher_goes_on(uint16_t p, uint16_t slots)
+{
+    const uint16_t slot = (uint16_t)below(slots), b = (uint16_t)below(9);
+    const int16_t v = (int16_t)((int)below(10001) - 500);
+    switch (words[1][329 + 6 * p]) {
+    case 0:
+        BOTH(claim, p, slot);
+        break;
+    case 33:
+        BOTH(swap, p);
+        break;
+    case 34:
+        BOTH(sync, p);
+        break;
+    case 35:
+        BOTH(raise, p);
+        break;
+    case 37:
+        BOTH(walk, p, b);
+        break;
+    case 38:
+        BOTH(release, p);
+        break;
+    default:
+        BOTH(write, p, v);
+    }
+}
+
+/* driver READERS PUBLISHERS SLOTS CALLS SEED */
+int main(int argc, char **argv)
+{
+    if (argc != 6) {
+        fprintf(stderr, "driver READERS PUBLISHERS SLOTS CALLS SEED\n");
+        return 2;
+    }
+    const uint16_t readers = (uint16_t)atoi(argv[1]), publishers = (uint16_t)atoi(argv[2]), slots = (uint16_t)atoi(argv[3]);
+    const long calls = atol(argv[4]);
+    state = strtoull(argv[5], NULL, 10) * 2 + 1;
+    entries_len = (size_t)slots * TABLE;
+    for (uint64_t version = 0; version < 20; version++)
+        BOTH(make, readers, publishers, slots, version);
+    for (long i = 0; i < calls; i++) {
+        if (below(2) == 0)
+            reader_goes_on((uint16_t)below(readers));
+        else
+            publisher_goes_on((uint16_t)below(publishers), slots);
+    }
+    return 0;
+}

@@ -1,0 +1,310 @@
+/* The new store, GraceVersion, by hand in C, written to be fast: the damage test leaves at the first fault, reads only the records in use,
+   and a record's further words only at the places that need them. Nothing here is proved. */
+#include "baseline.h"
+
+#include <stdbool.h>
+#include <string.h>
+
+enum { WORDS = 425, TABLE = 32, READERS_MAX = 64, PUBLISHERS_MAX = 16, SLOTS_MAX = 32 };
+
+#define NOT_READING UINT64_MAX
+#define LAST (UINT64_MAX - 1)
+
+struct reader {
+    uint64_t place, first, second, published, picked;
+};
+
+struct publisher {
+    uint64_t place, held, mark, next, looks, waits;
+};
+
+/* The words of a store; every field is one word, so that it lies over them without a gap. */
+struct store {
+    uint64_t kind, readers, publishers, slots, current, version, releases, indicators[2];
+    struct reader reader[READERS_MAX];
+    struct publisher publisher[PUBLISHERS_MAX];
+};
+
+_Static_assert(sizeof(struct store) == WORDS * sizeof(uint64_t), "one word a number");
+
+static struct reply refused(uint64_t n)
+{
+    return (struct reply){ n, 0, 0 };
+}
+
+static struct reply accepted(uint64_t code, uint64_t first, uint64_t second)
+{
+    return (struct reply){ code, first, second };
+}
+
+static bool damaged(const struct store *s, size_t words_len, size_t entries_len)
+{
+    if (words_len != WORDS || s->kind != 1)
+        return true;
+    const uint64_t readers = s->readers, publishers = s->publishers, slots = s->slots;
+    if (readers - 1 >= READERS_MAX || publishers - 1 >= PUBLISHERS_MAX || slots - 2 > SLOTS_MAX - 2)
+        return true;
+    if (entries_len != slots * TABLE || s->current >= slots || s->version > LAST)
+        return true;
+    for (const struct reader *x = s->reader, *end = x + readers; x != end; x++) {
+        const uint64_t place = x->place;
+        if (place < 2 || place == 4)
+            continue;
+        if (place > 5)
+            return true;
+        if (place == 5 ? x->picked >= slots : x->published != x->first)
+            return true;
+    }
+    for (const struct publisher *y = s->publisher, *end = y + publishers; y != end; y++) {
+        const uint64_t place = y->place;
+        if (place == 0)
+            continue;
+        if (y->held >= slots)
+            return true;
+        if (place < 35)
+            continue;
+        if (place > 38 || place == 36 || y->mark - 1 >= LAST || y->waits > y->looks)
+            return true;
+        if (place != 38 && y->next >= readers)
+            return true;
+    }
+    return false;
+}
+
+struct reply c_make(uint64_t *words, size_t words_len, int16_t *entries, size_t entries_len, uint16_t readers, uint16_t publishers, uint16_t slots, uint64_t version)
+{
+    struct store *s = (struct store *)words;
+    if (words_len != WORDS)
+        return refused(1);
+    if (readers < 1 || readers > READERS_MAX)
+        return refused(2);
+    if (publishers < 1 || publishers > PUBLISHERS_MAX)
+        return refused(3);
+    if (slots < 2 || slots > SLOTS_MAX)
+        return refused(4);
+    if (entries_len != (size_t)slots * TABLE)
+        return refused(5);
+    if (version > LAST)
+        return refused(6);
+    memset(s, 0, sizeof *s);
+    s->kind = 1;
+    s->readers = readers;
+    s->publishers = publishers;
+    s->slots = slots;
+    s->version = version;
+    for (int r = 0; r < READERS_MAX; r++)
+        s->reader[r].published = NOT_READING;
+    for (uint16_t i = 0; i < slots; i++)
+        for (int k = 0; k < TABLE; k++)
+            entries[i * TABLE + k] = 9000;
+    return accepted(100, 0, 0);
+}
+
+struct reply c_enter(uint64_t *words, size_t words_len, const int16_t *entries, size_t entries_len, uint16_t r)
+{
+    struct store *s = (struct store *)words;
+    (void)entries;
+    if (damaged(s, words_len, entries_len))
+        return refused(1);
+    if (r >= s->readers)
+        return refused(10);
+    struct reader *x = &s->reader[r];
+    switch (x->place) {
+    case 0:
+        x->first = s->version;
+        break;
+    case 1:
+        x->published = x->first;
+        break;
+    case 2:
+        x->second = s->version;
+        break;
+    case 3:
+        if (x->second != x->first)
+            x->published = x->second;
+        break;
+    case 4:
+        x->picked = s->current;
+        break;
+    default:
+        return refused(20);
+    }
+    return accepted(101, ++x->place, 0);
+}
+
+struct reply c_look(const uint64_t *words, size_t words_len, const int16_t *entries, size_t entries_len, uint16_t r, uint16_t k)
+{
+    const struct store *s = (const struct store *)words;
+    if (damaged(s, words_len, entries_len))
+        return refused(1);
+    if (r >= s->readers)
+        return refused(10);
+    if (k >= TABLE)
+        return refused(13);
+    const struct reader *x = &s->reader[r];
+    if (x->place != 5)
+        return refused(20);
+    return accepted(102, (uint64_t)(int64_t)entries[x->picked * TABLE + k], 0);
+}
+
+struct reply c_leave(uint64_t *words, size_t words_len, const int16_t *entries, size_t entries_len, uint16_t r)
+{
+    struct store *s = (struct store *)words;
+    (void)entries;
+    if (damaged(s, words_len, entries_len))
+        return refused(1);
+    if (r >= s->readers)
+        return refused(10);
+    struct reader *x = &s->reader[r];
+    if (x->place < 4)
+        return refused(20);
+    x->place = 0;
+    x->published = NOT_READING;
+    return accepted(103, 0, 0);
+}
+
+struct reply c_claim(uint64_t *words, size_t words_len, const int16_t *entries, size_t entries_len, uint16_t p, uint16_t x)
+{
+    struct store *s = (struct store *)words;
+    (void)entries;
+    if (damaged(s, words_len, entries_len))
+        return refused(1);
+    if (p >= s->publishers)
+        return refused(11);
+    if (x >= s->slots)
+        return refused(12);
+    if (s->publisher[p].place != 0)
+        return refused(21);
+    if (s->current == x)
+        return refused(30);
+    for (const struct publisher *y = s->publisher, *end = y + s->publishers; y != end; y++)
+        if (y->place != 0 && y->held == x)
+            return refused(30);
+    s->publisher[p].place = 1;
+    s->publisher[p].held = x;
+    return accepted(104, x, 0);
+}
+
+struct reply c_write(uint64_t *words, size_t words_len, int16_t *entries, size_t entries_len, uint16_t p, int16_t v)
+{
+    struct store *s = (struct store *)words;
+    if (damaged(s, words_len, entries_len))
+        return refused(1);
+    if (p >= s->publishers)
+        return refused(11);
+    if (v < -500 || v > 9500)
+        return refused(14);
+    struct publisher *y = &s->publisher[p];
+    const uint64_t place = y->place;
+    if (place - 1 >= TABLE)
+        return refused(21);
+    entries[y->held * TABLE + place - 1] = v;
+    y->place = place + 1;
+    return accepted(105, place, 0);
+}
+
+struct reply c_swap(uint64_t *words, size_t words_len, const int16_t *entries, size_t entries_len, uint16_t p)
+{
+    struct store *s = (struct store *)words;
+    (void)entries;
+    if (damaged(s, words_len, entries_len))
+        return refused(1);
+    if (p >= s->publishers)
+        return refused(11);
+    struct publisher *y = &s->publisher[p];
+    if (y->place != 33)
+        return refused(21);
+    const uint64_t former = s->current;
+    s->current = y->held;
+    y->held = former;
+    y->place = 34;
+    return accepted(106, former, 0);
+}
+
+struct reply c_sync(uint64_t *words, size_t words_len, const int16_t *entries, size_t entries_len, uint16_t p)
+{
+    struct store *s = (struct store *)words;
+    (void)entries;
+    if (damaged(s, words_len, entries_len))
+        return refused(1);
+    if (p >= s->publishers)
+        return refused(11);
+    struct publisher *y = &s->publisher[p];
+    if (y->place != 34)
+        return refused(21);
+    if (s->version == LAST)
+        return refused(32);
+    y->place = 35;
+    y->mark = s->version + 1;
+    y->next = y->looks = y->waits = 0;
+    return accepted(107, y->mark, 0);
+}
+
+struct reply c_raise(uint64_t *words, size_t words_len, const int16_t *entries, size_t entries_len, uint16_t p)
+{
+    struct store *s = (struct store *)words;
+    (void)entries;
+    if (damaged(s, words_len, entries_len))
+        return refused(1);
+    if (p >= s->publishers)
+        return refused(11);
+    struct publisher *y = &s->publisher[p];
+    if (y->place != 35)
+        return refused(21);
+    y->place = 37;
+    if (s->version != y->mark - 1)
+        return accepted(109, 0, 0);
+    s->version = y->mark;
+    return accepted(108, 0, 0);
+}
+
+struct reply c_walk(uint64_t *words, size_t words_len, const int16_t *entries, size_t entries_len, uint16_t p, uint16_t b)
+{
+    struct store *s = (struct store *)words;
+    (void)entries;
+    if (damaged(s, words_len, entries_len))
+        return refused(1);
+    if (p >= s->publishers)
+        return refused(11);
+    struct publisher *y = &s->publisher[p];
+    if (y->place != 37)
+        return refused(21);
+    if (y->looks > UINT64_MAX - b)
+        return refused(33);
+    const uint64_t mark = y->mark, readers = s->readers, start = y->next;
+    uint64_t next = start;
+    for (;; next++) {
+        if (next == readers) {
+            y->place = 38;
+            y->next = next;
+            y->looks += next - start;
+            return accepted(113, y->looks, y->waits);
+        }
+        if (next - start == b) {
+            y->next = next;
+            y->looks += b;
+            return accepted(111, 0, 0);
+        }
+        if (s->reader[next].published < mark) {
+            y->next = next;
+            y->looks += next - start + 1;
+            y->waits++;
+            return accepted(110, next, 0);
+        }
+    }
+}
+
+struct reply c_release(uint64_t *words, size_t words_len, const int16_t *entries, size_t entries_len, uint16_t p)
+{
+    struct store *s = (struct store *)words;
+    (void)entries;
+    if (damaged(s, words_len, entries_len))
+        return refused(1);
+    if (p >= s->publishers)
+        return refused(11);
+    struct publisher *y = &s->publisher[p];
+    if (y->place != 38)
+        return refused(21);
+    y->place = 0;
+    return accepted(114, y->held, ++s->releases);
+}

@@ -1,0 +1,84 @@
+// CLAIM, WRITE, SWAP, SYNC, RAISE and RELEASE of the new store, in place on the lent words and entries.
+ghost use mathlib.Core.Path.{_≡_};
+ghost use Rattle.calls.specs.declared.Call.the-variants.{Claim, Write, Swap, Sync, Raise, Release};
+ghost use Rattle.statement.specs.Machine.{state, outcome};
+ghost use Rattle.publication_law.specs.Rules.{step};
+ghost use Rattle.grace_version_law.specs.Steps.{rules};
+use calls::Pitch;
+use calls::Reply;
+use calls::DAMAGED;
+use calls::NO_SUCH_PUBLISHER;
+use calls::PUBLISHER_TURN;
+use layout::publishers_of;
+use layout::publisher_at;
+use publication::claim_slot;
+use publication::write_entry;
+use publication::swap_in;
+use publication::start_sync;
+use publication::raise_version;
+use publication::release_slot;
+use crate::damage::LAST;
+use crate::damage::is_damaged;
+
+pub fn claim(words: &mut [u64], entries: &[Pitch], p: u16, x: u16) -> Reply
+    ensures { λ a. ⌜ outcome a (state (now (words .exit)) (now (entries .entry))) ≡ step rules (state (now (words .entry)) (now (entries .entry))) (Claim p x) ⌝ }
+{
+    if is_damaged(words, entries.len()) {
+        return Reply::Refused(DAMAGED);
+    }
+    claim_slot(words, p, x, false)
+}
+
+pub fn write(words: &mut [u64], entries: &mut [Pitch], p: u16, v: Pitch) -> Reply
+    ensures { λ a. ⌜ outcome a (state (now (words .exit)) (now (entries .exit))) ≡ step rules (state (now (words .entry)) (now (entries .entry))) (Write p v) ⌝ }
+{
+    if is_damaged(words, entries.len()) {
+        return Reply::Refused(DAMAGED);
+    }
+    write_entry(words, entries, p, v)
+}
+
+pub fn swap(words: &mut [u64], entries: &[Pitch], p: u16) -> Reply
+    ensures { λ a. ⌜ outcome a (state (now (words .exit)) (now (entries .entry))) ≡ step rules (state (now (words .entry)) (now (entries .entry))) (Swap p) ⌝ }
+{
+    if is_damaged(words, entries.len()) {
+        return Reply::Refused(DAMAGED);
+    }
+    swap_in(words, p)
+}
+
+pub fn sync(words: &mut [u64], entries: &[Pitch], p: u16) -> Reply
+    ensures { λ a. ⌜ outcome a (state (now (words .exit)) (now (entries .entry))) ≡ step rules (state (now (words .entry)) (now (entries .entry))) (Sync p) ⌝ }
+{
+    if is_damaged(words, entries.len()) {
+        return Reply::Refused(DAMAGED);
+    }
+    start_sync(words, p, LAST - 1)
+}
+
+pub fn raise(words: &mut [u64], entries: &[Pitch], p: u16) -> Reply
+    ensures { λ a. ⌜ outcome a (state (now (words .exit)) (now (entries .entry))) ≡ step rules (state (now (words .entry)) (now (entries .entry))) (Raise p) ⌝ }
+{
+    if is_damaged(words, entries.len()) {
+        return Reply::Refused(DAMAGED);
+    }
+    if p as u64 >= publishers_of(words) {
+        return Reply::Refused(NO_SUCH_PUBLISHER);
+    }
+    let at = p as usize;
+    let y = publisher_at(words, at);
+    let place = y.place;
+    match place {
+        35 => raise_version(words, at, y, y.walk.mark - 1),
+        _ => Reply::Refused(PUBLISHER_TURN),
+    }
+}
+
+pub fn release(words: &mut [u64], entries: &[Pitch], p: u16) -> Reply
+    ensures { λ a. ⌜ outcome a (state (now (words .exit)) (now (entries .entry))) ≡ step rules (state (now (words .entry)) (now (entries .entry))) (Release p) ⌝ }
+{
+    if is_damaged(words, entries.len()) {
+        return Reply::Refused(DAMAGED);
+    }
+    release_slot(words, p)
+}

@@ -1,0 +1,98 @@
+use borrow.Author.Needs.{needs}
+use native.Mathlib.Omega.{arith}
+use lib.ListN.{length, getD, set, length-set}
+use Rattle.calls.specs.RowLaws.{within, or-none}
+use Prim.Native.Nat.{_*_}
+use mathlib.Core.Path.{_≡_, refl, sym, ap, _∙_}
+use borrow.Author.Tests.{le-leb, lt-leb, lt-ltb, le-ltb, eq-eqb, ne-eqb}
+use Rattle.publication.proofs.head_damaged.Statement.{statement}
+use Rattle.publication.proofs.head_damaged.Tie as tie
+use Rattle.publication.proofs.head_damaged.Reads as reads
+use Rattle.publication.proofs.head_damaged.Lts as lts
+use Rattle.layout.proofs.current_of.Reads as current-of-reads
+use Rattle.layout.proofs.kind_of.Reads as kind-of-reads
+use Rattle.layout.proofs.publishers_of.Reads as publishers-of-reads
+use Rattle.layout.proofs.readers_of.Reads as readers-of-reads
+use Rattle.layout.proofs.slots_of.Reads as slots-of-reads
+use Rattle.layout.proofs.version_of.Reads as version-of-reads
+
+returns : tie.Need-returns
+returns c = λ K es n t l. rw (ne-eqb _ _ (c .if1 .taken)) refl
+
+kind-of-requires : tie.Need-kind-of-requires
+kind-of-requires c κs = search needs
+
+returns-2 : tie.Need-returns-2
+returns-2 c = λ K es n t l. rw (eq-eqb _ _ (c .before .before .if1 .left), ne-eqb _ _ (λ z. c .if2 .taken (c .before .kind-of .ensures ∙ z ∙ n))) refl
+
+readers-of-requires : tie.Need-readers-of-requires
+readers-of-requires c κs = search needs
+
+cast-if3 : tie.Need-cast-if3
+cast-if3 c = search needs
+
+returns-3 : tie.Need-returns-3
+returns-3 c = λ K es n t l. rw (eq-eqb _ _ (c .before .before .before .before .if1 .left), eq-eqb _ _ (sym (c .before .before .before .kind-of .ensures) ∙ c .before .before .if2 .left ∙ sym n), rw (c .before .readers-of .ensures) at (c .if3 .taken)) refl
+
+publishers-of-requires : tie.Need-publishers-of-requires
+publishers-of-requires c κs = search needs
+
+cast-if4 : tie.Need-cast-if4
+cast-if4 c = search needs
+
+returns-4 : tie.Need-returns-4
+returns-4 c = λ K es n t l. rw (eq-eqb _ _ (c .before .before .before .before .before .before .if1 .left), eq-eqb _ _ (sym (c .before .before .before .before .before .kind-of .ensures) ∙ c .before .before .before .before .if2 .left ∙ sym n), rw (c .before .before .before .readers-of .ensures) at (c .before .before .if3 .left), rw (c .before .publishers-of .ensures) at (c .if4 .taken)) refl
+
+slots-of-requires : tie.Need-slots-of-requires
+slots-of-requires c κs = search needs
+
+cast-if5 : tie.Need-cast-if5
+cast-if5 c = search needs
+
+cast-if5-2 : tie.Need-cast-if5-2
+cast-if5-2 c = search needs
+
+returns-5 : tie.Need-returns-5
+returns-5 c = λ K es n t l. rw (eq-eqb _ _ (c .before .before .before .before .before .before .before .before .if1 .left), eq-eqb _ _ (sym (c .before .before .before .before .before .before .before .kind-of .ensures) ∙ c .before .before .before .before .before .before .if2 .left ∙ sym n), rw (c .before .before .before .before .before .readers-of .ensures) at (c .before .before .before .before .if3 .left), rw (c .before .before .before .publishers-of .ensures) at (c .before .before .if4 .left), rw (c .before .slots-of .ensures) at (c .if5 .taken)) refl
+
+mul-if6 : tie.Need-mul-if6
+mul-if6 c = omega (arith, within 2 32 (c .before .slots-of .result) (c .if5 .left))
+
+returns-6 : tie.Need-returns-6
+returns-6 c = λ K es n t l. rw (eq-eqb _ _ (c .before .before .before .before .before .before .before .before .before .if1 .left), eq-eqb _ _ (sym (c .before .before .before .before .before .before .before .before .kind-of .ensures) ∙ c .before .before .before .before .before .before .before .if2 .left ∙ sym n), rw (c .before .before .before .before .before .before .readers-of .ensures) at (c .before .before .before .before .before .if3 .left), rw (c .before .before .before .before .publishers-of .ensures) at (c .before .before .before .if4 .left), rw (c .before .before .slots-of .ensures) at (c .before .if5 .left), ne-eqb _ _ (λ z. c .if6 .taken (sym l ∙ z ∙ ap (λ (m : _). m * 32) (sym (c .before .before .slots-of .ensures))))) refl
+
+current-of-requires : tie.Need-current-of-requires
+current-of-requires c κs = search needs
+
+returns-7 : tie.Need-returns-7
+returns-7 c = λ K es n t l. rw (eq-eqb _ _ (c .before .before .before .before .before .before .before .before .before .before .before .if1 .left), eq-eqb _ _ (sym (c .before .before .before .before .before .before .before .before .before .before .kind-of .ensures) ∙ c .before .before .before .before .before .before .before .before .before .if2 .left ∙ sym n), rw (c .before .before .before .before .before .before .before .before .readers-of .ensures) at (c .before .before .before .before .before .before .before .if3 .left), rw (c .before .before .before .before .before .before .publishers-of .ensures) at (c .before .before .before .before .before .if4 .left), rw (c .before .before .before .before .slots-of .ensures) at (c .before .before .before .if5 .left), eq-eqb _ _ (l ∙ c .before .before .if6 .left ∙ ap (λ (m : _). m * 32) (c .before .before .before .before .slots-of .ensures)), le-leb _ _ (rw (c .before .before .before .before .slots-of .ensures, c .before .current-of .ensures) at (c .if7 .taken))) refl
+
+version-of-requires : tie.Need-version-of-requires
+version-of-requires c κs = search needs
+
+returns-8 : tie.Need-returns-8
+returns-8 c = λ K es n t l. rw (eq-eqb _ _ (c .before .before .before .before .before .before .before .before .before .before .before .before .if1 .left), eq-eqb _ _ (sym (c .before .before .before .before .before .before .before .before .before .before .before .kind-of .ensures) ∙ c .before .before .before .before .before .before .before .before .before .before .if2 .left ∙ sym n), rw (c .before .before .before .before .before .before .before .before .before .readers-of .ensures) at (c .before .before .before .before .before .before .before .before .if3 .left), rw (c .before .before .before .before .before .before .before .publishers-of .ensures) at (c .before .before .before .before .before .before .if4 .left), rw (c .before .before .before .before .before .slots-of .ensures) at (c .before .before .before .before .if5 .left), eq-eqb _ _ (l ∙ c .before .before .before .if6 .left ∙ ap (λ (m : _). m * 32) (c .before .before .before .before .before .slots-of .ensures)), lt-leb _ _ (rw (c .before .before .before .before .before .slots-of .ensures, c .before .before .current-of .ensures) at (c .before .if7 .left)), t, c .version-of .ensures) (sym (or-none _))
+
+pub head-damaged-spec : {M : Type 1} → statement M
+head-damaged-spec =
+    tie.close
+    (tie.spec
+    returns
+    kind-of-requires
+    returns-2
+    readers-of-requires
+    cast-if3
+    returns-3
+    publishers-of-requires
+    cast-if4
+    returns-4
+    slots-of-requires
+    cast-if5
+    cast-if5-2
+    returns-5
+    mul-if6
+    returns-6
+    current-of-requires
+    returns-7
+    version-of-requires
+    returns-8)

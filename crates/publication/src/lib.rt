@@ -1,0 +1,380 @@
+// What the kinds' calls share: the tests of the head and of a publisher's record, and LOOK, CLAIM, WRITE, SWAP, SYNC, RAISE, RELEASE and
+// the end of a WALK, of words that are not damaged. A kind tests for damage first, and asks nothing of its own callers.
+// It uses layout; its contracts cite publication_law.
+ghost use mathlib.Core.Path.{_≡_};
+ghost use mathlib.Core.Bool.{_&&_, _||_};
+ghost use mathlib.Core.List.{List};
+ghost use Prim.Native.Nat.{_+_, _*_, _%_, _<_, _≤_};
+ghost use lib.IntN.{ℤ};
+ghost use lib.ListN.{length, replicate};
+ghost use lib.Signed.{ltZ};
+ghost use lib.Dec.{ltb};
+ghost use Rattle.calls.specs.Numbers.{TABLE, FEATHERED, PITCH-LOW, PITCH-HIGH, MODULUS};
+ghost use Rattle.calls.specs.declared.Reply.the-variants.{Made};
+ghost use Rattle.calls.specs.Rows.{anyTrue};
+ghost use Rattle.layout.specs.Layout.{publishers, slots, version, publisherAt, blankReader};
+ghost use Rattle.statement.specs.Machine.{state, outcome, given};
+ghost use Rattle.publication_law.specs.Steps.{Versions, decide, anotherBusy, inUse, lookTests, look, claimTests, claim, writeTests, write, swapTests, swap, syncTests, sync, raise, walk, placeAfter, releaseTests, release, makingTests, made};
+ghost use Rattle.publication_law.specs.Damage.{Kind, headRows, publisherRows};
+ghost use Rattle.publication_law.specs.Sound.{Sound};
+use calls::Pitch;
+use calls::Reply;
+use calls::WalkReply;
+use calls::TABLE;
+use calls::PITCH_LOW;
+use calls::PITCH_HIGH;
+use calls::READERS_MAX;
+use calls::PUBLISHERS_MAX;
+use calls::SLOTS_MIN;
+use calls::SLOTS_MAX;
+use calls::FEATHERED;
+use calls::DAMAGED;
+use calls::BAD_READERS;
+use calls::BAD_PUBLISHERS;
+use calls::BAD_SLOTS;
+use calls::BAD_ENTRIES;
+use calls::BAD_VERSION;
+use calls::NO_SUCH_READER;
+use calls::NO_SUCH_PUBLISHER;
+use calls::NO_SUCH_SLOT;
+use calls::NO_SUCH_ENTRY;
+use calls::BAD_PITCH;
+use calls::READER_TURN;
+use calls::PUBLISHER_TURN;
+use calls::SLOT_IN_USE;
+use calls::BUSY;
+use calls::VERSION_IS_LAST;
+use layout::WORDS;
+use layout::Publisher;
+use layout::Progress;
+use layout::Walk;
+use layout::kind_of;
+use layout::readers_of;
+use layout::publishers_of;
+use layout::slots_of;
+use layout::current_of;
+use layout::version_of;
+use layout::releases_of;
+use layout::put_current;
+use layout::put_version;
+use layout::put_releases;
+use layout::reader_at;
+use layout::publisher_at;
+use layout::put_publisher;
+use layout::put_fresh;
+
+// Whether the head spoils a store of this kind, with so many entries, whose last version is given.
+pub fn head_damaged(words: &[u64], entries: usize, kind: u64, last: u64) -> bool
+    ensures { λ b. ⌜ ((K : Kind) (es : List ℤ) → K .number ≡ kind → K .versions .tooLarge (version (now (words .entry))) ≡ ltb last (version (now (words .entry))) → length es ≡ entries → b ≡ anyTrue (headRows K (state (now (words .entry)) es))) ⌝ }
+{
+    if words.len() != WORDS {
+        return true;
+    }
+    if kind_of(words) != kind {
+        return true;
+    }
+    let readers = readers_of(words);
+    if (readers < 1) | (readers > READERS_MAX as u64) {
+        return true;
+    }
+    let publishers = publishers_of(words);
+    if (publishers < 1) | (publishers > PUBLISHERS_MAX as u64) {
+        return true;
+    }
+    let slots = slots_of(words);
+    if (slots < SLOTS_MIN as u64) | (slots > SLOTS_MAX as u64) {
+        return true;
+    }
+    if entries != (slots as usize) * TABLE {
+        return true;
+    }
+    if current_of(words) >= slots {
+        return true;
+    }
+    version_of(words) > last
+}
+
+// LOOK r k.
+pub fn look_up(words: &[u64], entries: &[Pitch], r: u16, k: u16) -> Reply
+    requires { ⌜ Sound (now words) × (length (now entries) ≡ slots (now words) * TABLE) ⌝ }
+    ensures { λ a. ⌜ (let s = state (now (words .entry)) (now (entries .entry)) in outcome a s ≡ decide (lookTests s r k) (look s r k) s) ⌝ }
+{
+    if r as u64 >= readers_of(words) {
+        return Reply::Refused(NO_SUCH_READER);
+    }
+    if k as usize >= TABLE {
+        return Reply::Refused(NO_SUCH_ENTRY);
+    }
+    let x = reader_at(words, r as usize);
+    if x.place != 5 {
+        return Reply::Refused(READER_TURN);
+    }
+    Reply::Pitch(entries[x.picked as usize * TABLE + k as usize])
+}
+
+// Whether a publisher other than p is at a place other than 0.
+fn another_busy(words: &[u64], p: u16) -> bool
+    requires { ⌜ Sound (now words) ⌝ }
+    ensures { λ b. ⌜ ((es : List ℤ) → b ≡ anotherBusy (state (now (words .entry)) es) p) ⌝ }
+{
+    let n = publishers_of(words);
+    for q in 0..n {
+        let y = publisher_at(words, q as usize);
+        if (q != p as u64) & (y.place != 0) {
+            return true;
+        }
+    }
+    false
+}
+
+// Whether 31 is given, in a kind that has it or not.
+fn busy(words: &[u64], p: u16, exclusive: bool) -> bool
+    requires { ⌜ Sound (now words) ⌝ }
+    ensures { λ b. ⌜ ((es : List ℤ) → b ≡ (exclusive && anotherBusy (state (now (words .entry)) es) p)) ⌝ }
+{
+    if exclusive {
+        return another_busy(words, p);
+    }
+    false
+}
+
+// Whether a slot is not free.
+fn in_use(words: &[u64], x: u64) -> bool
+    requires { ⌜ Sound (now words) ⌝ }
+    ensures { λ b. ⌜ ((es : List ℤ) → b ≡ inUse (state (now (words .entry)) es) x) ⌝ }
+{
+    if current_of(words) == x {
+        return true;
+    }
+    let n = publishers_of(words);
+    for q in 0..n {
+        let y = publisher_at(words, q as usize);
+        if (y.place != 0) & (y.held == x) {
+            return true;
+        }
+    }
+    false
+}
+
+// CLAIM p x; whether 31 is given is the kind's own.
+pub fn claim_slot(words: &mut [u64], p: u16, x: u16, exclusive: bool) -> Reply
+    requires { ⌜ Sound (now words) ⌝ }
+    ensures { λ a. ⌜ ((es : List ℤ) → let s = state (now (words .entry)) es in outcome a (state (now (words .exit)) es) ≡ decide (claimTests exclusive s p x) (claim s p x) s) ⌝ }
+{
+    if p as u64 >= publishers_of(words) {
+        return Reply::Refused(NO_SUCH_PUBLISHER);
+    }
+    let slot = x as u64;
+    if slot >= slots_of(words) {
+        return Reply::Refused(NO_SUCH_SLOT);
+    }
+    let at = p as usize;
+    let mut y = publisher_at(words, at);
+    let place = y.place;
+    match place {
+        0 => {
+            if busy(words, p, exclusive) {
+                return Reply::Refused(BUSY);
+            }
+            if in_use(words, slot) {
+                return Reply::Refused(SLOT_IN_USE);
+            }
+            y.place = 1;
+            y.held = slot;
+            put_publisher(words, at, y);
+            Reply::Claimed(slot)
+        }
+        _ => Reply::Refused(PUBLISHER_TURN),
+    }
+}
+
+// Whether a pitch is out of range.
+fn bad_pitch(v: Pitch) -> bool
+    ensures { λ b. ⌜ b ≡ (ltZ v PITCH-LOW || ltZ PITCH-HIGH v) ⌝ }
+{
+    (v < PITCH_LOW) | (v > PITCH_HIGH)
+}
+
+// WRITE p v.
+pub fn write_entry(words: &mut [u64], entries: &mut [Pitch], p: u16, v: Pitch) -> Reply
+    requires { ⌜ Sound (now words) × (length (now entries) ≡ slots (now words) * TABLE) ⌝ }
+    ensures { λ a. ⌜ (let s = state (now (words .entry)) (now (entries .entry)) in outcome a (state (now (words .exit)) (now (entries .exit))) ≡ decide (writeTests s p v) (write s p v) s) ⌝ }
+{
+    if p as u64 >= publishers_of(words) {
+        return Reply::Refused(NO_SUCH_PUBLISHER);
+    }
+    if bad_pitch(v) {
+        return Reply::Refused(BAD_PITCH);
+    }
+    let at = p as usize;
+    let mut y = publisher_at(words, at);
+    let place = y.place;
+    match place {
+        1..=32 => {
+            entries[y.held as usize * TABLE + (place as usize - 1)] = v;
+            y.place = place + 1;
+            put_publisher(words, at, y);
+            Reply::Written(place)
+        }
+        _ => Reply::Refused(PUBLISHER_TURN),
+    }
+}
+
+// SWAP p.
+pub fn swap_in(words: &mut [u64], p: u16) -> Reply
+    requires { ⌜ Sound (now words) ⌝ }
+    ensures { λ a. ⌜ ((es : List ℤ) → let s = state (now (words .entry)) es in outcome a (state (now (words .exit)) es) ≡ decide (swapTests s p) (swap s p) s) ⌝ }
+{
+    if p as u64 >= publishers_of(words) {
+        return Reply::Refused(NO_SUCH_PUBLISHER);
+    }
+    let at = p as usize;
+    let mut y = publisher_at(words, at);
+    let place = y.place;
+    match place {
+        33 => {
+            let former = current_of(words);
+            let slot = y.held;
+            y.place = 34;
+            y.held = former;
+            put_publisher(words, at, y);
+            put_current(words, slot);
+            Reply::Swapped(former)
+        }
+        _ => Reply::Refused(PUBLISHER_TURN),
+    }
+}
+
+// SYNC p; up to which version it is allowed is the kind's own.
+pub fn start_sync(words: &mut [u64], p: u16, limit: u64) -> Reply
+    requires { ⌜ Sound (now words) ⌝ }
+    ensures { λ a. ⌜ ((vs : Versions) (es : List ℤ) → vs .isLast (version (now (words .entry))) ≡ ltb limit (version (now (words .entry))) → vs .markAt (version (now (words .entry))) ≡ (version (now (words .entry)) + 1) % MODULUS → let s = state (now (words .entry)) es in outcome a (state (now (words .exit)) es) ≡ decide (syncTests vs s p) (sync vs s p) s) ⌝ }
+{
+    if p as u64 >= publishers_of(words) {
+        return Reply::Refused(NO_SUCH_PUBLISHER);
+    }
+    let at = p as usize;
+    let mut y = publisher_at(words, at);
+    let place = y.place;
+    match place {
+        34 => {
+            let version = version_of(words);
+            if version > limit {
+                return Reply::Refused(VERSION_IS_LAST);
+            }
+            let mark = std::num::wrapping_add_u64(version, 1);
+            let walk = Walk {
+                mark: mark,
+                next: 0,
+                looks: 0,
+                waits: 0,
+            };
+            y.place = 35;
+            y.walk = walk;
+            put_publisher(words, at, y);
+            Reply::Synced(mark)
+        }
+        _ => Reply::Refused(PUBLISHER_TURN),
+    }
+}
+
+// The raise of publisher p, whose record is y; one before its mark is the kind's own.
+pub fn raise_version(words: &mut [u64], p: usize, y: Publisher, before: u64) -> Reply
+    requires { ⌜ Sound (now words) × (p < publishers (now words)) × (y ≡ publisherAt (now words) p) ⌝ }
+    ensures { λ a. ⌜ ((vs : Versions) (es : List ℤ) → before ≡ vs .beforeMark (y .walk .mark) → outcome a (state (now (words .exit)) es) ≡ raise vs (state (now (words .entry)) es) p) ⌝ }
+{
+    let version = version_of(words);
+    let mut moved = y;
+    moved.place = 37;
+    put_publisher(words, p, moved);
+    if version == before {
+        put_version(words, moved.walk.mark);
+        return Reply::Raised;
+    }
+    Reply::Shared
+}
+
+// Where a walk's answer leaves a publisher that is at this place.
+fn place_after(place: u64, reply: WalkReply) -> u64
+    ensures { λ n. ⌜ n ≡ placeAfter place reply ⌝ }
+{
+    match reply {
+        WalkReply::Waiting(_) => place,
+        WalkReply::Spent => place,
+        WalkReply::Quiet => 36,
+        WalkReply::Returned(_, _) => 38,
+    }
+}
+
+// The end of a WALK of publisher p, whose record is y: what its looks came to is recorded, and answered.
+pub fn end_walk(words: &mut [u64], p: usize, y: Publisher, k: Progress) -> Reply
+    requires { ⌜ Sound (now words) × (p < publishers (now words)) × (y ≡ publisherAt (now words) p) ⌝ }
+    ensures { λ a. ⌜ ((es : List ℤ) → outcome a (state (now (words .exit)) es) ≡ walk (state (now (words .entry)) es) p k) ⌝ }
+{
+    let reply = k.reply;
+    let walk = k.walk;
+    let mut moved = y;
+    moved.place = place_after(y.place, reply);
+    moved.walk = walk;
+    put_publisher(words, p, moved);
+    Reply::Walked(reply)
+}
+
+// RELEASE p.
+pub fn release_slot(words: &mut [u64], p: u16) -> Reply
+    requires { ⌜ Sound (now words) ⌝ }
+    ensures { λ a. ⌜ ((es : List ℤ) → let s = state (now (words .entry)) es in outcome a (state (now (words .exit)) es) ≡ decide (releaseTests s p) (release s p) s) ⌝ }
+{
+    if p as u64 >= publishers_of(words) {
+        return Reply::Refused(NO_SUCH_PUBLISHER);
+    }
+    let at = p as usize;
+    let mut y = publisher_at(words, at);
+    let place = y.place;
+    match place {
+        38 => {
+            let releases = std::num::wrapping_add_u64(releases_of(words), 1);
+            y.place = 0;
+            put_publisher(words, at, y);
+            put_releases(words, releases);
+            Reply::Freed(y.held, releases)
+        }
+        _ => Reply::Refused(PUBLISHER_TURN),
+    }
+}
+
+// Every entry feathered.
+fn feather(entries: &mut [Pitch])
+    ensures { λ _. ⌜ now (entries .exit) ≡ replicate (length (now (entries .entry))) FEATHERED ⌝ }
+{
+    for i in 0..entries.len() {
+        entries[i] = FEATHERED;
+    }
+}
+
+// Making of a store of this kind, whose fresh readers have published this; the kind says whether the first version is too large.
+pub fn make_store(words: &mut [u64], entries: &mut [Pitch], kind: u64, published: u64, readers: u16, publishers: u16, slots: u16, version: u64, large: bool) -> Reply
+    ensures { λ a. ⌜ ((vs : Versions) → large ≡ vs .tooLarge version → let s = state (now (words .entry)) (now (entries .entry)) in let g = given readers publishers slots version in outcome a (state (now (words .exit)) (now (entries .exit))) ≡ decide (makingTests vs g s) (outcome Made (made kind (blankReader published) g s)) s) ⌝ }
+{
+    if words.len() != WORDS {
+        return Reply::Refused(DAMAGED);
+    }
+    if (readers < 1) | (readers > READERS_MAX) {
+        return Reply::Refused(BAD_READERS);
+    }
+    if (publishers < 1) | (publishers > PUBLISHERS_MAX) {
+        return Reply::Refused(BAD_PUBLISHERS);
+    }
+    if (slots < SLOTS_MIN) | (slots > SLOTS_MAX) {
+        return Reply::Refused(BAD_SLOTS);
+    }
+    if entries.len() != (slots as usize) * TABLE {
+        return Reply::Refused(BAD_ENTRIES);
+    }
+    if large {
+        return Reply::Refused(BAD_VERSION);
+    }
+    put_fresh(words, kind, readers as u64, publishers as u64, slots as u64, version, published);
+    feather(entries);
+    Reply::Made
+}

@@ -1,0 +1,93 @@
+-- What an accepted shared call comes to, from what its code has come to know: the rows that do not apply, the record that it read, the words that it wrote.
+-- Assumes nothing.
+use Prim.Native.Nat.{ℕ, _+_, _-_, _*_, _%_, _<_, _≤_}
+use native.Mathlib.Omega.{arith}
+use mathlib.Core.Path.{_≡_, refl, sym, ap, _∙_}
+use mathlib.Core.Logic.{_≢_}
+use mathlib.Core.Bool.{Bool, true, false, not, _&&_, _||_}
+use mathlib.Core.List.{List, _∷_}
+use lib.IntN.{ℤ, pos}
+use lib.Signed.{ltZ}
+use lib.ListN.{getD, set, length, replicate}
+use lib.Dec.{leb, ltb, eqb}
+use borrow.Author.Tests.{eq-eqb, ne-eqb, lt-leb, le-ltb}
+use Rattle.calls.specs.declared.Call.{Call}
+use Rattle.calls.specs.declared.Reply.the-variants.{Made, Pitch, Claimed, Written, Swapped, Synced, Raised, Shared, Walked, Freed, Refused}
+use Rattle.calls.specs.Base.{pick}
+use Rattle.calls.specs.Numbers.{READERS-MAX, PUBLISHERS-MAX, SLOTS-MIN, SLOTS-MAX, TABLE, FEATHERED, PITCH-LOW, PITCH-HIGH, MODULUS, DAMAGED}
+use Rattle.calls.specs.Rows.{outside}
+use Rattle.calls.specs.RowLaws.{negated, not-outside}
+use Rattle.layout.specs.declared.Reader.{Reader}
+use Rattle.layout.specs.declared.Publisher.{Publisher}
+use Rattle.layout.specs.declared.Progress.{Progress}
+use Rattle.layout.specs.Layout.{WORDS, readers, publishers, slots, current, version, releases, readerAt, publisherAt, withPublisher, withCurrent, withVersion, withReleases, entryAt, fresh}
+use Rattle.statement.specs.Machine.{State, state, Outcome, outcome, given}
+use Rattle.publication_law.specs.Steps.{Versions, decide, atPlace, newWalk, anotherBusy, inUse, lookTests, look, claimTests, claim, writeTests, write, swapTests, swap, syncTests, sync, raise, placeAfter, walk, releaseTests, release, makingTests, made}
+use Rattle.publication_law.specs.Decide.{decide-accepts}
+use Rattle.publication_law.specs.Rules.{Rules, damaged, tests, act, rows, step}
+
+-- A call of a damaged store, and of one that is not.
+pub step-damaged : (R : Rules) (s : State) (c : Call) → damaged R s ≡ true → outcome (Refused DAMAGED) s ≡ step R s c
+unfolding step
+step-damaged R s c e = rw e refl
+
+pub step-undamaged : (R : Rules) (s : State) (c : Call) → damaged R s ≡ false → decide (tests R s c) (act R s c) s ≡ step R s c
+unfolding step
+step-undamaged R s c e = rw e refl
+
+not-at : (n m : ℕ) → n ≡ m → not (eqb n m) ≡ false
+not-at n m e = negated (eqb n m) (eq-eqb n m e)
+
+pub look-is : (w : List ℕ) (es : List ℤ) (r k : ℕ) (x : Reader) → r < readers w → k ≤ 31 → x ≡ readerAt w r → x .place ≡ 5
+    → outcome (Pitch (getD es (entryAt (x .picked) k) (pos 0))) (state w es) ≡ decide (lookTests (state w es) r k) (look (state w es) r k) (state w es)
+look-is w es r k x named low is turn =
+    rw is (sym (decide-accepts (lookTests (state w es) r k) (look (state w es) r k) (state w es) (lt-leb _ _ named, (le-ltb _ _ low, (not-at _ 5 (rw is at turn), tt)))))
+
+module _ (w : List ℕ) (p : ℕ) (y : Publisher) (named : p < publishers w) (is : y ≡ publisherAt w p) where
+  pub claim-is : (v : List ℕ) (exclusive : Bool) (x : ℕ) → x < slots w → y .place ≡ 0 → ((es : List ℤ) → exclusive && anotherBusy (state w es) p ≡ false) → ((es : List ℤ) → inUse (state w es) x ≡ false)
+      → v ≡ withPublisher w p (record { place = 1; held = x; walk = y .walk })
+      → (es : List ℤ) → outcome (Claimed x) (state v es) ≡ decide (claimTests exclusive (state w es) p x) (claim (state w es) p x) (state w es)
+  claim-is v exclusive x slot turn busy used put es =
+      rw (put, is) (sym (decide-accepts (claimTests exclusive (state w es) p x) (claim (state w es) p x) (state w es) (lt-leb _ _ named, (lt-leb _ _ slot, (not-at _ 0 (rw is at turn), (busy es, (used es, tt)))))))
+
+  pub write-is : (v : List ℕ) (es : List ℤ) (a : ℤ) → (ltZ a PITCH-LOW || ltZ PITCH-HIGH a) ≡ false → 1 ≤ y .place → y .place ≤ 32
+      → v ≡ withPublisher w p (atPlace y (y .place + 1))
+      → outcome (Written (y .place)) (state v (set es (entryAt (y .held) (y .place - 1)) a)) ≡ decide (writeTests (state w es) p a) (write (state w es) p a) (state w es)
+  write-is v es a range low high put =
+      rw (put, is) (sym (decide-accepts (writeTests (state w es) p a) (write (state w es) p a) (state w es) (lt-leb _ _ named, (range, (not-outside 1 32 _ (rw is at low) (rw is at high), tt)))))
+
+  pub swap-is : (v : List ℕ) (former : ℕ) → former ≡ current w → y .place ≡ 33
+      → v ≡ withCurrent (withPublisher w p (record { place = 34; held = former; walk = y .walk })) (y .held)
+      → (es : List ℤ) → outcome (Swapped former) (state v es) ≡ decide (swapTests (state w es) p) (swap (state w es) p) (state w es)
+  swap-is v former was turn put es =
+      rw (put, was, is) (sym (decide-accepts (swapTests (state w es) p) (swap (state w es) p) (state w es) (lt-leb _ _ named, (not-at _ 33 (rw is at turn), tt))))
+
+  pub sync-is : (vs : Versions) (v : List ℕ) (mark : ℕ) → y .place ≡ 34 → vs .isLast (version w) ≡ false → mark ≡ vs .markAt (version w)
+      → v ≡ withPublisher w p (record { place = 35; held = y .held; walk = newWalk mark })
+      → (es : List ℤ) → outcome (Synced mark) (state v es) ≡ decide (syncTests vs (state w es) p) (sync vs (state w es) p) (state w es)
+  sync-is vs v mark turn room marked put es =
+      rw (put, marked, is) (sym (decide-accepts (syncTests vs (state w es) p) (sync vs (state w es) p) (state w es) (lt-leb _ _ named, (not-at _ 34 (rw is at turn), (room, tt)))))
+
+  pub raised-is : (vs : Versions) (v : List ℕ) → version w ≡ vs .beforeMark (y .walk .mark) → v ≡ withVersion (withPublisher w p (atPlace y 37)) (y .walk .mark)
+      → (es : List ℤ) → outcome Raised (state v es) ≡ raise vs (state w es) p
+  raised-is vs v e put es = rw (put, is, eq-eqb _ _ (rw is at e)) refl
+
+  pub shared-is : (vs : Versions) (v : List ℕ) → version w ≢ vs .beforeMark (y .walk .mark) → v ≡ withPublisher w p (atPlace y 37)
+      → (es : List ℤ) → outcome Shared (state v es) ≡ raise vs (state w es) p
+  shared-is vs v ne put es = rw (put, is, ne-eqb _ _ (rw is at ne)) refl
+
+  pub walked-is : (v : List ℕ) (k : Progress) → v ≡ withPublisher w p (record { place = placeAfter (y .place) (k .reply); held = y .held; walk = k .walk })
+      → (es : List ℤ) → outcome (Walked (k .reply)) (state v es) ≡ walk (state w es) p k
+  walked-is v k put es = rw (put, is) refl
+
+  pub release-is : (v : List ℕ) (n : ℕ) → y .place ≡ 38 → n ≡ (releases w + 1) % MODULUS → v ≡ withReleases (withPublisher w p (atPlace y 0)) n
+      → (es : List ℤ) → outcome (Freed (y .held) n) (state v es) ≡ decide (releaseTests (state w es) p) (release (state w es) p) (state w es)
+  release-is v n turn more put es =
+      rw (put, more, is) (sym (decide-accepts (releaseTests (state w es) p) (release (state w es) p) (state w es) (lt-leb _ _ named, (not-at _ 38 (rw is at turn), tt))))
+
+pub make-is : (vs : Versions) (w v : List ℕ) (es fs : List ℤ) (kind rs ps ss ver : ℕ) (x : Reader) → length w ≡ WORDS → outside 1 READERS-MAX rs ≡ false → outside 1 PUBLISHERS-MAX ps ≡ false → outside SLOTS-MIN SLOTS-MAX ss ≡ false
+    → length es ≡ ss * TABLE → vs .tooLarge ver ≡ false → v ≡ fresh kind rs ps ss ver x → fs ≡ replicate (length es) FEATHERED
+    → outcome Made (state v fs) ≡ decide (makingTests vs (given rs ps ss ver) (state w es)) (outcome Made (made kind x (given rs ps ss ver) (state w es))) (state w es)
+make-is vs w v es fs kind rs ps ss ver x long a b c d e put fill =
+    rw (put, fill) (sym (decide-accepts (makingTests vs (given rs ps ss ver) (state w es)) (outcome Made (made kind x (given rs ps ss ver) (state w es))) (state w es)
+    (negated _ (eq-eqb _ _ long), (a, (b, (c, (negated _ (eq-eqb _ _ d), (e, tt))))))))
