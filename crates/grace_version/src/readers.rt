@@ -20,34 +20,35 @@ use layout::put_reader;
 use publication::look_up;
 use crate::damage::is_damaged;
 
-// Moves reader r, whose record is x, one place on. At 3 an undamaged store's reader has published the version that it loaded first.
-fn advance(words: &mut [u64], r: usize, mut x: Reader)
-    ensures { λ _. ⌜ now (words .exit) ≡ withReader (now (words .entry)) r (onward (version (now (words .entry))) (current (now (words .entry))) x) ⌝ }
+// A reader one place on. At 3 an undamaged store's reader has published the version that it loaded first.
+fn advanced(mut x: Reader, version: u64, current: u64) -> Reader
+    requires { ⌜ (x .place < 5) × (x .place ≡ 3 → x .published ≡ x .first) ⌝ }
+    ensures { λ y. ⌜ y ≡ onward version current x ⌝ }
 {
     let place = x.place;
     x.place = place + 1;
     match place {
         0 => {
-            x.first = version_of(words);
-            put_reader(words, r, x);
+            x.first = version;
+            x
         }
         1 => {
             x.published = x.first;
-            put_reader(words, r, x);
+            x
         }
         2 => {
-            x.second = version_of(words);
-            put_reader(words, r, x);
+            x.second = version;
+            x
         }
         3 => {
             if x.first != x.second {
                 x.published = x.second;
             }
-            put_reader(words, r, x);
+            x
         }
         _ => {
-            x.picked = current_of(words);
-            put_reader(words, r, x);
+            x.picked = current;
+            x
         }
     }
 }
@@ -66,8 +67,9 @@ pub fn enter(words: &mut [u64], entries: &[Pitch], r: u16) -> Reply
     if x.place >= 5 {
         return Reply::Refused(READER_TURN);
     }
-    advance(words, at, x);
-    Reply::At(x.place + 1)
+    let moved = advanced(x, version_of(words), current_of(words));
+    put_reader(words, at, moved);
+    Reply::At(moved.place)
 }
 
 pub fn look(words: &[u64], entries: &[Pitch], r: u16, k: u16) -> Reply

@@ -43,28 +43,32 @@ reader-below K s f r l = omega (arith, f .head .readers-high)
 pub publisher-below : (K : Kind) (s : State) → Fine K s → (p : ℕ) → p < publishers (s .words) → p < PUBLISHERS-MAX
 publisher-below K s f p l = omega (arith, f .head .publishers-high)
 
-pub fine-of : (K : Kind) (s : State) → sharedDamage K s ≡ false → Fine K s
-fine-of K s e =
-    let a = or-false (anyTrue (headRows K s) || readersDamaged K s) (publishersDamaged K s) e in
-    let b = or-false (anyTrue (headRows K s)) (readersDamaged K s) (a .0) in
-    let f = all-false (headRows K s) (b .0) in
+pub head-of : (K : Kind) (s : State) → anyTrue (headRows K s) ≡ false → HeadFine K s
+head-of K s e =
+    let f = all-false (headRows K s) e in
     let rs = within 1 READERS-MAX (readers (s .words)) (f .1 .1 .0) in
     let ps = within 1 PUBLISHERS-MAX (publishers (s .words)) (f .1 .1 .1 .0) in
     let ss = within SLOTS-MIN SLOTS-MAX (slots (s .words)) (f .1 .1 .1 .1 .0) in
     record {
-      head = record {
-        long = eqb-true _ _ (not-false _ (f .0));
-        kind-is = eqb-true _ _ (not-false _ (f .1 .0));
-        readers-low = rs .0;
-        readers-high = rs .1;
-        publishers-low = ps .0;
-        publishers-high = ps .1;
-        slots-low = ss .0;
-        slots-high = ss .1;
-        entries-are = eqb-true _ _ (not-false _ (f .1 .1 .1 .1 .1 .0));
-        current-below = leb-false _ _ (f .1 .1 .1 .1 .1 .1 .0);
-        version-fits = f .1 .1 .1 .1 .1 .1 .1 .0;
-      };
+      long = eqb-true _ _ (not-false _ (f .0));
+      kind-is = eqb-true _ _ (not-false _ (f .1 .0));
+      readers-low = rs .0;
+      readers-high = rs .1;
+      publishers-low = ps .0;
+      publishers-high = ps .1;
+      slots-low = ss .0;
+      slots-high = ss .1;
+      entries-are = eqb-true _ _ (not-false _ (f .1 .1 .1 .1 .1 .0));
+      current-below = leb-false _ _ (f .1 .1 .1 .1 .1 .1 .0);
+      version-fits = f .1 .1 .1 .1 .1 .1 .1 .0;
+    }
+
+pub fine-of : (K : Kind) (s : State) → sharedDamage K s ≡ false → Fine K s
+fine-of K s e =
+    let a = or-false (anyTrue (headRows K s) || readersDamaged K s) (publishersDamaged K s) e in
+    let b = or-false (anyTrue (headRows K s)) (readersDamaged K s) (a .0) in
+    record {
+      head = head-of K s (b .0);
       readers-fine = λ r l. none-below (λ r. K .readerDamaged (slots (s .words)) (reader s r)) (readers (s .words)) r (b .1) l;
       publishers-fine = λ p l. none-below (λ p. K .publisherDamaged (readers (s .words)) (slots (s .words)) (publisher s p)) (publishers (s .words)) p (a .1) l;
     }
