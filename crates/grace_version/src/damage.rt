@@ -10,18 +10,16 @@ ghost use Rattle.layout.specs.Layout.{WORDS, readerAt, publisherAt};
 ghost use Rattle.statement.specs.Machine.{state};
 ghost use Rattle.publication_law.specs.Rules.{damaged};
 ghost use Rattle.grace_version_law.specs.Steps.{kind, readerRows, rules};
+use crate::by_value::GraceVersion;
 use calls::KIND_NEW;
-use layout::Reader;
 use layout::Publisher;
-use layout::readers_of;
-use layout::publishers_of;
-use layout::slots_of;
-use layout::reader_at;
+use layout::Reader;
 use layout::publisher_at;
+use layout::publishers_of;
+use layout::reader_at;
+use layout::readers_of;
+use layout::slots_of;
 use publication::head_damaged;
-
-// The last version: 2^64 - 2.
-pub const LAST: u64 = 18446744073709551614;
 
 // Whether a reader's record is spoiled.
 fn reader_damaged(x: Reader, slots: u64) -> bool
@@ -69,7 +67,7 @@ fn publisher_damaged(y: Publisher, readers: u64, slots: u64) -> bool
         return true;
     }
     let walk = y.walk;
-    if (walk.mark == 0) | (walk.mark > LAST) {
+    if (walk.mark == 0) | (walk.mark > GraceVersion::LAST) {
         return true;
     }
     if walk.waits > walk.looks {
@@ -99,7 +97,7 @@ fn publishers_damaged(words: &[u64], n: u64, readers: u64, slots: u64) -> bool
 pub fn is_damaged(words: &[u64], entries: usize) -> bool
     ensures { λ b. ⌜ ((es : List ℤ) → length es ≡ entries → b ≡ damaged rules (state (now (words .entry)) es)) ⌝ }
 {
-    if head_damaged(words, entries, KIND_NEW, LAST) {
+    if head_damaged(words, entries, KIND_NEW, GraceVersion::LAST) {
         return true;
     }
     let readers = readers_of(words);

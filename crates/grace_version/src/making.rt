@@ -3,15 +3,32 @@ ghost use mathlib.Core.Path.{_≡_};
 ghost use Rattle.statement.specs.Machine.{state, outcome, given};
 ghost use Rattle.publication_law.specs.Rules.{making};
 ghost use Rattle.grace_version_law.specs.Steps.{rules};
+use crate::by_value::GraceVersion;
+use calls::KIND_NEW;
+use calls::NOT_READING;
 use calls::Pitch;
 use calls::Reply;
-use calls::NOT_READING;
-use calls::KIND_NEW;
 use publication::make_store;
-use crate::damage::LAST;
 
-pub fn make(words: &mut [u64], entries: &mut [Pitch], readers: u16, publishers: u16, slots: u16, version: u64) -> Reply
+pub fn make(
+    words: &mut [u64],
+    entries: &mut [Pitch],
+    readers: u16,
+    publishers: u16,
+    slots: u16,
+    version: u64,
+) -> Reply
     ensures { λ a. ⌜ outcome a (state (now (words .exit)) (now (entries .exit))) ≡ making rules (given readers publishers slots version) (state (now (words .entry)) (now (entries .entry))) ⌝ }
 {
-    make_store(words, entries, KIND_NEW, NOT_READING, readers, publishers, slots, version, version > LAST)
+    make_store(
+        words,
+        entries,
+        KIND_NEW,
+        NOT_READING,
+        readers,
+        publishers,
+        slots,
+        version,
+        version > GraceVersion::LAST,
+    )
 }

@@ -4,21 +4,21 @@ ghost use Rattle.calls.specs.declared.Call.the-variants.{Claim, Write, Swap, Sy
 ghost use Rattle.statement.specs.Machine.{state, outcome};
 ghost use Rattle.publication_law.specs.Rules.{step};
 ghost use Rattle.grace_version_law.specs.Steps.{rules};
-use calls::Pitch;
-use calls::Reply;
+use crate::by_value::GraceVersion;
+use crate::damage::is_damaged;
 use calls::DAMAGED;
 use calls::NO_SUCH_PUBLISHER;
 use calls::PUBLISHER_TURN;
-use layout::publishers_of;
+use calls::Pitch;
+use calls::Reply;
 use layout::publisher_at;
+use layout::publishers_of;
 use publication::claim_slot;
-use publication::write_entry;
-use publication::swap_in;
-use publication::start_sync;
 use publication::raise_version;
 use publication::release_slot;
-use crate::damage::LAST;
-use crate::damage::is_damaged;
+use publication::start_sync;
+use publication::swap_in;
+use publication::write_entry;
 
 pub fn claim(words: &mut [u64], entries: &[Pitch], p: u16, x: u16) -> Reply
     ensures { λ a. ⌜ outcome a (state (now (words .exit)) (now (entries .entry))) ≡ step rules (state (now (words .entry)) (now (entries .entry))) (Claim p x) ⌝ }
@@ -53,7 +53,7 @@ pub fn sync(words: &mut [u64], entries: &[Pitch], p: u16) -> Reply
     if is_damaged(words, entries.len()) {
         return Reply::Refused(DAMAGED);
     }
-    start_sync(words, p, LAST - 1)
+    start_sync(words, p, GraceVersion::LAST - 1)
 }
 
 pub fn raise(words: &mut [u64], entries: &[Pitch], p: u16) -> Reply

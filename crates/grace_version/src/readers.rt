@@ -5,20 +5,20 @@ ghost use Rattle.calls.specs.declared.Call.the-variants.{Enter, Look, Leave};
 ghost use Rattle.statement.specs.Machine.{state, outcome};
 ghost use Rattle.publication_law.specs.Rules.{step};
 ghost use Rattle.grace_version_law.specs.Steps.{onward, rules};
-use calls::Pitch;
-use calls::Reply;
-use calls::NOT_READING;
+use crate::damage::is_damaged;
 use calls::DAMAGED;
 use calls::NO_SUCH_READER;
+use calls::NOT_READING;
+use calls::Pitch;
 use calls::READER_TURN;
+use calls::Reply;
 use layout::Reader;
-use layout::readers_of;
 use layout::current_of;
-use layout::version_of;
-use layout::reader_at;
 use layout::put_reader;
+use layout::reader_at;
+use layout::readers_of;
+use layout::version_of;
 use publication::look_up;
-use crate::damage::is_damaged;
 
 // A reader one place on. At 3 an undamaged store's reader has published the version that it loaded first.
 fn advanced(mut x: Reader, version: u64, current: u64) -> Reader

@@ -8,21 +8,21 @@ ghost use Rattle.layout.specs.Layout.{WORDS};
 ghost use Rattle.statement.specs.Machine.{state, outcome};
 ghost use Rattle.publication_law.specs.Rules.{step};
 ghost use Rattle.grace_version_law.specs.Steps.{lookedAt, looksFrom, rules};
-use calls::Pitch;
-use calls::Reply;
-use calls::WalkReply;
+use crate::damage::is_damaged;
 use calls::DAMAGED;
 use calls::NO_SUCH_PUBLISHER;
 use calls::PUBLISHER_TURN;
+use calls::Pitch;
+use calls::Reply;
 use calls::TOO_MANY_LOOKS;
-use layout::Walk;
+use calls::WalkReply;
 use layout::Progress;
-use layout::readers_of;
+use layout::Walk;
+use layout::publisher_at;
 use layout::publishers_of;
 use layout::reader_at;
-use layout::publisher_at;
+use layout::readers_of;
 use publication::end_walk;
-use crate::damage::is_damaged;
 
 // The reader that a walk looks at when so many of n readers have passed.
 fn looked_at(n: u64, passed: u64) -> u64
@@ -65,7 +65,10 @@ fn looks(words: &[u64], n: u64, walk: Walk, b: u16) -> Progress
         looks: looks,
         waits: waits,
     };
-    Progress { walk: moved, reply: reply }
+    Progress {
+        walk: moved,
+        reply: reply,
+    }
 }
 
 pub fn walk(words: &mut [u64], entries: &[Pitch], p: u16, b: u16) -> Reply

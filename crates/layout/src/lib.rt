@@ -6,8 +6,8 @@ ghost use Prim.Native.Nat.{_<_};
 ghost use lib.ListN.{length, replicate};
 ghost use Rattle.calls.specs.Numbers.{READERS-MAX, PUBLISHERS-MAX};
 ghost use Rattle.layout.specs.Layout.{WORDS, INDICATORS, kind, readers, publishers, slots, current, version, releases, indicator, withCurrent, withVersion, withReleases, withIndicator, readerAt, publisherAt, withReader, withPublisher, withReaders, blankReader, fresh};
-use calls::WalkReply;
 use calls::READERS_MAX;
+use calls::WalkReply;
 
 // The length of a store's words.
 pub const WORDS: usize = 425;
@@ -254,7 +254,15 @@ fn publish_all(words: &mut [u64], published: u64)
 }
 
 // Fresh words: all 0, but for a head and what each reader has published.
-pub fn put_fresh(words: &mut [u64], kind: u64, readers: u64, publishers: u64, slots: u64, version: u64, published: u64)
+pub fn put_fresh(
+    words: &mut [u64],
+    kind: u64,
+    readers: u64,
+    publishers: u64,
+    slots: u64,
+    version: u64,
+    published: u64,
+)
     requires { ⌜ length (now words) ≡ WORDS ⌝ }
     ensures { λ _. ⌜ now (words .exit) ≡ fresh kind readers publishers slots version (blankReader published) ⌝ }
 {

@@ -17,51 +17,51 @@ ghost use Rattle.statement.specs.Machine.{state, outcome, given};
 ghost use Rattle.publication_law.specs.Steps.{Versions, decide, anotherBusy, inUse, lookTests, look, claimTests, claim, writeTests, write, swapTests, swap, syncTests, sync, raise, walk, placeAfter, releaseTests, release, makingTests, made};
 ghost use Rattle.publication_law.specs.Damage.{Kind, headRows, publisherRows};
 ghost use Rattle.publication_law.specs.Sound.{Sound};
-use calls::Pitch;
-use calls::Reply;
-use calls::WalkReply;
-use calls::TABLE;
-use calls::PITCH_LOW;
-use calls::PITCH_HIGH;
-use calls::READERS_MAX;
-use calls::PUBLISHERS_MAX;
-use calls::SLOTS_MIN;
-use calls::SLOTS_MAX;
-use calls::FEATHERED;
-use calls::DAMAGED;
-use calls::BAD_READERS;
-use calls::BAD_PUBLISHERS;
-use calls::BAD_SLOTS;
 use calls::BAD_ENTRIES;
-use calls::BAD_VERSION;
-use calls::NO_SUCH_READER;
-use calls::NO_SUCH_PUBLISHER;
-use calls::NO_SUCH_SLOT;
-use calls::NO_SUCH_ENTRY;
 use calls::BAD_PITCH;
-use calls::READER_TURN;
-use calls::PUBLISHER_TURN;
-use calls::SLOT_IN_USE;
+use calls::BAD_PUBLISHERS;
+use calls::BAD_READERS;
+use calls::BAD_SLOTS;
+use calls::BAD_VERSION;
 use calls::BUSY;
+use calls::DAMAGED;
+use calls::FEATHERED;
+use calls::NO_SUCH_ENTRY;
+use calls::NO_SUCH_PUBLISHER;
+use calls::NO_SUCH_READER;
+use calls::NO_SUCH_SLOT;
+use calls::PITCH_HIGH;
+use calls::PITCH_LOW;
+use calls::PUBLISHER_TURN;
+use calls::PUBLISHERS_MAX;
+use calls::Pitch;
+use calls::READER_TURN;
+use calls::READERS_MAX;
+use calls::Reply;
+use calls::SLOT_IN_USE;
+use calls::SLOTS_MAX;
+use calls::SLOTS_MIN;
+use calls::TABLE;
 use calls::VERSION_IS_LAST;
-use layout::WORDS;
-use layout::Publisher;
+use calls::WalkReply;
 use layout::Progress;
+use layout::Publisher;
+use layout::WORDS;
 use layout::Walk;
-use layout::kind_of;
-use layout::readers_of;
-use layout::publishers_of;
-use layout::slots_of;
 use layout::current_of;
-use layout::version_of;
-use layout::releases_of;
-use layout::put_current;
-use layout::put_version;
-use layout::put_releases;
-use layout::reader_at;
+use layout::kind_of;
 use layout::publisher_at;
-use layout::put_publisher;
+use layout::publishers_of;
+use layout::put_current;
 use layout::put_fresh;
+use layout::put_publisher;
+use layout::put_releases;
+use layout::put_version;
+use layout::reader_at;
+use layout::readers_of;
+use layout::releases_of;
+use layout::slots_of;
+use layout::version_of;
 
 // Whether the head spoils a store of this kind, with so many entries, whose last version is given.
 pub fn head_damaged(words: &[u64], entries: usize, kind: u64, last: u64) -> bool
@@ -353,7 +353,17 @@ fn feather(entries: &mut [Pitch])
 }
 
 // Making of a store of this kind, whose fresh readers have published this; the kind says whether the first version is too large.
-pub fn make_store(words: &mut [u64], entries: &mut [Pitch], kind: u64, published: u64, readers: u16, publishers: u16, slots: u16, version: u64, large: bool) -> Reply
+pub fn make_store(
+    words: &mut [u64],
+    entries: &mut [Pitch],
+    kind: u64,
+    published: u64,
+    readers: u16,
+    publishers: u16,
+    slots: u16,
+    version: u64,
+    large: bool,
+) -> Reply
     ensures { λ a. ⌜ ((vs : Versions) → large ≡ vs .tooLarge version → let s = state (now (words .entry)) (now (entries .entry)) in let g = given readers publishers slots version in outcome a (state (now (words .exit)) (now (entries .exit))) ≡ decide (makingTests vs g s) (outcome Made (made kind (blankReader published) g s)) s) ⌝ }
 {
     if words.len() != WORDS {
@@ -374,7 +384,15 @@ pub fn make_store(words: &mut [u64], entries: &mut [Pitch], kind: u64, published
     if large {
         return Reply::Refused(BAD_VERSION);
     }
-    put_fresh(words, kind, readers as u64, publishers as u64, slots as u64, version, published);
+    put_fresh(
+        words,
+        kind,
+        readers as u64,
+        publishers as u64,
+        slots as u64,
+        version,
+        published,
+    );
     feather(entries);
     Reply::Made
 }

@@ -46,9 +46,14 @@ loop-less : tie.Need-loop-less Inv-loop μ-loop
 loop-less c = search needs
 
 loop-again : tie.Need-loop-again Inv-loop μ-loop
-loop-again c = let k = c .before .before .before .before .before .before .loop in
-    (search needs, search needs, search needs, search needs, search needs,
-    k .inv .5 ∙ looks-on _ _ _ _ _ _ _ (omega arith) (rw (c .before .before .before .reader-at .ensures, c .before .before .before .before .looked-at .ensures) at (c .before .if2 .left)) (omega arith))
+loop-again c = let k = c .before .before .before .before .before .before .loop in (
+  search needs,
+  search needs,
+  search needs,
+  search needs,
+  search needs,
+  k .inv .5 ∙ looks-on _ _ _ _ _ _ _ (omega arith) (rw (c .before .before .before .reader-at .ensures, c .before .before .before .before .looked-at .ensures) at (c .before .if2 .left)) (omega arith),
+)
 
 returns : tie.Need-returns Inv-loop μ-loop
 returns c = sym (c .before .loop .inv .5 ∙ looks-spent _ _ _ _ _ _ _ (omega arith))
