@@ -1,8 +1,176 @@
-// The new store, GraceVersion: making and the ten calls, in place on lent words and entries.
-// Each is total, and its contract is the step of grace_version_law. It uses publication and what lies below.
-pub mod by_value;
-pub mod damage;
-pub mod making;
-pub mod publishers;
-pub mod readers;
-pub mod walking;
+// The new store, GraceVersion, by value: making and the ten calls as methods that take the store and hand it back with the reply, entries lent beside it.
+// Each is a thin shell over the call in place, with the same equation. It uses the grace_version crates and what lies below.
+ghost use mathlib.Core.Path.{_≡_};
+ghost use lib.ListN.{replicate};
+ghost use Rattle.calls.specs.declared.Call.the-variants.{Enter, Look, Leave, Claim, Write, Swap, Sync, Raise, Walk, Release};
+ghost use Rattle.layout.specs.Layout.{WORDS};
+ghost use Rattle.statement.specs.Machine.{state, outcome, given};
+ghost use Rattle.publication_law.specs.Rules.{step, making};
+ghost use Rattle.grace_version_law.specs.Steps.{rules};
+use calls::Pitch;
+use calls::Reply;
+use grace_version_publishers::claim;
+use grace_version_publishers::make;
+use grace_version_publishers::raise;
+use grace_version_publishers::release;
+use grace_version_publishers::swap;
+use grace_version_publishers::sync;
+use grace_version_publishers::write;
+use grace_version_readers::enter;
+use grace_version_readers::leave;
+use grace_version_readers::look;
+use grace_version_walk::walk;
+use layout::WORDS;
+
+// A store's control state.
+pub struct GraceVersion {
+    pub words: [u64; WORDS],
+}
+
+// A store handed back, and the reply.
+pub struct Stepped {
+    pub store: GraceVersion,
+    pub reply: Reply,
+}
+
+impl GraceVersion {
+    // The last version: 2^64 - 2.
+    pub const LAST: u64 = grace_version_damage::LAST;
+
+    // A refused making hands back a store with every number 0.
+    pub fn make(
+        entries: &mut [Pitch],
+        readers: u16,
+        publishers: u16,
+        slots: u16,
+        version: u64,
+    ) -> Stepped
+        ensures { λ s. ⌜ outcome (s .reply) (state (s .store .words) (now (entries .exit))) ≡ making rules (given readers publishers slots version) (state (replicate WORDS 0) (now (entries .entry))) ⌝ }
+    {
+        let mut words = [0u64; WORDS];
+        let reply = make(&mut words, entries, readers, publishers, slots, version);
+        Stepped {
+            store: GraceVersion { words: words },
+            reply: reply,
+        }
+    }
+
+    pub fn enter(mut self, entries: &[Pitch], r: u16) -> Stepped
+        ensures { λ s. ⌜ outcome (s .reply) (state (s .store .words) (now (entries .entry))) ≡ step rules (state (self .words) (now (entries .entry))) (Enter r) ⌝ }
+    {
+        let mut words = self.words;
+        let reply = enter(&mut words, entries, r);
+        self.words = words;
+        Stepped {
+            store: self,
+            reply: reply,
+        }
+    }
+
+    pub fn look(self, entries: &[Pitch], r: u16, k: u16) -> Stepped
+        ensures { λ s. ⌜ outcome (s .reply) (state (s .store .words) (now (entries .entry))) ≡ step rules (state (self .words) (now (entries .entry))) (Look r k) ⌝ }
+    {
+        let words = self.words;
+        let reply = look(&words, entries, r, k);
+        Stepped {
+            store: self,
+            reply: reply,
+        }
+    }
+
+    pub fn leave(mut self, entries: &[Pitch], r: u16) -> Stepped
+        ensures { λ s. ⌜ outcome (s .reply) (state (s .store .words) (now (entries .entry))) ≡ step rules (state (self .words) (now (entries .entry))) (Leave r) ⌝ }
+    {
+        let mut words = self.words;
+        let reply = leave(&mut words, entries, r);
+        self.words = words;
+        Stepped {
+            store: self,
+            reply: reply,
+        }
+    }
+
+    pub fn claim(mut self, entries: &[Pitch], p: u16, x: u16) -> Stepped
+        ensures { λ s. ⌜ outcome (s .reply) (state (s .store .words) (now (entries .entry))) ≡ step rules (state (self .words) (now (entries .entry))) (Claim p x) ⌝ }
+    {
+        let mut words = self.words;
+        let reply = claim(&mut words, entries, p, x);
+        self.words = words;
+        Stepped {
+            store: self,
+            reply: reply,
+        }
+    }
+
+    pub fn write(mut self, entries: &mut [Pitch], p: u16, v: Pitch) -> Stepped
+        ensures { λ s. ⌜ outcome (s .reply) (state (s .store .words) (now (entries .exit))) ≡ step rules (state (self .words) (now (entries .entry))) (Write p v) ⌝ }
+    {
+        let mut words = self.words;
+        let reply = write(&mut words, entries, p, v);
+        self.words = words;
+        Stepped {
+            store: self,
+            reply: reply,
+        }
+    }
+
+    pub fn swap(mut self, entries: &[Pitch], p: u16) -> Stepped
+        ensures { λ s. ⌜ outcome (s .reply) (state (s .store .words) (now (entries .entry))) ≡ step rules (state (self .words) (now (entries .entry))) (Swap p) ⌝ }
+    {
+        let mut words = self.words;
+        let reply = swap(&mut words, entries, p);
+        self.words = words;
+        Stepped {
+            store: self,
+            reply: reply,
+        }
+    }
+
+    pub fn sync(mut self, entries: &[Pitch], p: u16) -> Stepped
+        ensures { λ s. ⌜ outcome (s .reply) (state (s .store .words) (now (entries .entry))) ≡ step rules (state (self .words) (now (entries .entry))) (Sync p) ⌝ }
+    {
+        let mut words = self.words;
+        let reply = sync(&mut words, entries, p);
+        self.words = words;
+        Stepped {
+            store: self,
+            reply: reply,
+        }
+    }
+
+    pub fn raise(mut self, entries: &[Pitch], p: u16) -> Stepped
+        ensures { λ s. ⌜ outcome (s .reply) (state (s .store .words) (now (entries .entry))) ≡ step rules (state (self .words) (now (entries .entry))) (Raise p) ⌝ }
+    {
+        let mut words = self.words;
+        let reply = raise(&mut words, entries, p);
+        self.words = words;
+        Stepped {
+            store: self,
+            reply: reply,
+        }
+    }
+
+    pub fn walk(mut self, entries: &[Pitch], p: u16, b: u16) -> Stepped
+        ensures { λ s. ⌜ outcome (s .reply) (state (s .store .words) (now (entries .entry))) ≡ step rules (state (self .words) (now (entries .entry))) (Walk p b) ⌝ }
+    {
+        let mut words = self.words;
+        let reply = walk(&mut words, entries, p, b);
+        self.words = words;
+        Stepped {
+            store: self,
+            reply: reply,
+        }
+    }
+
+    pub fn release(mut self, entries: &[Pitch], p: u16) -> Stepped
+        ensures { λ s. ⌜ outcome (s .reply) (state (s .store .words) (now (entries .entry))) ≡ step rules (state (self .words) (now (entries .entry))) (Release p) ⌝ }
+    {
+        let mut words = self.words;
+        let reply = release(&mut words, entries, p);
+        self.words = words;
+        Stepped {
+            store: self,
+            reply: reply,
+        }
+    }
+}

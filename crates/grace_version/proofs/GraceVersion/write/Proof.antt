@@ -1,0 +1,24 @@
+use borrow.Author.Needs.{needs}
+use native.Mathlib.Omega.{arith}
+use lib.ListN.{length, getD, set, length-set}
+use mir.ValLaws.{toZ-ofZ}
+use Rattle.grace_version.proofs.GraceVersion.write.Statement.{statement}
+use Rattle.grace_version.proofs.GraceVersion.write.Tie as tie
+use Rattle.grace_version.proofs.GraceVersion.write.Reads as reads
+use Rattle.grace_version.proofs.GraceVersion.write.Lts as lts
+use Rattle.grace_version_publishers.proofs.write.Reads as write-reads
+
+slice-aggregate-write : tie.Need-slice-aggregate-write
+slice-aggregate-write c = search needs
+
+write-requires : tie.Need-write-requires
+write-requires c κs = search needs
+
+same-length : tie.Need-same-length
+same-length c = search needs
+
+returns : tie.Need-returns
+returns c = simp (toZ-ofZ _ _ (c .before .before .before .before .before .before .fits .v)) at (c .before .before .write .ensures)
+
+pub write-spec : {M : Type 1} → statement M
+write-spec = tie.close (tie.spec slice-aggregate-write write-requires same-length returns)

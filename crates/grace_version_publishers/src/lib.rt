@@ -1,0 +1,112 @@
+// Making, CLAIM, WRITE, SWAP, SYNC, RAISE and RELEASE of the new store, in place on the lent words and entries.
+// Each is total, and its contract is the step (or the making) of grace_version_law.
+// It uses grace_version_damage, publication and what lies below.
+ghost use mathlib.Core.Path.{_≡_};
+ghost use Rattle.calls.specs.declared.Call.the-variants.{Claim, Write, Swap, Sync, Raise, Release};
+ghost use Rattle.statement.specs.Machine.{state, outcome, given};
+ghost use Rattle.publication_law.specs.Rules.{step, making};
+ghost use Rattle.grace_version_law.specs.Steps.{rules};
+use calls::DAMAGED;
+use calls::KIND_NEW;
+use calls::NO_SUCH_PUBLISHER;
+use calls::NOT_READING;
+use calls::PUBLISHER_TURN;
+use calls::Pitch;
+use calls::Reply;
+use grace_version_damage::LAST;
+use grace_version_damage::is_damaged;
+use layout::publisher_at;
+use layout::publishers_of;
+use publication::claim_slot;
+use publication::make_store;
+use publication::raise_version;
+use publication::release_slot;
+use publication::start_sync;
+use publication::swap_in;
+use publication::write_entry;
+
+pub fn make(
+    words: &mut [u64],
+    entries: &mut [Pitch],
+    readers: u16,
+    publishers: u16,
+    slots: u16,
+    version: u64,
+) -> Reply
+    ensures { λ a. ⌜ outcome a (state (now (words .exit)) (now (entries .exit))) ≡ making rules (given readers publishers slots version) (state (now (words .entry)) (now (entries .entry))) ⌝ }
+{
+    make_store(
+        words,
+        entries,
+        KIND_NEW,
+        NOT_READING,
+        readers,
+        publishers,
+        slots,
+        version,
+        version > LAST,
+    )
+}
+
+pub fn claim(words: &mut [u64], entries: &[Pitch], p: u16, x: u16) -> Reply
+    ensures { λ a. ⌜ outcome a (state (now (words .exit)) (now (entries .entry))) ≡ step rules (state (now (words .entry)) (now (entries .entry))) (Claim p x) ⌝ }
+{
+    if is_damaged(words, entries.len()) {
+        return Reply::Refused(DAMAGED);
+    }
+    claim_slot(words, p, x, false)
+}
+
+pub fn write(words: &mut [u64], entries: &mut [Pitch], p: u16, v: Pitch) -> Reply
+    ensures { λ a. ⌜ outcome a (state (now (words .exit)) (now (entries .exit))) ≡ step rules (state (now (words .entry)) (now (entries .entry))) (Write p v) ⌝ }
+{
+    if is_damaged(words, entries.len()) {
+        return Reply::Refused(DAMAGED);
+    }
+    write_entry(words, entries, p, v)
+}
+
+pub fn swap(words: &mut [u64], entries: &[Pitch], p: u16) -> Reply
+    ensures { λ a. ⌜ outcome a (state (now (words .exit)) (now (entries .entry))) ≡ step rules (state (now (words .entry)) (now (entries .entry))) (Swap p) ⌝ }
+{
+    if is_damaged(words, entries.len()) {
+        return Reply::Refused(DAMAGED);
+    }
+    swap_in(words, p)
+}
+
+pub fn sync(words: &mut [u64], entries: &[Pitch], p: u16) -> Reply
+    ensures { λ a. ⌜ outcome a (state (now (words .exit)) (now (entries .entry))) ≡ step rules (state (now (words .entry)) (now (entries .entry))) (Sync p) ⌝ }
+{
+    if is_damaged(words, entries.len()) {
+        return Reply::Refused(DAMAGED);
+    }
+    start_sync(words, p, LAST - 1)
+}
+
+pub fn raise(words: &mut [u64], entries: &[Pitch], p: u16) -> Reply
+    ensures { λ a. ⌜ outcome a (state (now (words .exit)) (now (entries .entry))) ≡ step rules (state (now (words .entry)) (now (entries .entry))) (Raise p) ⌝ }
+{
+    if is_damaged(words, entries.len()) {
+        return Reply::Refused(DAMAGED);
+    }
+    if p as u64 >= publishers_of(words) {
+        return Reply::Refused(NO_SUCH_PUBLISHER);
+    }
+    let at = p as usize;
+    let y = publisher_at(words, at);
+    let place = y.place;
+    match place {
+        35 => raise_version(words, at, y, y.walk.mark - 1),
+        _ => Reply::Refused(PUBLISHER_TURN),
+    }
+}
+
+pub fn release(words: &mut [u64], entries: &[Pitch], p: u16) -> Reply
+    ensures { λ a. ⌜ outcome a (state (now (words .exit)) (now (entries .entry))) ≡ step rules (state (now (words .entry)) (now (entries .entry))) (Release p) ⌝ }
+{
+    if is_damaged(words, entries.len()) {
+        return Reply::Refused(DAMAGED);
+    }
+    release_slot(words, p)
+}

@@ -1,0 +1,84 @@
+use borrow.Author.Needs.{needs}
+use native.Mathlib.Omega.{arith}
+use lib.ListN.{length, getD, set, length-set}
+use Prim.Native.Nat.{_+_, _<_, _≤_}
+use mathlib.Core.Path.{_≡_, refl, sym, _∙_}
+use Rattle.calls.specs.Numbers.{READERS-MAX, NUMBER-MAX}
+use Rattle.layout.specs.Layout.{WORDS}
+use Rattle.grace_version_law.specs.Steps.{looksFrom}
+use Rattle.grace_version_law.specs.Calls.{looks-spent, looks-wait, looks-return, looks-on}
+use Rattle.grace_version_walk.proofs.looks.Statement.{statement}
+use Rattle.grace_version_walk.proofs.looks.Tie as tie
+use Rattle.grace_version_walk.proofs.looks.Reads as reads
+use Rattle.grace_version_walk.proofs.looks.Lts as lts
+use Rattle.grace_version_walk.proofs.looked_at.Reads as looked-at-reads
+use Rattle.layout.proofs.reader_at.Reads as reader-at-reads
+
+abbrev Inv-loop : tie.InvT-loop
+Inv-loop words n b mark next₀ looks₀ waits₀ left₀ next looks waits left = (next < n) × (n ≤ READERS-MAX) × (looks + left ≤ NUMBER-MAX) × (waits ≤ looks) × (length words ≡ WORDS)
+    × (looksFrom words n mark waits₀ left₀ next₀ looks₀ ≡ looksFrom words n mark waits left next looks)
+
+abbrev μ-loop : tie.MeasureT-loop
+μ-loop words n b mark next₀ looks₀ waits₀ left₀ next looks waits left = left
+
+loop-holds : tie.Need-loop-holds Inv-loop μ-loop
+loop-holds c = (search needs, search needs, search needs, search needs, search needs, refl)
+
+sub-left : tie.Need-sub-left Inv-loop μ-loop
+sub-left c = search needs
+
+add-looks : tie.Need-add-looks Inv-loop μ-loop
+add-looks c = search needs
+
+looked-at-requires : tie.Need-looked-at-requires Inv-loop μ-loop
+looked-at-requires c κs = search needs
+
+reader-at-requires : tie.Need-reader-at-requires Inv-loop μ-loop
+reader-at-requires c κs = search needs
+
+add-waits : tie.Need-add-waits Inv-loop μ-loop
+add-waits c = search needs
+
+add-next : tie.Need-add-next Inv-loop μ-loop
+add-next c = search needs
+
+loop-less : tie.Need-loop-less Inv-loop μ-loop
+loop-less c = search needs
+
+loop-again : tie.Need-loop-again Inv-loop μ-loop
+loop-again c = let k = c .before .before .before .before .before .before .loop in (
+  search needs,
+  search needs,
+  search needs,
+  search needs,
+  search needs,
+  k .inv .5 ∙ looks-on _ _ _ _ _ _ _ (omega arith) (rw (c .before .before .before .reader-at .ensures, c .before .before .before .before .looked-at .ensures) at (c .before .if2 .left)) (omega arith),
+)
+
+returns : tie.Need-returns Inv-loop μ-loop
+returns c = sym (c .before .loop .inv .5 ∙ looks-spent _ _ _ _ _ _ _ (omega arith))
+
+returns-2 : tie.Need-returns-2 Inv-loop μ-loop
+returns-2 c = rw (c .before .before .before .looked-at .ensures) (sym (c .before .before .before .before .before .loop .inv .5 ∙ looks-wait _ _ _ _ _ _ _ (omega arith) (rw (c .before .before .reader-at .ensures, c .before .before .before .looked-at .ensures) at (c .if2 .taken))))
+
+returns-3 : tie.Need-returns-3 Inv-loop μ-loop
+returns-3 c = sym (c .before .before .before .before .before .before .loop .inv .5 ∙ looks-return _ _ _ _ _ _ _ (omega arith) (rw (c .before .before .before .reader-at .ensures, c .before .before .before .before .looked-at .ensures) at (c .before .if2 .left)) (omega arith))
+
+pub looks-spec : {M : Type 1} → statement M
+looks-spec =
+    tie.close
+    (tie.spec
+    Inv-loop
+    μ-loop
+    loop-holds
+    sub-left
+    add-looks
+    looked-at-requires
+    reader-at-requires
+    add-waits
+    add-next
+    loop-less
+    loop-again
+    returns
+    returns-2
+    returns-3)

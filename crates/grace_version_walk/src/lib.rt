@@ -1,0 +1,98 @@
+// WALK of the new store, in place on the lent words. It is total, and its contract is the step of grace_version_law.
+// It uses grace_version_damage, publication and what lies below.
+ghost use mathlib.Core.Path.{_≡_};
+ghost use Prim.Native.Nat.{_+_, _<_, _≤_};
+ghost use lib.ListN.{length};
+ghost use Rattle.calls.specs.declared.Call.the-variants.{Walk as WALK};
+ghost use Rattle.calls.specs.Numbers.{READERS-MAX, NUMBER-MAX};
+ghost use Rattle.layout.specs.Layout.{WORDS};
+ghost use Rattle.statement.specs.Machine.{state, outcome};
+ghost use Rattle.publication_law.specs.Rules.{step};
+ghost use Rattle.grace_version_law.specs.Steps.{lookedAt, looksFrom, rules};
+use calls::DAMAGED;
+use calls::NO_SUCH_PUBLISHER;
+use calls::PUBLISHER_TURN;
+use calls::Pitch;
+use calls::Reply;
+use calls::TOO_MANY_LOOKS;
+use calls::WalkReply;
+use grace_version_damage::is_damaged;
+use layout::Progress;
+use layout::Walk;
+use layout::publisher_at;
+use layout::publishers_of;
+use layout::reader_at;
+use layout::readers_of;
+use publication::end_walk;
+
+// The reader that a walk looks at when so many of n readers have passed.
+fn looked_at(n: u64, passed: u64) -> u64
+    requires { ⌜ passed < n ⌝ }
+    ensures { λ r. ⌜ r ≡ lookedAt n passed ⌝ }
+{
+    passed
+}
+
+// Up to b looks of a walk over n readers.
+fn looks(words: &[u64], n: u64, walk: Walk, b: u16) -> Progress
+    requires { ⌜ (length (now words) ≡ WORDS) × (n ≤ READERS-MAX) × (walk .next < n) × (walk .looks + b ≤ NUMBER-MAX) × (walk .waits ≤ walk .looks) ⌝ }
+    ensures { λ k. ⌜ k ≡ looksFrom (now (words .entry)) n (walk .mark) (walk .waits) b (walk .next) (walk .looks) ⌝ }
+{
+    let mark = walk.mark;
+    let mut next = walk.next;
+    let mut looks = walk.looks;
+    let mut waits = walk.waits;
+    let mut left = b;
+    let reply = loop {
+        if left == 0 {
+            break WalkReply::Spent;
+        }
+        left = left - 1;
+        looks = looks + 1;
+        let r = looked_at(n, next);
+        let x = reader_at(words, r as usize);
+        if x.published < mark {
+            waits = waits + 1;
+            break WalkReply::Waiting(r);
+        }
+        next = next + 1;
+        if next >= n {
+            break WalkReply::Returned(looks, waits);
+        }
+    };
+    let moved = Walk {
+        mark: mark,
+        next: next,
+        looks: looks,
+        waits: waits,
+    };
+    Progress {
+        walk: moved,
+        reply: reply,
+    }
+}
+
+pub fn walk(words: &mut [u64], entries: &[Pitch], p: u16, b: u16) -> Reply
+    ensures { λ a. ⌜ outcome a (state (now (words .exit)) (now (entries .entry))) ≡ step rules (state (now (words .entry)) (now (entries .entry))) (WALK p b) ⌝ }
+{
+    if is_damaged(words, entries.len()) {
+        return Reply::Refused(DAMAGED);
+    }
+    if p as u64 >= publishers_of(words) {
+        return Reply::Refused(NO_SUCH_PUBLISHER);
+    }
+    let at = p as usize;
+    let y = publisher_at(words, at);
+    let place = y.place;
+    match place {
+        37 => {
+            let numbers = y.walk;
+            if numbers.looks > 18446744073709551615 - b as u64 {
+                return Reply::Refused(TOO_MANY_LOOKS);
+            }
+            let moved = looks(words, readers_of(words), numbers, b);
+            end_walk(words, at, y, moved)
+        }
+        _ => Reply::Refused(PUBLISHER_TURN),
+    }
+}
