@@ -23,6 +23,8 @@ pub const SLOTS_MIN: u16 = 2;
 pub const SLOTS_MAX: u16 = 32;
 // Entries of one table.
 pub const TABLE: usize = 32;
+// The greatest number of 64 bits.
+pub const NUMBER_MAX: u64 = 18446744073709551615;
 // What LEAVE publishes, and what a fresh reader has published.
 pub const NOT_READING: u64 = 18446744073709551615;
 

@@ -11,6 +11,7 @@ ghost use Rattle.publication_law.specs.Rules.{step};
 ghost use Rattle.grace_version_law.specs.Steps.{lookedAt, looksFrom, rules};
 use calls::DAMAGED;
 use calls::NO_SUCH_PUBLISHER;
+use calls::NUMBER_MAX;
 use calls::PUBLISHER_TURN;
 use calls::Pitch;
 use calls::Reply;
@@ -87,7 +88,7 @@ pub fn walk(words: &mut [u64], entries: &[Pitch], p: u16, b: u16) -> Reply
     match place {
         37 => {
             let numbers = y.walk;
-            if numbers.looks > 18446744073709551615 - b as u64 {
+            if numbers.looks > NUMBER_MAX - b as u64 {
                 return Reply::Refused(TOO_MANY_LOOKS);
             }
             let moved = looks(words, readers_of(words), numbers, b);

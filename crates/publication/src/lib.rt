@@ -109,7 +109,8 @@ pub fn look_up(words: &[u64], entries: &[Pitch], r: u16, k: u16) -> Reply
     if x.place != 5 {
         return Reply::Refused(READER_TURN);
     }
-    Reply::Pitch(entries[x.picked as usize * TABLE + k as usize])
+    let v = entries[x.picked as usize * TABLE + k as usize];
+    Reply::Pitch(v)
 }
 
 // Whether a publisher other than p is at a place other than 0.

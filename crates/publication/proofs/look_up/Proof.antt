@@ -34,20 +34,20 @@ reader-at-requires c κs = omega (arith, c .before .before .before .before .pre 
 returns-3 : tie.Need-returns-3
 returns-3 c = rw (lt-leb _ _ (rw (c .before .before .before .before .before .readers-of .ensures) at (c .before .before .before .before .if1 .left)), le-ltb 31 (c .before .before .before .before .before .before .before .args .k) (omega (arith, c .before .before .before .if2 .left)), ne-eqb _ 5 (rw (c .before .before .reader-at .ensures) at (c .if3 .taken))) refl
 
-mul-t10 : tie.Need-mul-t10
-mul-t10 c = omega (arith, picked c, c .before .before .before .before .before .before .before .pre .0)
+mul-v : tie.Need-mul-v
+mul-v c = omega (arith, picked c, c .before .before .before .before .before .before .before .pre .0)
 
-add-t12 : tie.Need-add-t12
-add-t12 c = omega (arith, picked c, c .before .before .before .before .before .before .before .pre .0)
+add-v : tie.Need-add-v
+add-v c = omega (arith, picked c, c .before .before .before .before .before .before .before .pre .0)
 
-mul-t13 : tie.Need-mul-t13
-mul-t13 c = omega (arith, picked c, c .before .before .before .before .before .before .before .pre .0)
+mul-v-2 : tie.Need-mul-v-2
+mul-v-2 c = omega (arith, picked c, c .before .before .before .before .before .before .before .pre .0)
 
-shared-slice-copy-out-t15 : tie.Need-shared-slice-copy-out-t15
-shared-slice-copy-out-t15 c = omega (arith, picked c, c .before .before .before .before .before .before .before .pre .0, c .before .before .before .before .before .before .before .pre .1)
+shared-slice-copy-out-v : tie.Need-shared-slice-copy-out-v
+shared-slice-copy-out-v c = omega (arith, picked c, c .before .before .before .before .before .before .before .pre .0, c .before .before .before .before .before .before .before .pre .1)
 
 returns-4 : tie.Need-returns-4
-returns-4 c = simp (toZ-ofZ w16 (getD (c .before .before .before .before .before .before .before .before .args .entries .now) (c .before .before .before .reader-at .result .picked * 32 + c .before .before .before .before .before .before .before .before .args .k) (pos 0)) (record { sfits = c .t15 .given })) (look-is _ _ _ _ _ (rw (c .before .before .before .before .before .before .readers-of .ensures) at (c .before .before .before .before .before .if1 .left)) (omega (arith, c .before .before .before .before .if2 .left)) (c .before .before .before .reader-at .ensures) (c .before .if3 .left))
+returns-4 c = simp (toZ-ofZ w16 (getD (c .before .before .before .before .before .before .before .before .args .entries .now) (c .before .before .before .reader-at .result .picked * 32 + c .before .before .before .before .before .before .before .before .args .k) (pos 0)) (record { sfits = c .v .given })) (look-is _ _ _ _ _ (rw (c .before .before .before .before .before .before .readers-of .ensures) at (c .before .before .before .before .before .if1 .left)) (omega (arith, c .before .before .before .before .if2 .left)) (c .before .before .before .reader-at .ensures) (c .before .if3 .left))
 
 pub look-up-spec : {M : Type 1} → statement M
 look-up-spec =
@@ -58,8 +58,8 @@ look-up-spec =
     returns-2
     reader-at-requires
     returns-3
-    mul-t10
-    add-t12
-    mul-t13
-    shared-slice-copy-out-t15
+    mul-v
+    add-v
+    mul-v-2
+    shared-slice-copy-out-v
     returns-4)
