@@ -37,7 +37,7 @@ static struct reply accepted(uint64_t code, uint64_t first, uint64_t second)
     return (struct reply){ code, first, second };
 }
 
-static bool damaged(const struct store *s, size_t words_len, size_t entries_len)
+static inline bool damaged(const struct store *s, size_t words_len, size_t entries_len)
 {
     if (words_len != WORDS || s->kind != 1)
         return true;
@@ -48,12 +48,15 @@ static bool damaged(const struct store *s, size_t words_len, size_t entries_len)
         return true;
     for (const struct reader *x = s->reader, *end = x + readers; x != end; x++) {
         const uint64_t place = x->place;
-        if (place < 2 || place == 4)
-            continue;
-        if (place > 5)
+        if (place == 5) {
+            if (x->picked >= slots)
+                return true;
+        } else if (place > 5) {
             return true;
-        if (place == 5 ? x->picked >= slots : x->published != x->first)
-            return true;
+        } else if (place & 2) { /* 2 or 3 */
+            if (x->published != x->first)
+                return true;
+        }
     }
     for (const struct publisher *y = s->publisher, *end = y + publishers; y != end; y++) {
         const uint64_t place = y->place;
@@ -63,9 +66,14 @@ static bool damaged(const struct store *s, size_t words_len, size_t entries_len)
             return true;
         if (place < 35)
             continue;
-        if (place > 38 || place == 36 || y->mark - 1 >= LAST || y->waits > y->looks)
-            return true;
-        if (place != 38 && y->next >= readers)
+        if (place == 37) {
+            if (y->next >= readers)
+                return true;
+        } else if (place != 38) {
+            if (place != 35 || y->next >= readers)
+                return true;
+        }
+        if (y->mark - 1 >= LAST || y->waits > y->looks)
             return true;
     }
     return false;
@@ -178,7 +186,7 @@ struct reply c_claim(uint64_t *words, size_t words_len, const int16_t *entries, 
     if (s->current == x)
         return refused(30);
     for (const struct publisher *y = s->publisher, *end = y + s->publishers; y != end; y++)
-        if (y->place != 0 && y->held == x)
+        if (y->held == x && y->place != 0)
             return refused(30);
     s->publisher[p].place = 1;
     s->publisher[p].held = x;
@@ -271,20 +279,9 @@ struct reply c_walk(uint64_t *words, size_t words_len, const int16_t *entries, s
         return refused(21);
     if (y->looks > UINT64_MAX - b)
         return refused(33);
-    const uint64_t mark = y->mark, readers = s->readers, start = y->next;
-    uint64_t next = start;
-    for (;; next++) {
-        if (next == readers) {
-            y->place = 38;
-            y->next = next;
-            y->looks += next - start;
-            return accepted(113, y->looks, y->waits);
-        }
-        if (next - start == b) {
-            y->next = next;
-            y->looks += b;
-            return accepted(111, 0, 0);
-        }
+    const uint64_t mark = y->mark, readers = s->readers, start = y->next, left = readers - start;
+    const uint64_t stop = left <= b ? readers : start + b;
+    for (uint64_t next = start; next != stop; next++) {
         if (s->reader[next].published < mark) {
             y->next = next;
             y->looks += next - start + 1;
@@ -292,6 +289,12 @@ struct reply c_walk(uint64_t *words, size_t words_len, const int16_t *entries, s
             return accepted(110, next, 0);
         }
     }
+    y->next = stop;
+    y->looks += stop - start;
+    if (stop != readers)
+        return accepted(111, 0, 0);
+    y->place = 38;
+    return accepted(113, y->looks, y->waits);
 }
 
 struct reply c_release(uint64_t *words, size_t words_len, const int16_t *entries, size_t entries_len, uint16_t p)

@@ -2,7 +2,8 @@
 // It reads only the records in use, and a record's further words only at the places that need them.
 // It uses publication and what lies below; its contracts cite grace_version_law.
 ghost use mathlib.Core.Path.{_≡_};
-ghost use Prim.Native.Nat.{_≤_};
+ghost use mathlib.Core.Bool.{false};
+ghost use Prim.Native.Nat.{_<_, _≤_};
 ghost use mathlib.Core.List.{List};
 ghost use lib.IntN.{ℤ};
 ghost use lib.ListN.{length};
@@ -10,14 +11,17 @@ ghost use Rattle.calls.specs.Numbers.{READERS-MAX, PUBLISHERS-MAX};
 ghost use Rattle.calls.specs.Rows.{anyTrue, anyBelow};
 ghost use Rattle.layout.specs.Layout.{WORDS, readerAt, publisherAt};
 ghost use Rattle.statement.specs.Machine.{state};
-ghost use Rattle.publication_law.specs.Rules.{damaged};
-ghost use Rattle.grace_version_law.specs.Steps.{kind, readerRows, rules};
+ghost use Rattle.publication_law.specs.Damage.{headRows, readersDamaged, publishersDamaged};
+ghost use Rattle.grace_version_law.specs.Steps.{kind};
 use calls::KIND_NEW;
-use layout::Publisher;
-use layout::Reader;
+use calls::PUBLISHERS_MAX;
+use calls::READERS_MAX;
+use layout::WORDS;
 use layout::publisher_at;
+use layout::publisher_place;
 use layout::publishers_of;
 use layout::reader_at;
+use layout::reader_place;
 use layout::readers_of;
 use layout::slots_of;
 use publication::head_damaged;
@@ -25,18 +29,25 @@ use publication::head_damaged;
 // The last version: 2^64 - 2.
 pub const LAST: u64 = 18446744073709551614;
 
-// Whether a reader's record is spoiled.
-fn reader_damaged(x: Reader, slots: u64) -> bool
-    ensures { λ b. ⌜ b ≡ anyTrue (readerRows slots x) ⌝ }
+// Whether reader r is spoiled.
+fn reader_damaged(words: &[u64], r: usize, slots: u64) -> bool
+    requires { ⌜ (length (now words) ≡ WORDS) × (r < READERS-MAX) ⌝ }
+    ensures { λ b. ⌜ b ≡ kind .readerDamaged slots (readerAt (now (words .entry)) r) ⌝ }
 {
-    let place = x.place;
-    match place {
-        0..=1 => false,
-        2..=3 => x.published != x.first,
-        4 => false,
-        5 => x.picked >= slots,
-        _ => true,
+    let place = reader_place(words, r);
+    if place == 5 {
+        let x = reader_at(words, r);
+        return x.picked >= slots;
     }
+    if place > 5 {
+        return true;
+    }
+    // 2 or 3
+    if place % 4 >= 2 {
+        let x = reader_at(words, r);
+        return x.published != x.first;
+    }
+    false
 }
 
 // Whether one of the first n readers is spoiled.
@@ -45,22 +56,23 @@ fn readers_damaged(words: &[u64], n: u64, slots: u64) -> bool
     ensures { λ b. ⌜ b ≡ anyBelow (λ r. kind .readerDamaged slots (readerAt (now (words .entry)) r)) n ⌝ }
 {
     for r in 0..n {
-        let x = reader_at(words, r as usize);
-        if reader_damaged(x, slots) {
+        if reader_damaged(words, r as usize, slots) {
             return true;
         }
     }
     false
 }
 
-// Whether a publisher's record is spoiled.
-fn publisher_damaged(y: Publisher, readers: u64, slots: u64) -> bool
-    ensures { λ b. ⌜ b ≡ kind .publisherDamaged readers slots y ⌝ }
+// Whether publisher p is spoiled.
+fn publisher_damaged(words: &[u64], p: usize, readers: u64, slots: u64) -> bool
+    requires { ⌜ (length (now words) ≡ WORDS) × (p < PUBLISHERS-MAX) ⌝ }
+    ensures { λ b. ⌜ b ≡ kind .publisherDamaged readers slots (publisherAt (now (words .entry)) p) ⌝ }
 {
-    let place = y.place;
+    let place = publisher_place(words, p);
     if place == 0 {
         return false;
     }
+    let y = publisher_at(words, p);
     if y.held >= slots {
         return true;
     }
@@ -89,25 +101,44 @@ fn publishers_damaged(words: &[u64], n: u64, readers: u64, slots: u64) -> bool
     ensures { λ b. ⌜ b ≡ anyBelow (λ p. kind .publisherDamaged readers slots (publisherAt (now (words .entry)) p)) n ⌝ }
 {
     for p in 0..n {
-        let y = publisher_at(words, p as usize);
-        if publisher_damaged(y, readers, slots) {
+        if publisher_damaged(words, p as usize, readers, slots) {
             return true;
         }
     }
     false
 }
 
-// Whether a store with these words and so many entries is spoiled.
-pub fn is_damaged(words: &[u64], entries: usize) -> bool
-    ensures { λ b. ⌜ ((es : List ℤ) → length es ≡ entries → b ≡ damaged rules (state (now (words .entry)) es)) ⌝ }
+// Whether the head spoils a store with these words and so many entries.
+pub fn head_is_damaged(words: &[u64], entries: usize) -> bool
+    ensures { λ b. ⌜ ((es : List ℤ) → length es ≡ entries → b ≡ anyTrue (headRows kind (state (now (words .entry)) es))) ⌝ }
 {
-    if head_damaged(words, entries, KIND_NEW, LAST) {
+    head_damaged(words, entries, KIND_NEW, LAST)
+}
+
+// Whether a reader spoils a store whose head does not.
+pub fn readers_are_damaged(words: &[u64]) -> bool
+    ensures { λ b. ⌜ ((es : List ℤ) → anyTrue (headRows kind (state (now (words .entry)) es)) ≡ false → b ≡ readersDamaged kind (state (now (words .entry)) es)) ⌝ }
+{
+    if words.len() != WORDS {
         return true;
     }
     let readers = readers_of(words);
-    let slots = slots_of(words);
-    if readers_damaged(words, readers, slots) {
+    if (readers < 1) | (readers > READERS_MAX as u64) {
         return true;
     }
-    publishers_damaged(words, publishers_of(words), readers, slots)
+    readers_damaged(words, readers, slots_of(words))
+}
+
+// Whether a publisher spoils a store whose head does not.
+pub fn publishers_are_damaged(words: &[u64]) -> bool
+    ensures { λ b. ⌜ ((es : List ℤ) → anyTrue (headRows kind (state (now (words .entry)) es)) ≡ false → b ≡ publishersDamaged kind (state (now (words .entry)) es)) ⌝ }
+{
+    if words.len() != WORDS {
+        return true;
+    }
+    let publishers = publishers_of(words);
+    if (publishers < 1) | (publishers > PUBLISHERS_MAX as u64) {
+        return true;
+    }
+    publishers_damaged(words, publishers, readers_of(words), slots_of(words))
 }

@@ -34,7 +34,7 @@ pub fine : (s : State) → damaged rules s ≡ false → Fine kind s
 unfolding damaged
 fine s e = fine-of kind s (or-false (sharedDamage kind s) false e .0)
 
--- The damage test, as far as its code has come.
+-- The damage test is that of the head, of the readers and of the publishers.
 module _ (s : State) where
   pub damaged-head : anyTrue (headRows kind s) ≡ true → damaged rules s ≡ true
   unfolding damaged
@@ -44,9 +44,13 @@ module _ (s : State) where
   unfolding damaged
   damaged-readers h e = rw (h, e) refl
 
-  pub damaged-rest : anyTrue (headRows kind s) ≡ false → readersDamaged kind s ≡ false → damaged rules s ≡ publishersDamaged kind s
+  pub damaged-publishers : anyTrue (headRows kind s) ≡ false → readersDamaged kind s ≡ false → publishersDamaged kind s ≡ true → damaged rules s ≡ true
   unfolding damaged
-  damaged-rest h e = rw (h, e) (or-none (publishersDamaged kind s))
+  damaged-publishers h r e = rw (h, r, e) refl
+
+  pub undamaged : anyTrue (headRows kind s) ≡ false → readersDamaged kind s ≡ false → publishersDamaged kind s ≡ false → damaged rules s ≡ false
+  unfolding damaged
+  undamaged h r e = rw (h, r, e) refl
 
 picks : (ss : ℕ) (x : Reader) → kind .readerDamaged ss x ≡ false → wrongPick ss x ≡ false
 picks ss x e = all-false (readerRows ss x) e .1 .0
@@ -59,18 +63,15 @@ entries-of s e = fine s e .head .entries-are
 
 -- The damage test of a reader, by its place.
 module _ (ss : ℕ) (x : Reader) where
-  pub reader-early : x .place ≤ 1 → anyTrue (readerRows ss x) ≡ false
-  reader-early l = rw (le-ltb 5 (x .place) (omega arith), ne-eqb (x .place) 5 (λ z. omega arith), ne-eqb (x .place) 2 (λ z. omega arith), ne-eqb (x .place) 3 (λ z. omega arith)) refl
-
-  pub reader-loaded : 2 ≤ x .place → x .place ≤ 3 → anyTrue (readerRows ss x) ≡ not (eqb (x .published) (x .first))
-  reader-loaded low high = go (eqb (x .place) 2) refl
+  pub reader-loaded : x .place ≤ 4 → 2 ≤ x .place % 4 → anyTrue (readerRows ss x) ≡ not (eqb (x .published) (x .first))
+  reader-loaded high low = go (eqb (x .place) 2) refl
     where
       go : (b : Bool) → eqb (x .place) 2 ≡ b → anyTrue (readerRows ss x) ≡ not (eqb (x .published) (x .first))
       go true e = rw (eqb-true (x .place) 2 e) (or-none _)
       go false e = let three : x .place ≡ 3 = (let q = eqb-false (x .place) 2 e in omega arith) in rw three (or-none _)
 
-  pub reader-open : x .place ≡ 4 → anyTrue (readerRows ss x) ≡ false
-  reader-open e = rw e refl
+  pub reader-rests : x .place ≤ 4 → x .place % 4 < 2 → anyTrue (readerRows ss x) ≡ false
+  reader-rests high low = rw (le-ltb 5 (x .place) (omega arith), ne-eqb (x .place) 5 (λ z. omega arith), ne-eqb (x .place) 2 (λ z. omega arith), ne-eqb (x .place) 3 (λ z. omega arith)) refl
 
   pub reader-picked : x .place ≡ 5 → anyTrue (readerRows ss x) ≡ leb ss (x .picked)
   reader-picked e = rw e (or-none _)

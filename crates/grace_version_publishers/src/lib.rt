@@ -14,7 +14,9 @@ use calls::PUBLISHER_TURN;
 use calls::Pitch;
 use calls::Reply;
 use grace_version_damage::LAST;
-use grace_version_damage::is_damaged;
+use grace_version_damage::head_is_damaged;
+use grace_version_damage::publishers_are_damaged;
+use grace_version_damage::readers_are_damaged;
 use layout::publisher_at;
 use layout::publishers_of;
 use publication::claim_slot;
@@ -51,7 +53,10 @@ pub fn make(
 pub fn claim(words: &mut [u64], entries: &[Pitch], p: u16, x: u16) -> Reply
     ensures { λ a. ⌜ outcome a (state (now (words .exit)) (now (entries .entry))) ≡ step rules (state (now (words .entry)) (now (entries .entry))) (Claim p x) ⌝ }
 {
-    if is_damaged(words, entries.len()) {
+    if head_is_damaged(words, entries.len())
+        || readers_are_damaged(words)
+        || publishers_are_damaged(words)
+    {
         return Reply::Refused(DAMAGED);
     }
     claim_slot(words, p, x, false)
@@ -60,7 +65,10 @@ pub fn claim(words: &mut [u64], entries: &[Pitch], p: u16, x: u16) -> Reply
 pub fn write(words: &mut [u64], entries: &mut [Pitch], p: u16, v: Pitch) -> Reply
     ensures { λ a. ⌜ outcome a (state (now (words .exit)) (now (entries .exit))) ≡ step rules (state (now (words .entry)) (now (entries .entry))) (Write p v) ⌝ }
 {
-    if is_damaged(words, entries.len()) {
+    if head_is_damaged(words, entries.len())
+        || readers_are_damaged(words)
+        || publishers_are_damaged(words)
+    {
         return Reply::Refused(DAMAGED);
     }
     write_entry(words, entries, p, v)
@@ -69,7 +77,10 @@ pub fn write(words: &mut [u64], entries: &mut [Pitch], p: u16, v: Pitch) -> Repl
 pub fn swap(words: &mut [u64], entries: &[Pitch], p: u16) -> Reply
     ensures { λ a. ⌜ outcome a (state (now (words .exit)) (now (entries .entry))) ≡ step rules (state (now (words .entry)) (now (entries .entry))) (Swap p) ⌝ }
 {
-    if is_damaged(words, entries.len()) {
+    if head_is_damaged(words, entries.len())
+        || readers_are_damaged(words)
+        || publishers_are_damaged(words)
+    {
         return Reply::Refused(DAMAGED);
     }
     swap_in(words, p)
@@ -78,7 +89,10 @@ pub fn swap(words: &mut [u64], entries: &[Pitch], p: u16) -> Reply
 pub fn sync(words: &mut [u64], entries: &[Pitch], p: u16) -> Reply
     ensures { λ a. ⌜ outcome a (state (now (words .exit)) (now (entries .entry))) ≡ step rules (state (now (words .entry)) (now (entries .entry))) (Sync p) ⌝ }
 {
-    if is_damaged(words, entries.len()) {
+    if head_is_damaged(words, entries.len())
+        || readers_are_damaged(words)
+        || publishers_are_damaged(words)
+    {
         return Reply::Refused(DAMAGED);
     }
     start_sync(words, p, LAST - 1)
@@ -87,7 +101,10 @@ pub fn sync(words: &mut [u64], entries: &[Pitch], p: u16) -> Reply
 pub fn raise(words: &mut [u64], entries: &[Pitch], p: u16) -> Reply
     ensures { λ a. ⌜ outcome a (state (now (words .exit)) (now (entries .entry))) ≡ step rules (state (now (words .entry)) (now (entries .entry))) (Raise p) ⌝ }
 {
-    if is_damaged(words, entries.len()) {
+    if head_is_damaged(words, entries.len())
+        || readers_are_damaged(words)
+        || publishers_are_damaged(words)
+    {
         return Reply::Refused(DAMAGED);
     }
     if p as u64 >= publishers_of(words) {
@@ -105,7 +122,10 @@ pub fn raise(words: &mut [u64], entries: &[Pitch], p: u16) -> Reply
 pub fn release(words: &mut [u64], entries: &[Pitch], p: u16) -> Reply
     ensures { λ a. ⌜ outcome a (state (now (words .exit)) (now (entries .entry))) ≡ step rules (state (now (words .entry)) (now (entries .entry))) (Release p) ⌝ }
 {
-    if is_damaged(words, entries.len()) {
+    if head_is_damaged(words, entries.len())
+        || readers_are_damaged(words)
+        || publishers_are_damaged(words)
+    {
         return Reply::Refused(DAMAGED);
     }
     release_slot(words, p)

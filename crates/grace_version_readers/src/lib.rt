@@ -12,7 +12,9 @@ use calls::NOT_READING;
 use calls::Pitch;
 use calls::READER_TURN;
 use calls::Reply;
-use grace_version_damage::is_damaged;
+use grace_version_damage::head_is_damaged;
+use grace_version_damage::publishers_are_damaged;
+use grace_version_damage::readers_are_damaged;
 use layout::Reader;
 use layout::current_of;
 use layout::put_reader;
@@ -57,7 +59,10 @@ fn advanced(mut x: Reader, version: u64, current: u64) -> Reader
 pub fn enter(words: &mut [u64], entries: &[Pitch], r: u16) -> Reply
     ensures { λ a. ⌜ outcome a (state (now (words .exit)) (now (entries .entry))) ≡ step rules (state (now (words .entry)) (now (entries .entry))) (Enter r) ⌝ }
 {
-    if is_damaged(words, entries.len()) {
+    if head_is_damaged(words, entries.len())
+        || readers_are_damaged(words)
+        || publishers_are_damaged(words)
+    {
         return Reply::Refused(DAMAGED);
     }
     if r as u64 >= readers_of(words) {
@@ -76,7 +81,10 @@ pub fn enter(words: &mut [u64], entries: &[Pitch], r: u16) -> Reply
 pub fn look(words: &[u64], entries: &[Pitch], r: u16, k: u16) -> Reply
     ensures { λ a. ⌜ outcome a (state (now (words .entry)) (now (entries .entry))) ≡ step rules (state (now (words .entry)) (now (entries .entry))) (Look r k) ⌝ }
 {
-    if is_damaged(words, entries.len()) {
+    if head_is_damaged(words, entries.len())
+        || readers_are_damaged(words)
+        || publishers_are_damaged(words)
+    {
         return Reply::Refused(DAMAGED);
     }
     look_up(words, entries, r, k)
@@ -85,7 +93,10 @@ pub fn look(words: &[u64], entries: &[Pitch], r: u16, k: u16) -> Reply
 pub fn leave(words: &mut [u64], entries: &[Pitch], r: u16) -> Reply
     ensures { λ a. ⌜ outcome a (state (now (words .exit)) (now (entries .entry))) ≡ step rules (state (now (words .entry)) (now (entries .entry))) (Leave r) ⌝ }
 {
-    if is_damaged(words, entries.len()) {
+    if head_is_damaged(words, entries.len())
+        || readers_are_damaged(words)
+        || publishers_are_damaged(words)
+    {
         return Reply::Refused(DAMAGED);
     }
     if r as u64 >= readers_of(words) {

@@ -17,7 +17,9 @@ use calls::Pitch;
 use calls::Reply;
 use calls::TOO_MANY_LOOKS;
 use calls::WalkReply;
-use grace_version_damage::is_damaged;
+use grace_version_damage::head_is_damaged;
+use grace_version_damage::publishers_are_damaged;
+use grace_version_damage::readers_are_damaged;
 use layout::Progress;
 use layout::Walk;
 use layout::publisher_at;
@@ -43,7 +45,7 @@ fn looks(words: &[u64], n: u64, walk: Walk, b: u16) -> Progress
     let mut next = walk.next;
     let mut looks = walk.looks;
     let mut waits = walk.waits;
-    let mut left = b;
+    let mut left = b as u64;
     let reply = loop {
         if left == 0 {
             break WalkReply::Spent;
@@ -76,7 +78,10 @@ fn looks(words: &[u64], n: u64, walk: Walk, b: u16) -> Progress
 pub fn walk(words: &mut [u64], entries: &[Pitch], p: u16, b: u16) -> Reply
     ensures { λ a. ⌜ outcome a (state (now (words .exit)) (now (entries .entry))) ≡ step rules (state (now (words .entry)) (now (entries .entry))) (WALK p b) ⌝ }
 {
-    if is_damaged(words, entries.len()) {
+    if head_is_damaged(words, entries.len())
+        || readers_are_damaged(words)
+        || publishers_are_damaged(words)
+    {
         return Reply::Refused(DAMAGED);
     }
     if p as u64 >= publishers_of(words) {

@@ -186,6 +186,14 @@ pub fn reader_at(words: &[u64], r: usize) -> Reader
     }
 }
 
+// The place of a reader alone: most tests need no more.
+pub fn reader_place(words: &[u64], r: usize) -> u64
+    requires { ⌜ (length (now words) ≡ WORDS) × (r < READERS-MAX) ⌝ }
+    ensures { λ n. ⌜ n ≡ readerAt (now (words .entry)) r .place ⌝ }
+{
+    words[FIRST_READER + READER_WORDS * r + PLACE]
+}
+
 pub fn put_reader(words: &mut [u64], r: usize, x: Reader)
     requires { ⌜ (length (now words) ≡ WORDS) × (r < READERS-MAX) ⌝ }
     ensures { λ _. ⌜ now (words .exit) ≡ withReader (now (words .entry)) r x ⌝ }
@@ -214,6 +222,14 @@ pub fn publisher_at(words: &[u64], p: usize) -> Publisher
         held: words[b + HELD],
         walk: walk,
     }
+}
+
+// The place of a publisher alone.
+pub fn publisher_place(words: &[u64], p: usize) -> u64
+    requires { ⌜ (length (now words) ≡ WORDS) × (p < PUBLISHERS-MAX) ⌝ }
+    ensures { λ n. ⌜ n ≡ publisherAt (now (words .entry)) p .place ⌝ }
+{
+    words[FIRST_PUBLISHER + PUBLISHER_WORDS * p + PLACE]
 }
 
 pub fn put_publisher(words: &mut [u64], p: usize, x: Publisher)

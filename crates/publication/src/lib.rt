@@ -212,9 +212,9 @@ pub fn write_entry(words: &mut [u64], entries: &mut [Pitch], p: u16, v: Pitch) -
     let place = y.place;
     match place {
         1..=32 => {
-            entries[y.held as usize * TABLE + (place as usize - 1)] = v;
             y.place = place + 1;
             put_publisher(words, at, y);
+            entries[y.held as usize * TABLE + (place as usize - 1)] = v;
             Reply::Written(place)
         }
         _ => Reply::Refused(PUBLISHER_TURN),

@@ -13,7 +13,6 @@ use Rattle.grace_version_damage.proofs.publishers_damaged.Tie as tie
 use Rattle.grace_version_damage.proofs.publishers_damaged.Reads as reads
 use Rattle.grace_version_damage.proofs.publishers_damaged.Lts as lts
 use Rattle.grace_version_damage.proofs.publisher_damaged.Reads as publisher-damaged-reads
-use Rattle.layout.proofs.publisher_at.Reads as publisher-at-reads
 
 abbrev Inv-loop : tie.InvT-loop
 Inv-loop words n readers slots p₀ p = (p ≤ n) × (anyBelow (λ p. kind .publisherDamaged readers slots (publisherAt words p)) p ≡ false)
@@ -24,14 +23,11 @@ abbrev μ-loop : tie.MeasureT-loop
 loop-holds : tie.Need-loop-holds Inv-loop μ-loop
 loop-holds c = (search needs, none-first _)
 
-publisher-at-requires : tie.Need-publisher-at-requires Inv-loop μ-loop
-publisher-at-requires c κs = search needs
-
 publisher-damaged-requires : tie.Need-publisher-damaged-requires Inv-loop μ-loop
 publisher-damaged-requires c κs = search needs
 
 returns : tie.Need-returns Inv-loop μ-loop
-returns c = sym (some-below _ _ _ (c .before .before .before .loop-test .taken) (rw (c .before .before .publisher-at .ensures) at (sym (c .before .publisher-damaged .ensures) ∙ c .if1 .taken)))
+returns c = sym (some-below _ _ _ (c .before .before .loop-test .taken) (sym (c .before .publisher-damaged .ensures) ∙ c .if1 .taken))
 
 add-p : tie.Need-add-p Inv-loop μ-loop
 add-p c = search needs
@@ -40,7 +36,7 @@ loop-less : tie.Need-loop-less Inv-loop μ-loop
 loop-less c = search needs
 
 loop-again : tie.Need-loop-again Inv-loop μ-loop
-loop-again c = (search needs, none-more _ _ (c .before .before .before .before .loop .inv .1) (rw (c .before .before .publisher-at .ensures) at (sym (c .before .publisher-damaged .ensures) ∙ c .if1 .left)))
+loop-again c = (search needs, none-more _ _ (c .before .before .before .loop .inv .1) (sym (c .before .publisher-damaged .ensures) ∙ c .if1 .left))
 
 returns-2 : tie.Need-returns-2 Inv-loop μ-loop
 returns-2 c = let e : c .before .loop .p ≡ c .before .before .before .args .n = omega arith in sym (rw e at (c .before .loop .inv .1))
@@ -52,7 +48,6 @@ publishers-damaged-spec =
     Inv-loop
     μ-loop
     loop-holds
-    publisher-at-requires
     publisher-damaged-requires
     returns
     add-p

@@ -13,7 +13,6 @@ use Rattle.grace_version_damage.proofs.readers_damaged.Tie as tie
 use Rattle.grace_version_damage.proofs.readers_damaged.Reads as reads
 use Rattle.grace_version_damage.proofs.readers_damaged.Lts as lts
 use Rattle.grace_version_damage.proofs.reader_damaged.Reads as reader-damaged-reads
-use Rattle.layout.proofs.reader_at.Reads as reader-at-reads
 
 abbrev Inv-loop : tie.InvT-loop
 Inv-loop words n slots r₀ r = (r ≤ n) × (anyBelow (λ r. kind .readerDamaged slots (readerAt words r)) r ≡ false)
@@ -24,14 +23,11 @@ abbrev μ-loop : tie.MeasureT-loop
 loop-holds : tie.Need-loop-holds Inv-loop μ-loop
 loop-holds c = (search needs, none-first _)
 
-reader-at-requires : tie.Need-reader-at-requires Inv-loop μ-loop
-reader-at-requires c κs = search needs
-
 reader-damaged-requires : tie.Need-reader-damaged-requires Inv-loop μ-loop
 reader-damaged-requires c κs = search needs
 
 returns : tie.Need-returns Inv-loop μ-loop
-returns c = sym (some-below _ _ _ (c .before .before .before .loop-test .taken) (rw (c .before .before .reader-at .ensures) at (sym (c .before .reader-damaged .ensures) ∙ c .if1 .taken)))
+returns c = sym (some-below _ _ _ (c .before .before .loop-test .taken) (sym (c .before .reader-damaged .ensures) ∙ c .if1 .taken))
 
 add-r : tie.Need-add-r Inv-loop μ-loop
 add-r c = search needs
@@ -40,7 +36,7 @@ loop-less : tie.Need-loop-less Inv-loop μ-loop
 loop-less c = search needs
 
 loop-again : tie.Need-loop-again Inv-loop μ-loop
-loop-again c = (search needs, none-more _ _ (c .before .before .before .before .loop .inv .1) (rw (c .before .before .reader-at .ensures) at (sym (c .before .reader-damaged .ensures) ∙ c .if1 .left)))
+loop-again c = (search needs, none-more _ _ (c .before .before .before .loop .inv .1) (sym (c .before .reader-damaged .ensures) ∙ c .if1 .left))
 
 returns-2 : tie.Need-returns-2 Inv-loop μ-loop
 returns-2 c = let e : c .before .loop .r ≡ c .before .before .before .args .n = omega arith in sym (rw e at (c .before .loop .inv .1))
@@ -52,7 +48,6 @@ readers-damaged-spec =
     Inv-loop
     μ-loop
     loop-holds
-    reader-at-requires
     reader-damaged-requires
     returns
     add-r

@@ -2,32 +2,58 @@ use borrow.Author.Needs.{needs}
 use native.Mathlib.Omega.{arith}
 use lib.ListN.{length, getD, set, length-set}
 use mathlib.Core.Path.{_≡_, refl, sym, _∙_}
-use mathlib.Core.Bool.{false}
+use mathlib.Core.Bool.{true, false}
+use mathlib.Core.Logic.{⊎-elim}
+use Rattle.calls.specs.Rows.{anyTrue}
+use Rattle.publication_law.specs.Damage.{headRows}
 use borrow.Author.Tests.{le-leb, lt-leb, lt-ltb, le-ltb, eq-eqb, ne-eqb}
 use Rattle.statement.specs.Machine.{state}
 use Rattle.publication_law.specs.Rules.{damaged, step}
 use Rattle.publication_law.specs.Calls.{step-damaged, step-undamaged}
-use Rattle.grace_version_law.specs.Steps.{rules, versions}
-use Rattle.grace_version_law.specs.Calls.{sound-of}
+use Rattle.grace_version_law.specs.Steps.{kind, rules, versions}
+use Rattle.grace_version_law.specs.Calls.{damaged-head, damaged-readers, damaged-publishers, undamaged, sound-of}
 use Rattle.calls.specs.declared.Call.the-variants.{Claim}
 use Rattle.grace_version_publishers.proofs.claim.Statement.{statement}
 use Rattle.grace_version_publishers.proofs.claim.Tie as tie
 use Rattle.grace_version_publishers.proofs.claim.Reads as reads
 use Rattle.grace_version_publishers.proofs.claim.Lts as lts
-use Rattle.grace_version_damage.proofs.is_damaged.Reads as is-damaged-reads
+use Rattle.grace_version_damage.proofs.head_is_damaged.Reads as head-is-damaged-reads
+use Rattle.grace_version_damage.proofs.publishers_are_damaged.Reads as publishers-are-damaged-reads
+use Rattle.grace_version_damage.proofs.readers_are_damaged.Reads as readers-are-damaged-reads
 use Rattle.publication.proofs.claim_slot.Reads as claim-slot-reads
 
-clean : (c : tie.Else1) → damaged rules (state (c .before .before .before .before .args .words .now) (c .before .before .before .before .args .entries .now)) ≡ false
-clean c = sym (c .before .is-damaged .ensures (c .before .before .before .before .args .entries .now) refl) ∙ c .if1 .left
+clean : (c : tie.Else3) → damaged rules (state (c .before .before .before .before .before .before .before .before .before .before .args .words .now) (c .before .before .before .before .before .before .before .before .before .before .args .entries .now)) ≡ false
+clean c =
+    let h = sym (c .before .before .before .before .before .before .before .head-is-damaged .ensures (c .before .before .before .before .before .before .before .before .before .before .args .entries .now) refl) ∙ c .before .before .before .before .before .before .if1 .left in
+    undamaged (state (c .before .before .before .before .before .before .before .before .before .before .args .words .now) (c .before .before .before .before .before .before .before .before .before .before .args .entries .now)) h (sym (c .before .before .before .before .readers-are-damaged .ensures (c .before .before .before .before .before .before .before .before .before .before .args .entries .now) h) ∙ c .before .before .before .if2 .left) (sym (c .before .publishers-are-damaged .ensures (c .before .before .before .before .before .before .before .before .before .before .args .entries .now) h) ∙ c .if3 .left)
 
-is-damaged-requires : tie.Need-is-damaged-requires
-is-damaged-requires c κs = search needs
+-- One of the three tests says so.
+spoiled : (c : tie.Joined1) → damaged rules (state (c .before .before .before .before .args .words .now) (c .before .before .before .before .args .entries .now)) ≡ true
+spoiled c = ⊎-elim
+    (λ t. damaged-head (state (c .before .before .before .before .args .words .now) (c .before .before .before .before .args .entries .now)) (head ∙ t .taken))
+    (⊎-elim
+    (λ a. damaged-readers (state (c .before .before .before .before .args .words .now) (c .before .before .before .before .args .entries .now)) (head ∙ a .0 .left) (sym (a .2 .ensures (c .before .before .before .before .args .entries .now) (head ∙ a .0 .left)) ∙ a .3 .taken))
+    (λ a. damaged-publishers (state (c .before .before .before .before .args .words .now) (c .before .before .before .before .args .entries .now)) (head ∙ a .0 .left) (sym (a .2 .ensures (c .before .before .before .before .args .entries .now) (head ∙ a .0 .left)) ∙ a .3 .left)
+    (sym (a .5 .ensures (c .before .before .before .before .args .entries .now) (head ∙ a .0 .left)) ∙ a .6 .taken)))
+    (c .if1 .came)
+  where
+    head : anyTrue (headRows kind (state (c .before .before .before .before .args .words .now) (c .before .before .before .before .args .entries .now))) ≡ c .before .head-is-damaged .result
+    head = sym (c .before .head-is-damaged .ensures (c .before .before .before .before .args .entries .now) refl)
+
+head-is-damaged-requires : tie.Need-head-is-damaged-requires
+head-is-damaged-requires c κs = search needs
+
+readers-are-damaged-requires : tie.Need-readers-are-damaged-requires
+readers-are-damaged-requires c κs = search needs
+
+publishers-are-damaged-requires : tie.Need-publishers-are-damaged-requires
+publishers-are-damaged-requires c κs = search needs
 
 same-length : tie.Need-same-length
 same-length c = search needs
 
 returns : tie.Need-returns
-returns c = step-damaged rules _ (Claim _ _) (sym (c .before .is-damaged .ensures (c .before .before .before .before .args .entries .now) refl) ∙ c .if1 .taken)
+returns c = step-damaged rules _ (Claim _ _) (spoiled c)
 
 claim-slot-requires : tie.Need-claim-slot-requires
 claim-slot-requires c κs = sound-of _ (clean (c .before))
@@ -36,9 +62,17 @@ same-length-2 : tie.Need-same-length-2
 same-length-2 c = search needs
 
 returns-2 : tie.Need-returns-2
-returns-2 c = c .before .before .claim-slot .ensures (c .before .before .before .before .before .before .before .before .args .entries .now) ∙ step-undamaged rules _ (Claim _ _) (clean (c .before .before .before .before))
+returns-2 c = c .before .before .claim-slot .ensures (c .before .before .before .before .before .before .before .before .before .before .before .before .before .before .args .entries .now) ∙ step-undamaged rules _ (Claim _ _) (clean (c .before .before .before .before))
 
 pub claim-spec : {M : Type 1} → statement M
 claim-spec =
     tie.close
-    (tie.spec is-damaged-requires same-length returns claim-slot-requires same-length-2 returns-2)
+    (tie.spec
+    head-is-damaged-requires
+    readers-are-damaged-requires
+    publishers-are-damaged-requires
+    same-length
+    returns
+    claim-slot-requires
+    same-length-2
+    returns-2)

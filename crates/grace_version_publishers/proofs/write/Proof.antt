@@ -3,32 +3,58 @@ use native.Mathlib.Omega.{arith}
 use lib.ListN.{length, getD, set, length-set}
 use mir.ValLaws.{toZ-ofZ}
 use mathlib.Core.Path.{_≡_, refl, sym, _∙_}
-use mathlib.Core.Bool.{false}
+use mathlib.Core.Bool.{true, false}
+use mathlib.Core.Logic.{⊎-elim}
+use Rattle.calls.specs.Rows.{anyTrue}
+use Rattle.publication_law.specs.Damage.{headRows}
 use borrow.Author.Tests.{le-leb, lt-leb, lt-ltb, le-ltb, eq-eqb, ne-eqb}
 use Rattle.statement.specs.Machine.{state}
 use Rattle.publication_law.specs.Rules.{damaged, step}
 use Rattle.publication_law.specs.Calls.{step-damaged, step-undamaged}
-use Rattle.grace_version_law.specs.Steps.{rules, versions}
-use Rattle.grace_version_law.specs.Calls.{sound-of, entries-of}
+use Rattle.grace_version_law.specs.Steps.{kind, rules, versions}
+use Rattle.grace_version_law.specs.Calls.{damaged-head, damaged-readers, damaged-publishers, undamaged, sound-of, entries-of}
 use Rattle.calls.specs.declared.Call.the-variants.{Write}
 use Rattle.grace_version_publishers.proofs.write.Statement.{statement}
 use Rattle.grace_version_publishers.proofs.write.Tie as tie
 use Rattle.grace_version_publishers.proofs.write.Reads as reads
 use Rattle.grace_version_publishers.proofs.write.Lts as lts
-use Rattle.grace_version_damage.proofs.is_damaged.Reads as is-damaged-reads
+use Rattle.grace_version_damage.proofs.head_is_damaged.Reads as head-is-damaged-reads
+use Rattle.grace_version_damage.proofs.publishers_are_damaged.Reads as publishers-are-damaged-reads
+use Rattle.grace_version_damage.proofs.readers_are_damaged.Reads as readers-are-damaged-reads
 use Rattle.publication.proofs.write_entry.Reads as write-entry-reads
 
-clean : (c : tie.Else1) → damaged rules (state (c .before .before .before .before .args .words .now) (c .before .before .before .before .args .entries .now)) ≡ false
-clean c = sym (c .before .is-damaged .ensures (c .before .before .before .before .args .entries .now) refl) ∙ c .if1 .left
+clean : (c : tie.Else3) → damaged rules (state (c .before .before .before .before .before .before .before .before .before .before .args .words .now) (c .before .before .before .before .before .before .before .before .before .before .args .entries .now)) ≡ false
+clean c =
+    let h = sym (c .before .before .before .before .before .before .before .head-is-damaged .ensures (c .before .before .before .before .before .before .before .before .before .before .args .entries .now) refl) ∙ c .before .before .before .before .before .before .if1 .left in
+    undamaged (state (c .before .before .before .before .before .before .before .before .before .before .args .words .now) (c .before .before .before .before .before .before .before .before .before .before .args .entries .now)) h (sym (c .before .before .before .before .readers-are-damaged .ensures (c .before .before .before .before .before .before .before .before .before .before .args .entries .now) h) ∙ c .before .before .before .if2 .left) (sym (c .before .publishers-are-damaged .ensures (c .before .before .before .before .before .before .before .before .before .before .args .entries .now) h) ∙ c .if3 .left)
 
-is-damaged-requires : tie.Need-is-damaged-requires
-is-damaged-requires c κs = search needs
+-- One of the three tests says so.
+spoiled : (c : tie.Joined1) → damaged rules (state (c .before .before .before .before .args .words .now) (c .before .before .before .before .args .entries .now)) ≡ true
+spoiled c = ⊎-elim
+    (λ t. damaged-head (state (c .before .before .before .before .args .words .now) (c .before .before .before .before .args .entries .now)) (head ∙ t .taken))
+    (⊎-elim
+    (λ a. damaged-readers (state (c .before .before .before .before .args .words .now) (c .before .before .before .before .args .entries .now)) (head ∙ a .0 .left) (sym (a .2 .ensures (c .before .before .before .before .args .entries .now) (head ∙ a .0 .left)) ∙ a .3 .taken))
+    (λ a. damaged-publishers (state (c .before .before .before .before .args .words .now) (c .before .before .before .before .args .entries .now)) (head ∙ a .0 .left) (sym (a .2 .ensures (c .before .before .before .before .args .entries .now) (head ∙ a .0 .left)) ∙ a .3 .left)
+    (sym (a .5 .ensures (c .before .before .before .before .args .entries .now) (head ∙ a .0 .left)) ∙ a .6 .taken)))
+    (c .if1 .came)
+  where
+    head : anyTrue (headRows kind (state (c .before .before .before .before .args .words .now) (c .before .before .before .before .args .entries .now))) ≡ c .before .head-is-damaged .result
+    head = sym (c .before .head-is-damaged .ensures (c .before .before .before .before .args .entries .now) refl)
+
+head-is-damaged-requires : tie.Need-head-is-damaged-requires
+head-is-damaged-requires c κs = search needs
+
+readers-are-damaged-requires : tie.Need-readers-are-damaged-requires
+readers-are-damaged-requires c κs = search needs
+
+publishers-are-damaged-requires : tie.Need-publishers-are-damaged-requires
+publishers-are-damaged-requires c κs = search needs
 
 same-length : tie.Need-same-length
 same-length c = search needs
 
 returns : tie.Need-returns
-returns c = step-damaged rules _ (Write _ _) (sym (c .before .is-damaged .ensures (c .before .before .before .before .args .entries .now) refl) ∙ c .if1 .taken)
+returns c = step-damaged rules _ (Write _ _) (spoiled c)
 
 write-entry-requires : tie.Need-write-entry-requires
 write-entry-requires c κs = (sound-of _ (clean (c .before .before)), entries-of _ (clean (c .before .before)))
@@ -40,13 +66,15 @@ same-length-3 : tie.Need-same-length-3
 same-length-3 c = search needs
 
 returns-2 : tie.Need-returns-2
-returns-2 c = simp (toZ-ofZ _ _ (c .before .before .before .before .before .before .before .before .before .before .fits .v)) at (c .before .before .before .write-entry .ensures) ∙ step-undamaged rules _ (Write _ _) (clean (c .before .before .before .before .before .before))
+returns-2 c = simp (toZ-ofZ _ _ (c .before .before .before .before .before .before .before .before .before .before .before .before .before .before .before .before .fits .v)) at (c .before .before .before .write-entry .ensures) ∙ step-undamaged rules _ (Write _ _) (clean (c .before .before .before .before .before .before))
 
 pub write-spec : {M : Type 1} → statement M
 write-spec =
     tie.close
     (tie.spec
-    is-damaged-requires
+    head-is-damaged-requires
+    readers-are-damaged-requires
+    publishers-are-damaged-requires
     same-length
     returns
     write-entry-requires

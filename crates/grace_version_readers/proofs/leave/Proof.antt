@@ -2,34 +2,60 @@ use borrow.Author.Needs.{needs}
 use native.Mathlib.Omega.{arith}
 use lib.ListN.{length, getD, set, length-set}
 use mathlib.Core.Path.{_≡_, refl, sym, _∙_}
-use mathlib.Core.Bool.{false}
+use mathlib.Core.Bool.{true, false}
+use mathlib.Core.Logic.{⊎-elim}
+use Rattle.calls.specs.Rows.{anyTrue}
+use Rattle.publication_law.specs.Damage.{headRows}
 use borrow.Author.Tests.{le-leb, lt-leb, lt-ltb, le-ltb, eq-eqb, ne-eqb}
 use Rattle.statement.specs.Machine.{state}
 use Rattle.publication_law.specs.Rules.{damaged, step}
 use Rattle.publication_law.specs.Calls.{step-damaged, step-undamaged}
-use Rattle.grace_version_law.specs.Steps.{rules, versions}
-use Rattle.grace_version_law.specs.Calls.{sound-of, leave-is}
+use Rattle.grace_version_law.specs.Steps.{kind, rules, versions}
+use Rattle.grace_version_law.specs.Calls.{damaged-head, damaged-readers, damaged-publishers, undamaged, sound-of, leave-is}
 use Rattle.calls.specs.declared.Call.the-variants.{Leave}
 use Rattle.grace_version_readers.proofs.leave.Statement.{statement}
 use Rattle.grace_version_readers.proofs.leave.Tie as tie
 use Rattle.grace_version_readers.proofs.leave.Reads as reads
 use Rattle.grace_version_readers.proofs.leave.Lts as lts
-use Rattle.grace_version_damage.proofs.is_damaged.Reads as is-damaged-reads
+use Rattle.grace_version_damage.proofs.head_is_damaged.Reads as head-is-damaged-reads
+use Rattle.grace_version_damage.proofs.publishers_are_damaged.Reads as publishers-are-damaged-reads
+use Rattle.grace_version_damage.proofs.readers_are_damaged.Reads as readers-are-damaged-reads
 use Rattle.layout.proofs.put_reader.Reads as put-reader-reads
 use Rattle.layout.proofs.reader_at.Reads as reader-at-reads
 use Rattle.layout.proofs.readers_of.Reads as readers-of-reads
 
-clean : (c : tie.Else1) → damaged rules (state (c .before .before .before .before .args .words .now) (c .before .before .before .before .args .entries .now)) ≡ false
-clean c = sym (c .before .is-damaged .ensures (c .before .before .before .before .args .entries .now) refl) ∙ c .if1 .left
+clean : (c : tie.Else3) → damaged rules (state (c .before .before .before .before .before .before .before .before .before .before .args .words .now) (c .before .before .before .before .before .before .before .before .before .before .args .entries .now)) ≡ false
+clean c =
+    let h = sym (c .before .before .before .before .before .before .before .head-is-damaged .ensures (c .before .before .before .before .before .before .before .before .before .before .args .entries .now) refl) ∙ c .before .before .before .before .before .before .if1 .left in
+    undamaged (state (c .before .before .before .before .before .before .before .before .before .before .args .words .now) (c .before .before .before .before .before .before .before .before .before .before .args .entries .now)) h (sym (c .before .before .before .before .readers-are-damaged .ensures (c .before .before .before .before .before .before .before .before .before .before .args .entries .now) h) ∙ c .before .before .before .if2 .left) (sym (c .before .publishers-are-damaged .ensures (c .before .before .before .before .before .before .before .before .before .before .args .entries .now) h) ∙ c .if3 .left)
 
-is-damaged-requires : tie.Need-is-damaged-requires
-is-damaged-requires c κs = search needs
+-- One of the three tests says so.
+spoiled : (c : tie.Joined1) → damaged rules (state (c .before .before .before .before .args .words .now) (c .before .before .before .before .args .entries .now)) ≡ true
+spoiled c = ⊎-elim
+    (λ t. damaged-head (state (c .before .before .before .before .args .words .now) (c .before .before .before .before .args .entries .now)) (head ∙ t .taken))
+    (⊎-elim
+    (λ a. damaged-readers (state (c .before .before .before .before .args .words .now) (c .before .before .before .before .args .entries .now)) (head ∙ a .0 .left) (sym (a .2 .ensures (c .before .before .before .before .args .entries .now) (head ∙ a .0 .left)) ∙ a .3 .taken))
+    (λ a. damaged-publishers (state (c .before .before .before .before .args .words .now) (c .before .before .before .before .args .entries .now)) (head ∙ a .0 .left) (sym (a .2 .ensures (c .before .before .before .before .args .entries .now) (head ∙ a .0 .left)) ∙ a .3 .left)
+    (sym (a .5 .ensures (c .before .before .before .before .args .entries .now) (head ∙ a .0 .left)) ∙ a .6 .taken)))
+    (c .if1 .came)
+  where
+    head : anyTrue (headRows kind (state (c .before .before .before .before .args .words .now) (c .before .before .before .before .args .entries .now))) ≡ c .before .head-is-damaged .result
+    head = sym (c .before .head-is-damaged .ensures (c .before .before .before .before .args .entries .now) refl)
+
+head-is-damaged-requires : tie.Need-head-is-damaged-requires
+head-is-damaged-requires c κs = search needs
+
+readers-are-damaged-requires : tie.Need-readers-are-damaged-requires
+readers-are-damaged-requires c κs = search needs
+
+publishers-are-damaged-requires : tie.Need-publishers-are-damaged-requires
+publishers-are-damaged-requires c κs = search needs
 
 same-length : tie.Need-same-length
 same-length c = search needs
 
 returns : tie.Need-returns
-returns c = step-damaged rules _ (Leave _) (sym (c .before .is-damaged .ensures (c .before .before .before .before .args .entries .now) refl) ∙ c .if1 .taken)
+returns c = step-damaged rules _ (Leave _) (spoiled c)
 
 readers-of-requires : tie.Need-readers-of-requires
 readers-of-requires c κs = sound-of _ (clean (c .before)) .long
@@ -39,7 +65,7 @@ same-length-2 c = search needs
 
 returns-2 : tie.Need-returns-2
 unfolding step
-returns-2 c = rw (clean (c .before .before .before), le-leb _ _ (rw (c .before .readers-of .ensures) at (c .if2 .taken))) refl
+returns-2 c = rw (clean (c .before .before .before), le-leb _ _ (rw (c .before .readers-of .ensures) at (c .if4 .taken))) refl
 
 reader-at-requires : tie.Need-reader-at-requires
 reader-at-requires c κs = omega (arith, sound-of _ (clean (c .before .before .before .before)), c .before .before .readers-of .ensures)
@@ -49,7 +75,7 @@ same-length-3 c = search needs
 
 returns-3 : tie.Need-returns-3
 unfolding step
-returns-3 c = rw (clean (c .before .before .before .before .before .before .before), lt-leb _ _ (rw (c .before .before .before .before .before .readers-of .ensures) at (c .before .before .before .before .if2 .left)), lt-ltb _ 4 (rw (c .before .before .reader-at .ensures) at (c .if3 .taken))) refl
+returns-3 c = rw (clean (c .before .before .before .before .before .before .before), lt-leb _ _ (rw (c .before .before .before .before .before .readers-of .ensures) at (c .before .before .before .before .if4 .left)), lt-ltb _ 4 (rw (c .before .before .reader-at .ensures) at (c .if5 .taken))) refl
 
 put-reader-requires : tie.Need-put-reader-requires
 put-reader-requires c κs = omega (arith, sound-of _ (clean (c .before .before .before .before .before .before .before .before)), c .before .before .before .before .before .before .readers-of .ensures)
@@ -58,13 +84,15 @@ same-length-4 : tie.Need-same-length-4
 same-length-4 c = search needs
 
 returns-4 : tie.Need-returns-4
-returns-4 c = leave-is _ (clean (c .before .before .before .before .before .before .before .before .before .before .before)) _ _ _ (rw (c .before .before .before .before .before .before .before .before .before .readers-of .ensures) at (c .before .before .before .before .before .before .before .before .if2 .left)) (c .before .before .before .before .before .before .reader-at .ensures) (c .before .before .before .before .if3 .left) (c .before .before .put-reader .ensures)
+returns-4 c = leave-is _ (clean (c .before .before .before .before .before .before .before .before .before .before .before)) _ _ _ (rw (c .before .before .before .before .before .before .before .before .before .readers-of .ensures) at (c .before .before .before .before .before .before .before .before .if4 .left)) (c .before .before .before .before .before .before .reader-at .ensures) (c .before .before .before .before .if5 .left) (c .before .before .put-reader .ensures)
 
 pub leave-spec : {M : Type 1} → statement M
 leave-spec =
     tie.close
     (tie.spec
-    is-damaged-requires
+    head-is-damaged-requires
+    readers-are-damaged-requires
+    publishers-are-damaged-requires
     same-length
     returns
     readers-of-requires

@@ -2,29 +2,55 @@ use borrow.Author.Needs.{needs}
 use native.Mathlib.Omega.{arith}
 use lib.ListN.{length, getD, set, length-set}
 use mathlib.Core.Path.{_≡_, refl, sym, _∙_}
-use mathlib.Core.Bool.{false}
+use mathlib.Core.Bool.{true, false}
+use mathlib.Core.Logic.{⊎-elim}
+use Rattle.calls.specs.Rows.{anyTrue}
+use Rattle.publication_law.specs.Damage.{headRows}
 use borrow.Author.Tests.{le-leb, lt-leb, lt-ltb, le-ltb, eq-eqb, ne-eqb}
 use Rattle.statement.specs.Machine.{state}
 use Rattle.publication_law.specs.Rules.{damaged, step}
 use Rattle.publication_law.specs.Calls.{step-damaged, step-undamaged}
-use Rattle.grace_version_law.specs.Steps.{rules, versions}
-use Rattle.grace_version_law.specs.Calls.{sound-of, entries-of}
+use Rattle.grace_version_law.specs.Steps.{kind, rules, versions}
+use Rattle.grace_version_law.specs.Calls.{damaged-head, damaged-readers, damaged-publishers, undamaged, sound-of, entries-of}
 use Rattle.calls.specs.declared.Call.the-variants.{Look}
 use Rattle.grace_version_readers.proofs.look.Statement.{statement}
 use Rattle.grace_version_readers.proofs.look.Tie as tie
 use Rattle.grace_version_readers.proofs.look.Reads as reads
 use Rattle.grace_version_readers.proofs.look.Lts as lts
-use Rattle.grace_version_damage.proofs.is_damaged.Reads as is-damaged-reads
+use Rattle.grace_version_damage.proofs.head_is_damaged.Reads as head-is-damaged-reads
+use Rattle.grace_version_damage.proofs.publishers_are_damaged.Reads as publishers-are-damaged-reads
+use Rattle.grace_version_damage.proofs.readers_are_damaged.Reads as readers-are-damaged-reads
 use Rattle.publication.proofs.look_up.Reads as look-up-reads
 
-clean : (c : tie.Else1) → damaged rules (state (c .before .before .before .args .words .now) (c .before .before .before .args .entries .now)) ≡ false
-clean c = sym (c .before .is-damaged .ensures (c .before .before .before .args .entries .now) refl) ∙ c .if1 .left
+clean : (c : tie.Else3) → damaged rules (state (c .before .before .before .before .before .before .before .args .words .now) (c .before .before .before .before .before .before .before .args .entries .now)) ≡ false
+clean c =
+    let h = sym (c .before .before .before .before .before .head-is-damaged .ensures (c .before .before .before .before .before .before .before .args .entries .now) refl) ∙ c .before .before .before .before .if1 .left in
+    undamaged (state (c .before .before .before .before .before .before .before .args .words .now) (c .before .before .before .before .before .before .before .args .entries .now)) h (sym (c .before .before .before .readers-are-damaged .ensures (c .before .before .before .before .before .before .before .args .entries .now) h) ∙ c .before .before .if2 .left) (sym (c .before .publishers-are-damaged .ensures (c .before .before .before .before .before .before .before .args .entries .now) h) ∙ c .if3 .left)
 
-is-damaged-requires : tie.Need-is-damaged-requires
-is-damaged-requires c κs = search needs
+-- One of the three tests says so.
+spoiled : (c : tie.Joined1) → damaged rules (state (c .before .before .before .args .words .now) (c .before .before .before .args .entries .now)) ≡ true
+spoiled c = ⊎-elim
+    (λ t. damaged-head (state (c .before .before .before .args .words .now) (c .before .before .before .args .entries .now)) (head ∙ t .taken))
+    (⊎-elim
+    (λ a. damaged-readers (state (c .before .before .before .args .words .now) (c .before .before .before .args .entries .now)) (head ∙ a .0 .left) (sym (a .1 .ensures (c .before .before .before .args .entries .now) (head ∙ a .0 .left)) ∙ a .2 .taken))
+    (λ a. damaged-publishers (state (c .before .before .before .args .words .now) (c .before .before .before .args .entries .now)) (head ∙ a .0 .left) (sym (a .1 .ensures (c .before .before .before .args .entries .now) (head ∙ a .0 .left)) ∙ a .2 .left)
+    (sym (a .3 .ensures (c .before .before .before .args .entries .now) (head ∙ a .0 .left)) ∙ a .4 .taken)))
+    (c .if1 .came)
+  where
+    head : anyTrue (headRows kind (state (c .before .before .before .args .words .now) (c .before .before .before .args .entries .now))) ≡ c .before .head-is-damaged .result
+    head = sym (c .before .head-is-damaged .ensures (c .before .before .before .args .entries .now) refl)
+
+head-is-damaged-requires : tie.Need-head-is-damaged-requires
+head-is-damaged-requires c κs = search needs
+
+readers-are-damaged-requires : tie.Need-readers-are-damaged-requires
+readers-are-damaged-requires c κs = search needs
+
+publishers-are-damaged-requires : tie.Need-publishers-are-damaged-requires
+publishers-are-damaged-requires c κs = search needs
 
 returns : tie.Need-returns
-returns c = step-damaged rules _ (Look _ _) (sym (c .before .is-damaged .ensures (c .before .before .before .args .entries .now) refl) ∙ c .if1 .taken)
+returns c = step-damaged rules _ (Look _ _) (spoiled c)
 
 look-up-requires : tie.Need-look-up-requires
 look-up-requires c κs = (sound-of _ (clean c), entries-of _ (clean c))
@@ -33,4 +59,12 @@ returns-2 : tie.Need-returns-2
 returns-2 c = c .look-up .ensures ∙ step-undamaged rules _ (Look _ _) (clean (c .before))
 
 pub look-spec : {M : Type 1} → statement M
-look-spec = tie.close (tie.spec is-damaged-requires returns look-up-requires returns-2)
+look-spec =
+    tie.close
+    (tie.spec
+    head-is-damaged-requires
+    readers-are-damaged-requires
+    publishers-are-damaged-requires
+    returns
+    look-up-requires
+    returns-2)

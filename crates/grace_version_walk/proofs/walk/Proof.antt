@@ -2,13 +2,16 @@ use borrow.Author.Needs.{needs}
 use native.Mathlib.Omega.{arith}
 use lib.ListN.{length, getD, set, length-set}
 use mathlib.Core.Path.{_≡_, refl, sym, _∙_}
-use mathlib.Core.Bool.{false}
+use mathlib.Core.Bool.{true, false}
+use mathlib.Core.Logic.{⊎-elim}
+use Rattle.calls.specs.Rows.{anyTrue}
+use Rattle.publication_law.specs.Damage.{headRows}
 use borrow.Author.Tests.{le-leb, lt-leb, lt-ltb, le-ltb, eq-eqb, ne-eqb}
 use Rattle.statement.specs.Machine.{state}
 use Rattle.publication_law.specs.Rules.{damaged, step}
 use Rattle.publication_law.specs.Calls.{step-damaged, step-undamaged}
-use Rattle.grace_version_law.specs.Steps.{rules, versions}
-use Rattle.grace_version_law.specs.Calls.{sound-of, Walking, walking-of, walk-is}
+use Rattle.grace_version_law.specs.Steps.{kind, rules, versions}
+use Rattle.grace_version_law.specs.Calls.{damaged-head, damaged-readers, damaged-publishers, undamaged, sound-of, Walking, walking-of, walk-is}
 use Rattle.calls.specs.declared.Call.the-variants.{Walk}
 use Prim.Native.Nat.{_+_, _<_, _≤_}
 use Rattle.calls.specs.Numbers.{NUMBER-MAX}
@@ -17,35 +20,58 @@ use Rattle.grace_version_walk.proofs.walk.Statement.{statement}
 use Rattle.grace_version_walk.proofs.walk.Tie as tie
 use Rattle.grace_version_walk.proofs.walk.Reads as reads
 use Rattle.grace_version_walk.proofs.walk.Lts as lts
-use Rattle.grace_version_damage.proofs.is_damaged.Reads as is-damaged-reads
+use Rattle.grace_version_damage.proofs.head_is_damaged.Reads as head-is-damaged-reads
+use Rattle.grace_version_damage.proofs.publishers_are_damaged.Reads as publishers-are-damaged-reads
+use Rattle.grace_version_damage.proofs.readers_are_damaged.Reads as readers-are-damaged-reads
 use Rattle.grace_version_walk.proofs.looks.Reads as looks-reads
 use Rattle.layout.proofs.publisher_at.Reads as publisher-at-reads
 use Rattle.layout.proofs.publishers_of.Reads as publishers-of-reads
 use Rattle.layout.proofs.readers_of.Reads as readers-of-reads
 use Rattle.publication.proofs.end_walk.Reads as end-walk-reads
 
-clean : (c : tie.Else1) → damaged rules (state (c .before .before .before .before .args .words .now) (c .before .before .before .before .args .entries .now)) ≡ false
-clean c = sym (c .before .is-damaged .ensures (c .before .before .before .before .args .entries .now) refl) ∙ c .if1 .left
+clean : (c : tie.Else3) → damaged rules (state (c .before .before .before .before .before .before .before .before .before .before .args .words .now) (c .before .before .before .before .before .before .before .before .before .before .args .entries .now)) ≡ false
+clean c =
+    let h = sym (c .before .before .before .before .before .before .before .head-is-damaged .ensures (c .before .before .before .before .before .before .before .before .before .before .args .entries .now) refl) ∙ c .before .before .before .before .before .before .if1 .left in
+    undamaged (state (c .before .before .before .before .before .before .before .before .before .before .args .words .now) (c .before .before .before .before .before .before .before .before .before .before .args .entries .now)) h (sym (c .before .before .before .before .readers-are-damaged .ensures (c .before .before .before .before .before .before .before .before .before .before .args .entries .now) h) ∙ c .before .before .before .if2 .left) (sym (c .before .publishers-are-damaged .ensures (c .before .before .before .before .before .before .before .before .before .before .args .entries .now) h) ∙ c .if3 .left)
 
-walker : (c : tie.At-match-keys1) → Walking (readers (c .before .before .before .before .before .before .before .before .before .before .args .words .now)) (c .before .publisher-at .result)
+-- One of the three tests says so.
+spoiled : (c : tie.Joined1) → damaged rules (state (c .before .before .before .before .args .words .now) (c .before .before .before .before .args .entries .now)) ≡ true
+spoiled c = ⊎-elim
+    (λ t. damaged-head (state (c .before .before .before .before .args .words .now) (c .before .before .before .before .args .entries .now)) (head ∙ t .taken))
+    (⊎-elim
+    (λ a. damaged-readers (state (c .before .before .before .before .args .words .now) (c .before .before .before .before .args .entries .now)) (head ∙ a .0 .left) (sym (a .2 .ensures (c .before .before .before .before .args .entries .now) (head ∙ a .0 .left)) ∙ a .3 .taken))
+    (λ a. damaged-publishers (state (c .before .before .before .before .args .words .now) (c .before .before .before .before .args .entries .now)) (head ∙ a .0 .left) (sym (a .2 .ensures (c .before .before .before .before .args .entries .now) (head ∙ a .0 .left)) ∙ a .3 .left)
+    (sym (a .5 .ensures (c .before .before .before .before .args .entries .now) (head ∙ a .0 .left)) ∙ a .6 .taken)))
+    (c .if1 .came)
+  where
+    head : anyTrue (headRows kind (state (c .before .before .before .before .args .words .now) (c .before .before .before .before .args .entries .now))) ≡ c .before .head-is-damaged .result
+    head = sym (c .before .head-is-damaged .ensures (c .before .before .before .before .args .entries .now) refl)
+
+walker : (c : tie.At-match-keys1) → Walking (readers (c .before .before .before .before .before .before .before .before .before .before .before .before .before .before .before .before .args .words .now)) (c .before .publisher-at .result)
 walker c =
     let e = rw (c .before .publisher-at .ensures) at (c .match .keys1) in
-    rw (c .before .publisher-at .ensures) (walking-of _ (clean (c .before .before .before .before .before .before)) _ (rw (c .before .before .before .before .publishers-of .ensures) at (c .before .before .before .if2 .left)) (rw e refl) (omega (arith, e)))
+    rw (c .before .publisher-at .ensures) (walking-of _ (clean (c .before .before .before .before .before .before)) _ (rw (c .before .before .before .before .publishers-of .ensures) at (c .before .before .before .if4 .left)) (rw e refl) (omega (arith, e)))
 
-room : (c : tie.Else3) → c .before .before .before .before .publisher-at .result .walk .looks + c .before .before .before .before .before .before .before .before .before .before .before .before .before .args .b ≤ NUMBER-MAX
-room c = omega (arith, c .if3 .left, c .before .before .before .before .before .before .before .before .before .before .before .before .before .fits .b)
+room : (c : tie.Else5) → c .before .before .before .before .publisher-at .result .walk .looks + c .before .before .before .before .before .before .before .before .before .before .before .before .before .before .before .before .before .before .before .args .b ≤ NUMBER-MAX
+room c = omega (arith, c .if5 .left, c .before .before .before .before .before .before .before .before .before .before .before .before .before .before .before .before .before .before .before .fits .b)
 
-full : (c : tie.Then3) → NUMBER-MAX < publisherAt (c .before .before .before .before .before .before .before .before .before .before .before .before .before .args .words .now) (c .before .before .before .before .before .before .before .before .before .before .before .before .before .args .p) .walk .looks + c .before .before .before .before .before .before .before .before .before .before .before .before .before .args .b
-full c = let t = rw (c .before .before .before .before .publisher-at .ensures) at (c .if3 .taken) in omega (arith, c .before .before .before .before .before .before .before .before .before .before .before .before .before .fits .b)
+full : (c : tie.Then5) → NUMBER-MAX < publisherAt (c .before .before .before .before .before .before .before .before .before .before .before .before .before .before .before .before .before .before .before .args .words .now) (c .before .before .before .before .before .before .before .before .before .before .before .before .before .before .before .before .before .before .before .args .p) .walk .looks + c .before .before .before .before .before .before .before .before .before .before .before .before .before .before .before .before .before .before .before .args .b
+full c = let t = rw (c .before .before .before .before .publisher-at .ensures) at (c .if5 .taken) in omega (arith, c .before .before .before .before .before .before .before .before .before .before .before .before .before .before .before .before .before .before .before .fits .b)
 
-is-damaged-requires : tie.Need-is-damaged-requires
-is-damaged-requires c κs = search needs
+head-is-damaged-requires : tie.Need-head-is-damaged-requires
+head-is-damaged-requires c κs = search needs
+
+readers-are-damaged-requires : tie.Need-readers-are-damaged-requires
+readers-are-damaged-requires c κs = search needs
+
+publishers-are-damaged-requires : tie.Need-publishers-are-damaged-requires
+publishers-are-damaged-requires c κs = search needs
 
 same-length : tie.Need-same-length
 same-length c = search needs
 
 returns : tie.Need-returns
-returns c = step-damaged rules _ (Walk _ _) (sym (c .before .is-damaged .ensures (c .before .before .before .before .args .entries .now) refl) ∙ c .if1 .taken)
+returns c = step-damaged rules _ (Walk _ _) (spoiled c)
 
 publishers-of-requires : tie.Need-publishers-of-requires
 publishers-of-requires c κs = sound-of _ (clean (c .before)) .long
@@ -55,20 +81,20 @@ same-length-2 c = search needs
 
 returns-2 : tie.Need-returns-2
 unfolding step
-returns-2 c = rw (clean (c .before .before .before), le-leb _ _ (rw (c .before .publishers-of .ensures) at (c .if2 .taken))) refl
+returns-2 c = rw (clean (c .before .before .before), le-leb _ _ (rw (c .before .publishers-of .ensures) at (c .if4 .taken))) refl
 
 publisher-at-requires : tie.Need-publisher-at-requires
 publisher-at-requires c κs = omega (arith, sound-of _ (clean (c .before .before .before .before)), c .before .before .publishers-of .ensures)
 
-sub-if3 : tie.Need-sub-if3
-sub-if3 c = search needs
+sub-if5 : tie.Need-sub-if5
+sub-if5 c = search needs
 
 same-length-3 : tie.Need-same-length-3
 same-length-3 c = search needs
 
 returns-3 : tie.Need-returns-3
 unfolding step
-returns-3 c = rw (clean (c .before .before .before .before .before .before .before .before .before), lt-leb _ _ (rw (c .before .before .before .before .before .before .before .publishers-of .ensures) at (c .before .before .before .before .before .before .if2 .left)), rw (c .before .before .before .before .publisher-at .ensures) at (c .before .before .before .match .keys1), lt-ltb _ _ (full c)) refl
+returns-3 c = rw (clean (c .before .before .before .before .before .before .before .before .before), lt-leb _ _ (rw (c .before .before .before .before .before .before .before .publishers-of .ensures) at (c .before .before .before .before .before .before .if4 .left)), rw (c .before .before .before .before .publisher-at .ensures) at (c .before .before .before .match .keys1), lt-ltb _ _ (full c)) refl
 
 readers-of-requires : tie.Need-readers-of-requires
 readers-of-requires c κs = sound-of _ (clean (c .before .before .before .before .before .before .before .before .before .before)) .long
@@ -77,33 +103,35 @@ looks-requires : tie.Need-looks-requires
 looks-requires c κs = (sound-of _ (clean (c .before .before .before .before .before .before .before .before .before .before .before)) .long, rw (c .readers-of .ensures) (sound-of _ (clean (c .before .before .before .before .before .before .before .before .before .before .before)) .readers-high), rw (c .readers-of .ensures) (walker (c .before .before .before .before .before) .next-low), room (c .before .before), walker (c .before .before .before .before .before) .waits-low)
 
 end-walk-requires : tie.Need-end-walk-requires
-end-walk-requires c κs = (sound-of _ (clean (c .before .before .before .before .before .before .before .before .before .before .before .before .before)), rw (c .before .before .before .before .before .before .before .before .before .before .before .publishers-of .ensures) at (c .before .before .before .before .before .before .before .before .before .before .if2 .left), c .before .before .before .before .before .before .before .before .publisher-at .ensures)
+end-walk-requires c κs = (sound-of _ (clean (c .before .before .before .before .before .before .before .before .before .before .before .before .before)), rw (c .before .before .before .before .before .before .before .before .before .before .before .publishers-of .ensures) at (c .before .before .before .before .before .before .before .before .before .before .if4 .left), c .before .before .before .before .before .before .before .before .publisher-at .ensures)
 
 same-length-4 : tie.Need-same-length-4
 same-length-4 c = search needs
 
 returns-4 : tie.Need-returns-4
-returns-4 c = walk-is _ (clean (c .before .before .before .before .before .before .before .before .before .before .before .before .before .before .before .before)) _ _ _ _ _ (rw (c .before .before .before .before .before .before .before .before .before .before .before .before .before .before .publishers-of .ensures) at (c .before .before .before .before .before .before .before .before .before .before .before .before .before .if2 .left)) (c .before .before .before .before .before .before .before .before .before .before .before .publisher-at .ensures) (c .before .before .before .before .before .before .before .before .before .before .match .keys1) (room (c .before .before .before .before .before .before .before)) (rw (c .before .before .before .before .before .readers-of .ensures) at (c .before .before .before .before .looks .ensures)) (c .before .before .end-walk .ensures (c .before .before .before .before .before .before .before .before .before .before .before .before .before .before .before .before .before .before .before .before .args .entries .now))
+returns-4 c = walk-is _ (clean (c .before .before .before .before .before .before .before .before .before .before .before .before .before .before .before .before)) _ _ _ _ _ (rw (c .before .before .before .before .before .before .before .before .before .before .before .before .before .before .publishers-of .ensures) at (c .before .before .before .before .before .before .before .before .before .before .before .before .before .if4 .left)) (c .before .before .before .before .before .before .before .before .before .before .before .publisher-at .ensures) (c .before .before .before .before .before .before .before .before .before .before .match .keys1) (room (c .before .before .before .before .before .before .before)) (rw (c .before .before .before .before .before .readers-of .ensures) at (c .before .before .before .before .looks .ensures)) (c .before .before .end-walk .ensures (c .before .before .before .before .before .before .before .before .before .before .before .before .before .before .before .before .before .before .before .before .before .before .before .before .before .before .args .entries .now))
 
 same-length-5 : tie.Need-same-length-5
 same-length-5 c = search needs
 
 returns-5 : tie.Need-returns-5
 unfolding step
-returns-5 c = rw (clean (c .before .before .before .before .before .before), lt-leb _ _ (rw (c .before .before .before .before .publishers-of .ensures) at (c .before .before .before .if2 .left)), ne-eqb _ 37 (rw (c .before .publisher-at .ensures) at (c .match .rest .1))) refl
+returns-5 c = rw (clean (c .before .before .before .before .before .before), lt-leb _ _ (rw (c .before .before .before .before .publishers-of .ensures) at (c .before .before .before .if4 .left)), ne-eqb _ 37 (rw (c .before .publisher-at .ensures) at (c .match .rest .1))) refl
 
 pub walk-spec : {M : Type 1} → statement M
 walk-spec =
     tie.close
     (tie.spec
-    is-damaged-requires
+    head-is-damaged-requires
+    readers-are-damaged-requires
+    publishers-are-damaged-requires
     same-length
     returns
     publishers-of-requires
     same-length-2
     returns-2
     publisher-at-requires
-    sub-if3
+    sub-if5
     same-length-3
     returns-3
     readers-of-requires

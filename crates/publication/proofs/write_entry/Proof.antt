@@ -49,26 +49,26 @@ returns-2 c = rw (lt-leb _ _ (rw (c .before .before .before .publishers-of .ensu
 publisher-at-requires : tie.Need-publisher-at-requires
 publisher-at-requires c κs = omega (arith, c .before .before .before .before .before .before .before .pre .0, c .before .before .before .before .publishers-of .ensures)
 
-mul-v : tie.Need-mul-v
-mul-v c = omega (arith, held c, c .before .before .before .before .before .before .before .before .before .before .pre .0)
-
-sub-v : tie.Need-sub-v
-sub-v c = search needs
-
-add-v : tie.Need-add-v
-add-v c = omega (arith, held c, c .before .before .before .before .before .before .before .before .before .before .pre .0)
-
-mul-v-2 : tie.Need-mul-v-2
-mul-v-2 c = omega (arith, held c, c .before .before .before .before .before .before .before .before .before .before .pre .0)
-
-slice-set-from-v : tie.Need-slice-set-from-v
-slice-set-from-v c = omega (arith, held c, c .before .before .before .before .before .before .before .before .before .before .pre .0, c .before .before .before .before .before .before .before .before .before .before .pre .1)
-
 add-y : tie.Need-add-y
 add-y c = search needs
 
 put-publisher-requires : tie.Need-put-publisher-requires
 put-publisher-requires c κs = omega (arith, c .before .before .before .before .before .before .before .before .before .before .before .pre .0, c .before .before .before .before .before .before .before .before .publishers-of .ensures)
+
+mul-v : tie.Need-mul-v
+mul-v c = omega (arith, held (c .before .before .before .before), c .before .before .before .before .before .before .before .before .before .before .before .before .before .before .pre .0)
+
+sub-v : tie.Need-sub-v
+sub-v c = search needs
+
+add-v : tie.Need-add-v
+add-v c = omega (arith, held (c .before .before .before .before), c .before .before .before .before .before .before .before .before .before .before .before .before .before .before .pre .0)
+
+mul-v-2 : tie.Need-mul-v-2
+mul-v-2 c = omega (arith, held (c .before .before .before .before), c .before .before .before .before .before .before .before .before .before .before .before .before .before .before .pre .0)
+
+slice-set-from-v : tie.Need-slice-set-from-v
+slice-set-from-v c = omega (arith, held (c .before .before .before .before), c .before .before .before .before .before .before .before .before .before .before .before .before .before .before .pre .0, c .before .before .before .before .before .before .before .before .before .before .before .before .before .before .pre .1)
 
 same-length-3 : tie.Need-same-length-3
 same-length-3 c = search needs
@@ -102,13 +102,13 @@ write-entry-spec =
     same-length-2
     returns-2
     publisher-at-requires
+    add-y
+    put-publisher-requires
     mul-v
     sub-v
     add-v
     mul-v-2
     slice-set-from-v
-    add-y
-    put-publisher-requires
     same-length-3
     same-length-4
     returns-3

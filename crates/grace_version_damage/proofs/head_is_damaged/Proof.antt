@@ -1,0 +1,19 @@
+use borrow.Author.Needs.{needs}
+use native.Mathlib.Omega.{arith}
+use lib.ListN.{length, getD, set, length-set}
+use mathlib.Core.Path.{refl}
+use Rattle.grace_version_law.specs.Steps.{kind}
+use Rattle.grace_version_damage.proofs.head_is_damaged.Statement.{statement}
+use Rattle.grace_version_damage.proofs.head_is_damaged.Tie as tie
+use Rattle.grace_version_damage.proofs.head_is_damaged.Reads as reads
+use Rattle.grace_version_damage.proofs.head_is_damaged.Lts as lts
+use Rattle.publication.proofs.head_damaged.Reads as head-damaged-reads
+
+head-damaged-requires : tie.Need-head-damaged-requires
+head-damaged-requires c κs = search needs
+
+returns : tie.Need-returns
+returns c = λ es l. c .head-damaged .ensures kind es refl refl l
+
+pub head-is-damaged-spec : {M : Type 1} → statement M
+head-is-damaged-spec = tie.close (tie.spec head-damaged-requires returns)

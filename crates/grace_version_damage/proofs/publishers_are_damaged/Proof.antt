@@ -1,0 +1,54 @@
+use borrow.Author.Needs.{needs}
+use native.Mathlib.Omega.{arith}
+use lib.ListN.{length, getD, set, length-set}
+use Rattle.statement.specs.Machine.{state}
+use mathlib.Core.Path.{_≡_, refl, sym, _∙_}
+use mathlib.Core.Bool.{true, false}
+use Rattle.calls.specs.RowLaws.{clash, within, not-outside}
+use Rattle.publication_law.specs.DamageLaws.{head-of}
+use Rattle.grace_version_law.specs.Steps.{kind}
+use Rattle.grace_version_damage.proofs.publishers_are_damaged.Statement.{statement}
+use Rattle.grace_version_damage.proofs.publishers_are_damaged.Tie as tie
+use Rattle.grace_version_damage.proofs.publishers_are_damaged.Reads as reads
+use Rattle.grace_version_damage.proofs.publishers_are_damaged.Lts as lts
+use Rattle.grace_version_damage.proofs.publishers_damaged.Reads as publishers-damaged-reads
+use Rattle.layout.proofs.publishers_of.Reads as publishers-of-reads
+use Rattle.layout.proofs.readers_of.Reads as readers-of-reads
+use Rattle.layout.proofs.slots_of.Reads as slots-of-reads
+
+returns : tie.Need-returns
+returns c = λ es h. absurd (c .if1 .taken (head-of kind (state (c .before .before .args .words .now) es) h .long))
+
+publishers-of-requires : tie.Need-publishers-of-requires
+publishers-of-requires c κs = search needs
+
+cast-if2 : tie.Need-cast-if2
+cast-if2 c = search needs
+
+returns-2 : tie.Need-returns-2
+returns-2 c = λ es h. let f = head-of kind (state (c .before .before .before .before .args .words .now) es) h in clash (sym (rw (c .before .publishers-of .ensures) at (c .if2 .taken)) ∙ not-outside 1 _ _ (f .publishers-low) (f .publishers-high))
+
+readers-of-requires : tie.Need-readers-of-requires
+readers-of-requires c κs = search needs
+
+slots-of-requires : tie.Need-slots-of-requires
+slots-of-requires c κs = search needs
+
+publishers-damaged-requires : tie.Need-publishers-damaged-requires
+publishers-damaged-requires c κs = omega (arith, within 1 16 (c .before .before .before .publishers-of .result) (c .before .before .if2 .left))
+
+returns-3 : tie.Need-returns-3
+returns-3 c = λ es h. (rw (c .before .before .before .before .publishers-of .ensures, c .before .before .readers-of .ensures, c .before .slots-of .ensures) at (c .publishers-damaged .ensures))
+
+pub publishers-are-damaged-spec : {M : Type 1} → statement M
+publishers-are-damaged-spec =
+    tie.close
+    (tie.spec
+    returns
+    publishers-of-requires
+    cast-if2
+    returns-2
+    readers-of-requires
+    slots-of-requires
+    publishers-damaged-requires
+    returns-3)
