@@ -1,11 +1,10 @@
 -- What the code of the new store asks of an undamaged store, and what its accepted calls come to. Assumes nothing.
 use Prim.Native.Nat.{ℕ, zero, suc, _+_, _-_, _*_, _%_, _<_, _≤_}
 use native.Mathlib.Omega.{arith}
-use mathlib.Core.Path.{_≡_, refl, sym, ap, _∙_}
+use mathlib.Core.Path.{_≡_, refl, sym, _∙_}
 use mathlib.Core.Logic.{_≢_}
 use mathlib.Core.Bool.{Bool, true, false, not, _&&_, _||_}
 use mathlib.Core.List.{List}
-use lib.IntN.{ℤ}
 use lib.ListN.{length}
 use lib.Dec.{leb, ltb, eqb}
 use borrow.Author.Tests.{eq-eqb, ne-eqb, eqb-true, eqb-false, ltb-false, lt-leb, le-leb, le-ltb, lt-ltb, not-false}
@@ -18,9 +17,9 @@ use Rattle.calls.specs.RowLaws.{clash, and-false, or-false, or-left, or-right, 
 use Rattle.layout.specs.declared.Reader.{Reader}
 use Rattle.layout.specs.declared.Publisher.{Publisher}
 use Rattle.layout.specs.declared.Progress.{Progress}
-use Rattle.layout.specs.Layout.{readers, publishers, slots, current, version, readerAt, publisherAt, withReader}
+use Rattle.layout.specs.Layout.{readers, publishers, slots, current, version, readerAt, withReader}
 use Rattle.statement.specs.Machine.{State, state, Outcome, outcome}
-use Rattle.publication_law.specs.Steps.{decide, reader, publisher, raise, walk}
+use Rattle.publication_law.specs.Steps.{reader, publisher, raise, walk}
 use Rattle.publication_law.specs.Damage.{headRows, publisherRows, readersDamaged, publishersDamaged, sharedDamage, wrongPick}
 use Rattle.publication_law.specs.DamageLaws.{Fine, fine-of, publisher-of, publisher-to}
 use Rattle.publication_law.specs.Decide.{decide-accepts}
@@ -28,7 +27,7 @@ use Rattle.publication_law.specs.Rules.{damaged, tests, act, step}
 use Rattle.publication_law.specs.Sound.{Sound, sound}
 use Rattle.publication_law.specs.Calls.{step-undamaged}
 use Rattle.grace_version_law.specs.Steps.{LAST, versions, kind, readerRows, ownRows, onward, leaving, lookedAt, progress, looksFrom, looksOf, rules}
-use Rattle.grace_version_law.specs.Safety.{law, next-below, onward-place}
+use Rattle.grace_version_law.specs.Safety.{law, next-below}
 
 pub fine : (s : State) → damaged rules s ≡ false → Fine kind s
 unfolding damaged

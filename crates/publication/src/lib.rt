@@ -4,7 +4,7 @@
 ghost use mathlib.Core.Path.{_≡_};
 ghost use mathlib.Core.Bool.{_&&_, _||_};
 ghost use mathlib.Core.List.{List};
-ghost use Prim.Native.Nat.{_+_, _*_, _%_, _<_, _≤_};
+ghost use Prim.Native.Nat.{_+_, _*_, _%_, _<_};
 ghost use lib.IntN.{ℤ};
 ghost use lib.ListN.{length, replicate};
 ghost use lib.Signed.{ltZ};
@@ -15,7 +15,7 @@ ghost use Rattle.calls.specs.Rows.{anyTrue};
 ghost use Rattle.layout.specs.Layout.{publishers, slots, version, publisherAt, blankReader};
 ghost use Rattle.statement.specs.Machine.{state, outcome, given};
 ghost use Rattle.publication_law.specs.Steps.{Versions, decide, anotherBusy, inUse, lookTests, look, claimTests, claim, writeTests, write, swapTests, swap, syncTests, sync, raise, walk, placeAfter, releaseTests, release, makingTests, made};
-ghost use Rattle.publication_law.specs.Damage.{Kind, headRows, publisherRows};
+ghost use Rattle.publication_law.specs.Damage.{Kind, headRows};
 ghost use Rattle.publication_law.specs.Sound.{Sound};
 use calls::BAD_ENTRIES;
 use calls::BAD_PITCH;

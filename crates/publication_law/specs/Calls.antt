@@ -1,19 +1,17 @@
 -- What an accepted shared call comes to, from what its code has come to know: the rows that do not apply, the record that it read, the words that it wrote.
 -- Assumes nothing.
 use Prim.Native.Nat.{ℕ, _+_, _-_, _*_, _%_, _<_, _≤_}
-use native.Mathlib.Omega.{arith}
-use mathlib.Core.Path.{_≡_, refl, sym, ap, _∙_}
+use mathlib.Core.Path.{_≡_, refl, sym}
 use mathlib.Core.Logic.{_≢_}
 use mathlib.Core.Bool.{Bool, true, false, not, _&&_, _||_}
-use mathlib.Core.List.{List, _∷_}
+use mathlib.Core.List.{List}
 use lib.IntN.{ℤ, pos}
 use lib.Signed.{ltZ}
 use lib.ListN.{getD, set, length, replicate}
-use lib.Dec.{leb, ltb, eqb}
+use lib.Dec.{eqb}
 use borrow.Author.Tests.{eq-eqb, ne-eqb, lt-leb, le-ltb}
 use Rattle.calls.specs.declared.Call.{Call}
 use Rattle.calls.specs.declared.Reply.the-variants.{Made, Pitch, Claimed, Written, Swapped, Synced, Raised, Shared, Walked, Freed, Refused}
-use Rattle.calls.specs.Base.{pick}
 use Rattle.calls.specs.Numbers.{READERS-MAX, PUBLISHERS-MAX, SLOTS-MIN, SLOTS-MAX, TABLE, FEATHERED, PITCH-LOW, PITCH-HIGH, MODULUS, DAMAGED}
 use Rattle.calls.specs.Rows.{outside}
 use Rattle.calls.specs.RowLaws.{negated, not-outside}
@@ -21,7 +19,7 @@ use Rattle.layout.specs.declared.Reader.{Reader}
 use Rattle.layout.specs.declared.Publisher.{Publisher}
 use Rattle.layout.specs.declared.Progress.{Progress}
 use Rattle.layout.specs.Layout.{WORDS, readers, publishers, slots, current, version, releases, readerAt, publisherAt, withPublisher, withCurrent, withVersion, withReleases, entryAt, fresh}
-use Rattle.statement.specs.Machine.{State, state, Outcome, outcome, given}
+use Rattle.statement.specs.Machine.{State, state, outcome, given}
 use Rattle.publication_law.specs.Steps.{Versions, decide, atPlace, newWalk, anotherBusy, inUse, lookTests, look, claimTests, claim, writeTests, write, swapTests, swap, syncTests, sync, raise, placeAfter, walk, releaseTests, release, makingTests, made}
 use Rattle.publication_law.specs.Decide.{decide-accepts}
 use Rattle.publication_law.specs.Rules.{Rules, damaged, tests, act, rows, step}

@@ -1,6 +1,5 @@
+-- `head_is_damaged` meets its contract: the shared test, at this kind. Assumes nothing.
 use borrow.Author.Needs.{needs}
-use native.Mathlib.Omega.{arith}
-use lib.ListN.{length, getD, set, length-set}
 use mathlib.Core.Path.{refl}
 use Rattle.grace_version_law.specs.Steps.{kind}
 use Rattle.grace_version_damage.proofs.head_is_damaged.Statement.{statement}

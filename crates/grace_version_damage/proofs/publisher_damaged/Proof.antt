@@ -1,7 +1,6 @@
+-- `publisher_damaged` meets its contract: by the place, each case a law about the publisher rows. Assumes nothing.
 use borrow.Author.Needs.{needs}
-use native.Mathlib.Omega.{arith}
-use lib.ListN.{length, getD, set, length-set}
-use mathlib.Core.Path.{_≡_, sym, _∙_}
+use mathlib.Core.Path.{sym}
 use Rattle.layout.specs.Layout.{publisherAt}
 use Rattle.grace_version_law.specs.Calls.{publisher-idle, held-large, publisher-early, no-such-place, wrong-mark, more-waits, publisher-returned, publisher-walking}
 use Rattle.grace_version_damage.proofs.publisher_damaged.Statement.{statement}

@@ -1,9 +1,8 @@
+-- `publishers_are_damaged` meets its contract: where the head is not damaged, length and count are right, and the scan decides. Assumes nothing.
 use borrow.Author.Needs.{needs}
 use native.Mathlib.Omega.{arith}
-use lib.ListN.{length, getD, set, length-set}
 use Rattle.statement.specs.Machine.{state}
-use mathlib.Core.Path.{_≡_, refl, sym, _∙_}
-use mathlib.Core.Bool.{true, false}
+use mathlib.Core.Path.{sym, _∙_}
 use Rattle.calls.specs.RowLaws.{clash, within, not-outside}
 use Rattle.publication_law.specs.DamageLaws.{head-of}
 use Rattle.grace_version_law.specs.Steps.{kind}

@@ -1,8 +1,8 @@
+-- `reader_damaged` meets its contract: by the place, each case a law about `readerRows`. Assumes nothing.
 use borrow.Author.Needs.{needs}
 use native.Mathlib.Omega.{arith}
-use lib.ListN.{length, getD, set, length-set}
 use Prim.Native.Nat.{_≤_}
-use mathlib.Core.Path.{_≡_, sym, _∙_}
+use mathlib.Core.Path.{sym, _∙_}
 use Rattle.layout.specs.Layout.{readerAt}
 use Rattle.grace_version_law.specs.Calls.{reader-loaded, reader-rests, reader-picked, reader-beyond}
 use Rattle.grace_version_damage.proofs.reader_damaged.Statement.{statement}

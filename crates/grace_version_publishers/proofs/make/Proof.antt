@@ -1,7 +1,6 @@
+-- `make` meets its contract: the shared making, at this kind. Assumes nothing.
 use borrow.Author.Needs.{needs}
-use native.Mathlib.Omega.{arith}
-use lib.ListN.{length, getD, set, length-set}
-use mathlib.Core.Path.{_≡_, refl}
+use mathlib.Core.Path.{refl}
 use Rattle.publication_law.specs.Rules.{making}
 use Rattle.grace_version_law.specs.Steps.{versions}
 use Rattle.grace_version_publishers.proofs.make.Statement.{statement}

@@ -1,15 +1,15 @@
+-- `raise` meets its contract: the refusals are rows of the step; at 35 the shared raise is the step. The mark of an undamaged store is not 0, so there is one before it. Assumes nothing.
 use borrow.Author.Needs.{needs}
 use native.Mathlib.Omega.{arith}
-use lib.ListN.{length, getD, set, length-set}
 use mathlib.Core.Path.{_≡_, refl, sym, _∙_}
 use mathlib.Core.Bool.{true, false}
 use mathlib.Core.Logic.{⊎-elim}
 use Rattle.calls.specs.Rows.{anyTrue}
 use Rattle.publication_law.specs.Damage.{headRows}
-use borrow.Author.Tests.{le-leb, lt-leb, lt-ltb, le-ltb, eq-eqb, ne-eqb}
+use borrow.Author.Tests.{le-leb, lt-leb, ne-eqb}
 use Rattle.statement.specs.Machine.{state}
 use Rattle.publication_law.specs.Rules.{damaged, step}
-use Rattle.publication_law.specs.Calls.{step-damaged, step-undamaged}
+use Rattle.publication_law.specs.Calls.{step-damaged}
 use Rattle.grace_version_law.specs.Steps.{kind, rules, versions}
 use Rattle.grace_version_law.specs.Calls.{damaged-head, damaged-readers, damaged-publishers, undamaged, sound-of, Walking, walking-of, raise-is}
 use Rattle.calls.specs.declared.Call.the-variants.{Raise}

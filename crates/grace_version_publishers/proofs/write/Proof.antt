@@ -1,17 +1,15 @@
+-- `write` meets its contract: a damaged store is refused; else the shared write is the step. Assumes nothing.
 use borrow.Author.Needs.{needs}
-use native.Mathlib.Omega.{arith}
-use lib.ListN.{length, getD, set, length-set}
 use mir.ValLaws.{toZ-ofZ}
 use mathlib.Core.Path.{_≡_, refl, sym, _∙_}
 use mathlib.Core.Bool.{true, false}
 use mathlib.Core.Logic.{⊎-elim}
 use Rattle.calls.specs.Rows.{anyTrue}
 use Rattle.publication_law.specs.Damage.{headRows}
-use borrow.Author.Tests.{le-leb, lt-leb, lt-ltb, le-ltb, eq-eqb, ne-eqb}
 use Rattle.statement.specs.Machine.{state}
-use Rattle.publication_law.specs.Rules.{damaged, step}
+use Rattle.publication_law.specs.Rules.{damaged}
 use Rattle.publication_law.specs.Calls.{step-damaged, step-undamaged}
-use Rattle.grace_version_law.specs.Steps.{kind, rules, versions}
+use Rattle.grace_version_law.specs.Steps.{kind, rules}
 use Rattle.grace_version_law.specs.Calls.{damaged-head, damaged-readers, damaged-publishers, undamaged, sound-of, entries-of}
 use Rattle.calls.specs.declared.Call.the-variants.{Write}
 use Rattle.grace_version_publishers.proofs.write.Statement.{statement}

@@ -1,6 +1,5 @@
+-- `advanced` meets its contract: by the place, each case a line of `onward`. Assumes nothing.
 use borrow.Author.Needs.{needs}
-use native.Mathlib.Omega.{arith}
-use lib.ListN.{length, getD, set, length-set}
 use Rattle.grace_version_law.specs.Calls.{onward-loads, onward-publishes, onward-loads-again, onward-differs, onward-same, onward-picks, fourth}
 use Rattle.grace_version_readers.proofs.advanced.Statement.{statement}
 use Rattle.grace_version_readers.proofs.advanced.Tie as tie

@@ -1,6 +1,7 @@
+-- `looks` meets its contract: the looks still to come are those of `looksFrom` at the numbers that the loop has reached. Assumes nothing.
 use borrow.Author.Needs.{needs}
 use native.Mathlib.Omega.{arith}
-use lib.ListN.{length, getD, set, length-set}
+use lib.ListN.{length}
 use Prim.Native.Nat.{_+_, _<_, _≤_}
 use mathlib.Core.Path.{_≡_, refl, sym, _∙_}
 use Rattle.calls.specs.Numbers.{READERS-MAX, NUMBER-MAX}

@@ -1,6 +1,5 @@
+-- `indicator_of` meets its contract: the word is the one that `indicator` reads. Assumes nothing.
 use borrow.Author.Needs.{needs}
-use native.Mathlib.Omega.{arith}
-use lib.ListN.{length, getD, set, length-set}
 use mathlib.Core.Path.{refl}
 use borrow.Author.Tests.{lt-ltb}
 use Rattle.layout.specs.Layout.{INDICATORS, indicator}

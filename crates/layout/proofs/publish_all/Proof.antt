@@ -1,12 +1,13 @@
+-- `publish_all` meets its contract: the loop has published for the readers before r: each is one word more (`publish-next`). Assumes nothing.
 use borrow.Author.Needs.{needs}
 use native.Mathlib.Omega.{arith}
-use lib.ListN.{length, getD, set, length-set}
+use lib.ListN.{length, length-set}
 use Prim.Native.Nat.{ℕ, _-_, _≤_}
-use mathlib.Core.Path.{_≡_, refl, sym, ap, _∙_}
+use mathlib.Core.Path.{_≡_, sym, ap, _∙_}
 use lib.ListN.{replicate, length-replicate}
 use Rattle.calls.specs.Numbers.{READERS-MAX}
 use Rattle.layout.specs.Layout.{WORDS, withReaders, blankReader}
-use Rattle.layout.specs.Laws.{publish-next, publish-none, readers-none, length-readers}
+use Rattle.layout.specs.Laws.{publish-next, publish-none, readers-none}
 use Rattle.layout.proofs.publish_all.Statement.{statement}
 use Rattle.layout.proofs.publish_all.Tie as tie
 use Rattle.layout.proofs.publish_all.Reads as reads

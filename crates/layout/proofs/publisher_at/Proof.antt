@@ -1,6 +1,5 @@
+-- `publisher_at` meets its contract: the words are those that `publisherAt` reads. Assumes nothing.
 use borrow.Author.Needs.{needs}
-use native.Mathlib.Omega.{arith}
-use lib.ListN.{length, getD, set, length-set}
 use mathlib.Core.Path.{refl}
 use borrow.Author.Tests.{lt-ltb}
 use Rattle.calls.specs.Numbers.{PUBLISHERS-MAX}

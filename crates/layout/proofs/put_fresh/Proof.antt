@@ -1,7 +1,8 @@
+-- `put_fresh` meets its contract: `fresh` is the readers published and then the head. Assumes nothing.
 use borrow.Author.Needs.{needs}
 use native.Mathlib.Omega.{arith}
-use lib.ListN.{length, getD, set, length-set}
-use mathlib.Core.Path.{_≡_, refl, sym, _∙_}
+use lib.ListN.{length-set}
+use mathlib.Core.Path.{refl}
 use Rattle.layout.specs.Layout.{fresh}
 use Rattle.layout.proofs.put_fresh.Statement.{statement}
 use Rattle.layout.proofs.put_fresh.Tie as tie

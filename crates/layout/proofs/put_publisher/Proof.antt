@@ -1,6 +1,7 @@
+-- `put_publisher` meets its contract: the words stored are those of `withPublisher`, in their order. Assumes nothing.
 use borrow.Author.Needs.{needs}
 use native.Mathlib.Omega.{arith}
-use lib.ListN.{length, getD, set, length-set}
+use lib.ListN.{length-set}
 use mathlib.Core.Path.{refl}
 use Rattle.layout.specs.Layout.{withPublisher}
 use Rattle.layout.proofs.put_publisher.Statement.{statement}

@@ -1,6 +1,7 @@
+-- `put_reader` meets its contract: the words stored are those of `withReader`, in their order. Assumes nothing.
 use borrow.Author.Needs.{needs}
 use native.Mathlib.Omega.{arith}
-use lib.ListN.{length, getD, set, length-set}
+use lib.ListN.{length-set}
 use mathlib.Core.Path.{refl}
 use Rattle.layout.specs.Layout.{withReader}
 use Rattle.layout.proofs.put_reader.Statement.{statement}

@@ -1,6 +1,5 @@
+-- `reader_place` meets its contract: the word is the first of the record that `readerAt` reads. Assumes nothing.
 use borrow.Author.Needs.{needs}
-use native.Mathlib.Omega.{arith}
-use lib.ListN.{length, getD, set, length-set}
 use mathlib.Core.Path.{refl}
 use borrow.Author.Tests.{lt-ltb}
 use Rattle.layout.specs.Layout.{readerAt}

@@ -1,8 +1,6 @@
+-- `busy` meets its contract: by cases on whether the kind has 31. Assumes nothing.
 use borrow.Author.Needs.{needs}
-use native.Mathlib.Omega.{arith}
-use lib.ListN.{length, getD, set, length-set}
-use mathlib.Core.Path.{_≡_, refl, sym, ap, _∙_}
-use borrow.Author.Tests.{le-leb, lt-leb, lt-ltb, le-ltb, eq-eqb, ne-eqb}
+use mathlib.Core.Path.{refl}
 use Rattle.publication.proofs.busy.Statement.{statement}
 use Rattle.publication.proofs.busy.Tie as tie
 use Rattle.publication.proofs.busy.Reads as reads

@@ -1,8 +1,8 @@
+-- `claim_slot` meets its contract: the refusals are rows of `claimTests`; an accepted claim is `claim-is`. Assumes nothing.
 use borrow.Author.Needs.{needs}
 use native.Mathlib.Omega.{arith}
-use lib.ListN.{length, getD, set, length-set}
-use mathlib.Core.Path.{_≡_, refl, sym, ap, _∙_}
-use borrow.Author.Tests.{le-leb, lt-leb, lt-ltb, le-ltb, eq-eqb, ne-eqb}
+use mathlib.Core.Path.{refl, sym, _∙_}
+use borrow.Author.Tests.{le-leb, lt-leb, ne-eqb}
 use Rattle.publication_law.specs.Calls.{claim-is}
 use Rattle.publication.proofs.claim_slot.Statement.{statement}
 use Rattle.publication.proofs.claim_slot.Tie as tie

@@ -1,8 +1,6 @@
+-- `end_walk` meets its contract: the record written is that of `walked-is`. Assumes nothing.
 use borrow.Author.Needs.{needs}
 use native.Mathlib.Omega.{arith}
-use lib.ListN.{length, getD, set, length-set}
-use mathlib.Core.Path.{_≡_, refl, sym, ap, _∙_}
-use borrow.Author.Tests.{le-leb, lt-leb, lt-ltb, le-ltb, eq-eqb, ne-eqb}
 use Rattle.publication_law.specs.Calls.{walked-is}
 use Rattle.publication.proofs.end_walk.Statement.{statement}
 use Rattle.publication.proofs.end_walk.Tie as tie

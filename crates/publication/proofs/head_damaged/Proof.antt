@@ -1,10 +1,10 @@
+-- `head_damaged` meets its contract: each row is tested in its order, and the first that holds decides. Assumes nothing.
 use borrow.Author.Needs.{needs}
 use native.Mathlib.Omega.{arith}
-use lib.ListN.{length, getD, set, length-set}
 use Rattle.calls.specs.RowLaws.{within, or-none}
 use Prim.Native.Nat.{_*_}
-use mathlib.Core.Path.{_≡_, refl, sym, ap, _∙_}
-use borrow.Author.Tests.{le-leb, lt-leb, lt-ltb, le-ltb, eq-eqb, ne-eqb}
+use mathlib.Core.Path.{refl, sym, ap, _∙_}
+use borrow.Author.Tests.{le-leb, lt-leb, eq-eqb, ne-eqb}
 use Rattle.publication.proofs.head_damaged.Statement.{statement}
 use Rattle.publication.proofs.head_damaged.Tie as tie
 use Rattle.publication.proofs.head_damaged.Reads as reads

@@ -1,11 +1,11 @@
-use borrow.Author.Needs.{needs}
+-- `look_up` meets its contract: the refusals are rows of `lookTests`; an accepted look is `look-is`. The picked slot is one of the store, so the entry is there. Assumes nothing.
 use native.Mathlib.Omega.{arith}
-use lib.ListN.{length, getD, set, length-set}
+use lib.ListN.{getD}
 use mir.ValLaws.{toZ-ofZ}
 use mir.Syntax.{w16}
 use lib.IntN.{pos}
-use mathlib.Core.Path.{_≡_, refl, sym, ap, _∙_}
-use borrow.Author.Tests.{le-leb, lt-leb, lt-ltb, le-ltb, eq-eqb, ne-eqb}
+use mathlib.Core.Path.{refl}
+use borrow.Author.Tests.{le-leb, lt-leb, lt-ltb, le-ltb, ne-eqb}
 use Prim.Native.Nat.{_<_, _+_, _*_}
 use Rattle.layout.specs.Layout.{slots}
 use Rattle.publication_law.specs.Calls.{look-is}

@@ -1,8 +1,8 @@
+-- `make_store` meets its contract: the refusals are rows of `makingTests`; an accepted making is `make-is`. Assumes nothing.
 use borrow.Author.Needs.{needs}
 use native.Mathlib.Omega.{arith}
-use lib.ListN.{length, getD, set, length-set}
-use mathlib.Core.Path.{_≡_, refl, sym, ap, _∙_}
-use borrow.Author.Tests.{le-leb, lt-leb, lt-ltb, le-ltb, eq-eqb, ne-eqb}
+use mathlib.Core.Path.{refl, sym, _∙_}
+use borrow.Author.Tests.{eq-eqb, ne-eqb}
 use Rattle.calls.specs.RowLaws.{within}
 use Rattle.publication_law.specs.Calls.{make-is}
 use Rattle.publication.proofs.make_store.Statement.{statement}

@@ -1,8 +1,7 @@
+-- `raise_version` meets its contract: raised is `raised-is`, shared is `shared-is`. Assumes nothing.
 use borrow.Author.Needs.{needs}
 use native.Mathlib.Omega.{arith}
-use lib.ListN.{length, getD, set, length-set}
-use mathlib.Core.Path.{_≡_, refl, sym, ap, _∙_}
-use borrow.Author.Tests.{le-leb, lt-leb, lt-ltb, le-ltb, eq-eqb, ne-eqb}
+use mathlib.Core.Path.{sym, _∙_}
 use Rattle.publication_law.specs.Calls.{raised-is, shared-is}
 use Rattle.publication.proofs.raise_version.Statement.{statement}
 use Rattle.publication.proofs.raise_version.Tie as tie

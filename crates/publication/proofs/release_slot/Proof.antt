@@ -1,8 +1,8 @@
+-- `release_slot` meets its contract: the refusals are rows of `releaseTests`; an accepted release is `release-is`. Assumes nothing.
 use borrow.Author.Needs.{needs}
 use native.Mathlib.Omega.{arith}
-use lib.ListN.{length, getD, set, length-set}
-use mathlib.Core.Path.{_≡_, refl, sym, ap, _∙_}
-use borrow.Author.Tests.{le-leb, lt-leb, lt-ltb, le-ltb, eq-eqb, ne-eqb}
+use mathlib.Core.Path.{refl}
+use borrow.Author.Tests.{le-leb, lt-leb, ne-eqb}
 use Rattle.publication_law.specs.Calls.{release-is}
 use Rattle.publication.proofs.release_slot.Statement.{statement}
 use Rattle.publication.proofs.release_slot.Tie as tie

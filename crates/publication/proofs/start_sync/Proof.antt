@@ -1,8 +1,8 @@
+-- `start_sync` meets its contract: the refusals are rows of `syncTests`; an accepted synchronise is `sync-is`. Assumes nothing.
 use borrow.Author.Needs.{needs}
 use native.Mathlib.Omega.{arith}
-use lib.ListN.{length, getD, set, length-set}
-use mathlib.Core.Path.{_≡_, refl, sym, ap, _∙_}
-use borrow.Author.Tests.{le-leb, lt-leb, lt-ltb, le-ltb, eq-eqb, ne-eqb}
+use mathlib.Core.Path.{refl, sym, _∙_}
+use borrow.Author.Tests.{le-leb, lt-leb, lt-ltb, le-ltb, ne-eqb}
 use Rattle.publication_law.specs.Calls.{sync-is}
 use Rattle.publication.proofs.start_sync.Statement.{statement}
 use Rattle.publication.proofs.start_sync.Tie as tie

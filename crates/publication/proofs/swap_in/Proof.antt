@@ -1,8 +1,8 @@
+-- `swap_in` meets its contract: the refusals are rows of `swapTests`; an accepted swap is `swap-is`. Assumes nothing.
 use borrow.Author.Needs.{needs}
 use native.Mathlib.Omega.{arith}
-use lib.ListN.{length, getD, set, length-set}
-use mathlib.Core.Path.{_≡_, refl, sym, ap, _∙_}
-use borrow.Author.Tests.{le-leb, lt-leb, lt-ltb, le-ltb, eq-eqb, ne-eqb}
+use mathlib.Core.Path.{refl}
+use borrow.Author.Tests.{le-leb, lt-leb, ne-eqb}
 use Rattle.publication_law.specs.Calls.{swap-is}
 use Rattle.publication.proofs.swap_in.Statement.{statement}
 use Rattle.publication.proofs.swap_in.Tie as tie

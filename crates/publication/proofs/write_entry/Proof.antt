@@ -1,9 +1,9 @@
+-- `write_entry` meets its contract: the refusals are rows of `writeTests`; an accepted write is `write-is`. The held slot is one of the store, so the entry is there. Assumes nothing.
 use borrow.Author.Needs.{needs}
 use native.Mathlib.Omega.{arith}
-use lib.ListN.{length, getD, set, length-set}
-use mathlib.Core.Path.{_≡_, refl, sym, ap, _∙_}
-use borrow.Author.Tests.{le-leb, lt-leb, lt-ltb, le-ltb, eq-eqb, ne-eqb}
-use Prim.Native.Nat.{_<_, _*_}
+use mathlib.Core.Path.{_≡_, refl, sym, _∙_}
+use borrow.Author.Tests.{le-leb, lt-leb, lt-ltb, le-ltb}
+use Prim.Native.Nat.{_<_}
 use mathlib.Core.Bool.{_||_, true, false}
 use lib.Signed.{ltZ}
 use mir.ValLaws.{toZ-ofZ}

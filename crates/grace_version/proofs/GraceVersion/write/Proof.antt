@@ -1,6 +1,5 @@
+-- `GraceVersion::write` meets its contract: the call in place, and that a pitch is the same number in 16 bits. Assumes nothing.
 use borrow.Author.Needs.{needs}
-use native.Mathlib.Omega.{arith}
-use lib.ListN.{length, getD, set, length-set}
 use mir.ValLaws.{toZ-ofZ}
 use Rattle.grace_version.proofs.GraceVersion.write.Statement.{statement}
 use Rattle.grace_version.proofs.GraceVersion.write.Tie as tie
