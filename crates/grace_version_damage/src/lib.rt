@@ -24,7 +24,7 @@ use layout::reader_at;
 use layout::reader_place;
 use layout::readers_of;
 use layout::slots_of;
-use publication::head_damaged;
+use making::head_damaged;
 
 // The last version: 2^64 - 2.
 pub const LAST: u64 = 18446744073709551614;

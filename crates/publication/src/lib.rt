@@ -1,30 +1,21 @@
-// What the kinds' calls share: the tests of the head and of a publisher's record, and LOOK, CLAIM, WRITE, SWAP, SYNC, RAISE, RELEASE and
-// the end of a WALK, of words that are not damaged. A kind tests for damage first, and asks nothing of its own callers.
+// What the kinds' calls share: LOOK, CLAIM, WRITE, SWAP, SYNC, RAISE, RELEASE and the end of a WALK, of words that are not damaged.
+// A kind tests for damage first, and asks nothing of its own callers.
 // It uses layout; its contracts cite publication_law.
 ghost use mathlib.Core.Path.{_≡_};
 ghost use mathlib.Core.Bool.{_&&_, _||_};
 ghost use mathlib.Core.List.{List};
 ghost use Prim.Native.Nat.{_+_, _*_, _%_, _<_};
 ghost use lib.IntN.{ℤ};
-ghost use lib.ListN.{length, replicate};
+ghost use lib.ListN.{length};
 ghost use lib.Signed.{ltZ};
 ghost use lib.Dec.{ltb};
 ghost use Rattle.calls.specs.Numbers.{TABLE, FEATHERED, PITCH-LOW, PITCH-HIGH, MODULUS};
-ghost use Rattle.calls.specs.declared.Reply.the-variants.{Made};
-ghost use Rattle.calls.specs.Rows.{anyTrue};
-ghost use Rattle.layout.specs.Layout.{publishers, slots, version, publisherAt, blankReader};
+ghost use Rattle.layout.specs.Layout.{publishers, slots, version, publisherAt};
 ghost use Rattle.statement.specs.Machine.{state, outcome, given};
-ghost use Rattle.publication_law.specs.Steps.{Versions, decide, anotherBusy, inUse, lookTests, look, claimTests, claim, writeTests, write, swapTests, swap, syncTests, sync, raise, walk, placeAfter, releaseTests, release, makingTests, made};
-ghost use Rattle.publication_law.specs.Damage.{Kind, headRows};
+ghost use Rattle.publication_law.specs.Steps.{Versions, decide, anotherBusy, inUse, lookTests, look, claimTests, claim, writeTests, write, swapTests, swap, syncTests, sync, raise, walk, placeAfter, releaseTests, release};
 ghost use Rattle.publication_law.specs.Sound.{Sound};
-use calls::BAD_ENTRIES;
 use calls::BAD_PITCH;
-use calls::BAD_PUBLISHERS;
-use calls::BAD_READERS;
-use calls::BAD_SLOTS;
-use calls::BAD_VERSION;
 use calls::BUSY;
-use calls::DAMAGED;
 use calls::FEATHERED;
 use calls::NO_SUCH_ENTRY;
 use calls::NO_SUCH_PUBLISHER;
@@ -33,27 +24,20 @@ use calls::NO_SUCH_SLOT;
 use calls::PITCH_HIGH;
 use calls::PITCH_LOW;
 use calls::PUBLISHER_TURN;
-use calls::PUBLISHERS_MAX;
 use calls::Pitch;
 use calls::READER_TURN;
-use calls::READERS_MAX;
 use calls::Reply;
 use calls::SLOT_IN_USE;
-use calls::SLOTS_MAX;
-use calls::SLOTS_MIN;
 use calls::TABLE;
 use calls::VERSION_IS_LAST;
 use calls::WalkReply;
 use layout::Progress;
 use layout::Publisher;
-use layout::WORDS;
 use layout::Walk;
 use layout::current_of;
-use layout::kind_of;
 use layout::publisher_at;
 use layout::publishers_of;
 use layout::put_current;
-use layout::put_fresh;
 use layout::put_publisher;
 use layout::put_releases;
 use layout::put_version;
@@ -62,37 +46,6 @@ use layout::readers_of;
 use layout::releases_of;
 use layout::slots_of;
 use layout::version_of;
-
-// Whether the head spoils a store of this kind, with so many entries, whose last version is given.
-pub fn head_damaged(words: &[u64], entries: usize, kind: u64, last: u64) -> bool
-    ensures { λ b. ⌜ ((K : Kind) (es : List ℤ) → K .number ≡ kind → K .versions .tooLarge (version (now (words .entry))) ≡ ltb last (version (now (words .entry))) → length es ≡ entries → b ≡ anyTrue (headRows K (state (now (words .entry)) es))) ⌝ }
-{
-    if words.len() != WORDS {
-        return true;
-    }
-    if kind_of(words) != kind {
-        return true;
-    }
-    let readers = readers_of(words);
-    if (readers < 1) | (readers > READERS_MAX as u64) {
-        return true;
-    }
-    let publishers = publishers_of(words);
-    if (publishers < 1) | (publishers > PUBLISHERS_MAX as u64) {
-        return true;
-    }
-    let slots = slots_of(words);
-    if (slots < SLOTS_MIN as u64) | (slots > SLOTS_MAX as u64) {
-        return true;
-    }
-    if entries != (slots as usize) * TABLE {
-        return true;
-    }
-    if current_of(words) >= slots {
-        return true;
-    }
-    version_of(words) > last
-}
 
 // LOOK r k.
 pub fn look_up(words: &[u64], entries: &[Pitch], r: u16, k: u16) -> Reply
@@ -342,58 +295,4 @@ pub fn release_slot(words: &mut [u64], p: u16) -> Reply
         }
         _ => Reply::Refused(PUBLISHER_TURN),
     }
-}
-
-// Every entry feathered.
-fn feather(entries: &mut [Pitch])
-    ensures { λ _. ⌜ now (entries .exit) ≡ replicate (length (now (entries .entry))) FEATHERED ⌝ }
-{
-    for i in 0..entries.len() {
-        entries[i] = FEATHERED;
-    }
-}
-
-// Making of a store of this kind, whose fresh readers have published this; the kind says whether the first version is too large.
-pub fn make_store(
-    words: &mut [u64],
-    entries: &mut [Pitch],
-    kind: u64,
-    published: u64,
-    readers: u16,
-    publishers: u16,
-    slots: u16,
-    version: u64,
-    large: bool,
-) -> Reply
-    ensures { λ a. ⌜ ((vs : Versions) → large ≡ vs .tooLarge version → let s = state (now (words .entry)) (now (entries .entry)) in let g = given readers publishers slots version in outcome a (state (now (words .exit)) (now (entries .exit))) ≡ decide (makingTests vs g s) (outcome Made (made kind (blankReader published) g s)) s) ⌝ }
-{
-    if words.len() != WORDS {
-        return Reply::Refused(DAMAGED);
-    }
-    if (readers < 1) | (readers > READERS_MAX) {
-        return Reply::Refused(BAD_READERS);
-    }
-    if (publishers < 1) | (publishers > PUBLISHERS_MAX) {
-        return Reply::Refused(BAD_PUBLISHERS);
-    }
-    if (slots < SLOTS_MIN) | (slots > SLOTS_MAX) {
-        return Reply::Refused(BAD_SLOTS);
-    }
-    if entries.len() != (slots as usize) * TABLE {
-        return Reply::Refused(BAD_ENTRIES);
-    }
-    if large {
-        return Reply::Refused(BAD_VERSION);
-    }
-    put_fresh(
-        words,
-        kind,
-        readers as u64,
-        publishers as u64,
-        slots as u64,
-        version,
-        published,
-    );
-    feather(entries);
-    Reply::Made
 }

@@ -6,7 +6,7 @@ use Rattle.grace_version_damage.proofs.head_is_damaged.Statement.{state
 use Rattle.grace_version_damage.proofs.head_is_damaged.Tie as tie
 use Rattle.grace_version_damage.proofs.head_is_damaged.Reads as reads
 use Rattle.grace_version_damage.proofs.head_is_damaged.Lts as lts
-use Rattle.publication.proofs.head_damaged.Reads as head-damaged-reads
+use Rattle.making.proofs.head_damaged.Reads as head-damaged-reads
 
 head-damaged-requires : tie.Need-head-damaged-requires
 head-damaged-requires c κs = search needs

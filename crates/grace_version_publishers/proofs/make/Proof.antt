@@ -7,7 +7,7 @@ use Rattle.grace_version_publishers.proofs.make.Statement.{statement}
 use Rattle.grace_version_publishers.proofs.make.Tie as tie
 use Rattle.grace_version_publishers.proofs.make.Reads as reads
 use Rattle.grace_version_publishers.proofs.make.Lts as lts
-use Rattle.publication.proofs.make_store.Reads as make-store-reads
+use Rattle.making.proofs.make_store.Reads as make-store-reads
 
 make-store-requires : tie.Need-make-store-requires
 make-store-requires c κs = search needs

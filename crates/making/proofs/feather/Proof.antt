@@ -7,10 +7,10 @@ use mathlib.Core.Path.{_≡_, refl}
 use lib.ListN.{take, replicate}
 use Rattle.calls.specs.Numbers.{FEATHERED}
 use Rattle.calls.specs.Fills.{fills, filled}
-use Rattle.publication.proofs.feather.Statement.{statement}
-use Rattle.publication.proofs.feather.Tie as tie
-use Rattle.publication.proofs.feather.Reads as reads
-use Rattle.publication.proofs.feather.Lts as lts
+use Rattle.making.proofs.feather.Statement.{statement}
+use Rattle.making.proofs.feather.Tie as tie
+use Rattle.making.proofs.feather.Reads as reads
+use Rattle.making.proofs.feather.Lts as lts
 
 abbrev Inv-loop : tie.InvT-loop
 Inv-loop entries₀ i₀ i-end entries i = (i ≤ i-end) × (i-end ≡ length entries₀) × (length entries ≡ length entries₀) × (take i entries ≡ replicate i FEATHERED)

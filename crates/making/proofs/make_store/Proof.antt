@@ -5,12 +5,12 @@ use mathlib.Core.Path.{refl, sym, _∙_}
 use borrow.Author.Tests.{eq-eqb, ne-eqb}
 use Rattle.calls.specs.RowLaws.{within}
 use Rattle.publication_law.specs.Calls.{make-is}
-use Rattle.publication.proofs.make_store.Statement.{statement}
-use Rattle.publication.proofs.make_store.Tie as tie
-use Rattle.publication.proofs.make_store.Reads as reads
-use Rattle.publication.proofs.make_store.Lts as lts
+use Rattle.making.proofs.make_store.Statement.{statement}
+use Rattle.making.proofs.make_store.Tie as tie
+use Rattle.making.proofs.make_store.Reads as reads
+use Rattle.making.proofs.make_store.Lts as lts
 use Rattle.layout.proofs.put_fresh.Reads as put-fresh-reads
-use Rattle.publication.proofs.feather.Reads as feather-reads
+use Rattle.making.proofs.feather.Reads as feather-reads
 
 returns : tie.Need-returns
 returns c = λ vs e. rw (ne-eqb _ _ (c .if1 .taken)) refl

@@ -5,10 +5,10 @@ use Rattle.calls.specs.RowLaws.{within, or-none}
 use Prim.Native.Nat.{_*_}
 use mathlib.Core.Path.{refl, sym, ap, _∙_}
 use borrow.Author.Tests.{le-leb, lt-leb, eq-eqb, ne-eqb}
-use Rattle.publication.proofs.head_damaged.Statement.{statement}
-use Rattle.publication.proofs.head_damaged.Tie as tie
-use Rattle.publication.proofs.head_damaged.Reads as reads
-use Rattle.publication.proofs.head_damaged.Lts as lts
+use Rattle.making.proofs.head_damaged.Statement.{statement}
+use Rattle.making.proofs.head_damaged.Tie as tie
+use Rattle.making.proofs.head_damaged.Reads as reads
+use Rattle.making.proofs.head_damaged.Lts as lts
 use Rattle.layout.proofs.current_of.Reads as current-of-reads
 use Rattle.layout.proofs.kind_of.Reads as kind-of-reads
 use Rattle.layout.proofs.publishers_of.Reads as publishers-of-reads
