@@ -5,7 +5,7 @@
 #include <stddef.h>
 #include <stdint.h>
 
-/* A reply as three numbers, as docs/CLAIMS.md and calls/specs/Answer.antt have them. */
+/* A reply as three numbers: `answerOf` in crates/calls/specs/Answer.antt. */
 struct reply {
     uint64_t code;
     uint64_t first;

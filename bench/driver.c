@@ -6,7 +6,10 @@
 #include <stdlib.h>
 #include <string.h>
 
-enum { WORDS = 425, TABLE = 32, ENTRIES_MAX = 1024, READERS_MAX = 64, PUBLISHERS_MAX = 16 };
+enum { WORDS = 425, TABLE = 32, ENTRIES_MAX = 1024 };
+
+/* docs/LAYOUT.md: where the place of the first reader and of the first publisher stands, and the words of a record. */
+enum { FIRST_READER = 9, READER_WORDS = 5, FIRST_PUBLISHER = 329, PUBLISHER_WORDS = 6 };
 
 struct reply rv_make(uint64_t *words, size_t words_len, int16_t *entries, size_t entries_len, uint16_t readers, uint16_t publishers, uint16_t slots, uint64_t version);
 struct reply rv_enter(uint64_t *words, size_t words_len, const int16_t *entries, size_t entries_len, uint16_t r);
@@ -48,7 +51,7 @@ static void compared(const char *call, struct reply ours, struct reply theirs)
 static void reader_goes_on(uint16_t r)
 {
     const uint16_t k = (uint16_t)below(TABLE);
-    switch (words[1][9 + 5 * r]) {
+    switch (words[1][FIRST_READER + READER_WORDS * r]) {
     case 5:
         if (below(4) != 0)
             BOTH(look, r, k);
@@ -65,7 +68,7 @@ static void publisher_goes_on(uint16_t p, uint16_t slots)
 {
     const uint16_t slot = (uint16_t)below(slots), b = (uint16_t)below(9);
     const int16_t v = (int16_t)((int)below(10001) - 500);
-    switch (words[1][329 + 6 * p]) {
+    switch (words[1][FIRST_PUBLISHER + PUBLISHER_WORDS * p]) {
     case 0:
         BOTH(claim, p, slot);
         break;

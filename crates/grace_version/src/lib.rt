@@ -90,11 +90,11 @@ impl GraceVersion {
         }
     }
 
-    pub fn claim(mut self, entries: &[Pitch], p: u16, x: u16) -> Stepped
-        ensures { λ s. ⌜ outcome (s .reply) (state (s .store .words) (now (entries .entry))) ≡ step rules (state (self .words) (now (entries .entry))) (Claim p x) ⌝ }
+    pub fn claim(mut self, entries: &[Pitch], p: u16, slot: u16) -> Stepped
+        ensures { λ s. ⌜ outcome (s .reply) (state (s .store .words) (now (entries .entry))) ≡ step rules (state (self .words) (now (entries .entry))) (Claim p slot) ⌝ }
     {
         let mut words = self.words;
-        let reply = claim(&mut words, entries, p, x);
+        let reply = claim(&mut words, entries, p, slot);
         self.words = words;
         Stepped {
             store: self,

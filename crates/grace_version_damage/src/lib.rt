@@ -2,7 +2,6 @@
 // It reads only the records in use, and a record's further words only at the places that need them.
 // It uses publication and what lies below; its contracts cite grace_version_law.
 ghost use mathlib.Core.Path.{_≡_};
-ghost use mathlib.Core.Bool.{false};
 ghost use Prim.Native.Nat.{_<_, _≤_};
 ghost use mathlib.Core.List.{List};
 ghost use lib.IntN.{ℤ};
@@ -11,7 +10,7 @@ ghost use Rattle.calls.specs.Numbers.{READERS-MAX, PUBLISHERS-MAX};
 ghost use Rattle.calls.specs.Rows.{anyTrue, anyBelow};
 ghost use Rattle.layout.specs.Layout.{WORDS, readerAt, publisherAt};
 ghost use Rattle.statement.specs.Machine.{state};
-ghost use Rattle.publication_law.specs.Damage.{headRows, readersDamaged, publishersDamaged};
+ghost use Rattle.publication_law.specs.Damage.{headRows, readersTest, publishersTest};
 ghost use Rattle.grace_version_law.specs.Steps.{kind};
 use calls::KIND_NEW;
 use calls::PUBLISHERS_MAX;
@@ -115,9 +114,9 @@ pub fn head_is_damaged(words: &[u64], entries: usize) -> bool
     head_damaged(words, entries, KIND_NEW, LAST)
 }
 
-// Whether a reader spoils a store whose head does not.
+// Whether the readers spoil it.
 pub fn readers_are_damaged(words: &[u64]) -> bool
-    ensures { λ b. ⌜ ((es : List ℤ) → anyTrue (headRows kind (state (now (words .entry)) es)) ≡ false → b ≡ readersDamaged kind (state (now (words .entry)) es)) ⌝ }
+    ensures { λ b. ⌜ ((es : List ℤ) → b ≡ readersTest kind (state (now (words .entry)) es)) ⌝ }
 {
     if words.len() != WORDS {
         return true;
@@ -129,9 +128,9 @@ pub fn readers_are_damaged(words: &[u64]) -> bool
     readers_damaged(words, readers, slots_of(words))
 }
 
-// Whether a publisher spoils a store whose head does not.
+// Whether the publishers spoil it.
 pub fn publishers_are_damaged(words: &[u64]) -> bool
-    ensures { λ b. ⌜ ((es : List ℤ) → anyTrue (headRows kind (state (now (words .entry)) es)) ≡ false → b ≡ publishersDamaged kind (state (now (words .entry)) es)) ⌝ }
+    ensures { λ b. ⌜ ((es : List ℤ) → b ≡ publishersTest kind (state (now (words .entry)) es)) ⌝ }
 {
     if words.len() != WORDS {
         return true;

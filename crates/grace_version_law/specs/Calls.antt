@@ -13,15 +13,15 @@ use Rattle.calls.specs.declared.Reply.the-variants.{At, Left}
 use Rattle.calls.specs.declared.WalkReply.the-variants.{Waiting, Spent, Returned}
 use Rattle.calls.specs.Numbers.{TABLE, MODULUS, NUMBER-MAX}
 use Rattle.calls.specs.Rows.{anyTrue}
-use Rattle.calls.specs.RowLaws.{clash, and-false, or-false, or-left, or-right, or-none, all-false, negated}
+use Rattle.calls.specs.RowLaws.{clash, not-both, neither, and-false, or-false, or-left, or-right, or-none, all-false, negated}
 use Rattle.layout.specs.declared.Reader.{Reader}
 use Rattle.layout.specs.declared.Publisher.{Publisher}
 use Rattle.layout.specs.declared.Progress.{Progress}
 use Rattle.layout.specs.Layout.{readers, publishers, slots, current, version, readerAt, withReader}
 use Rattle.statement.specs.Machine.{State, state, Outcome, outcome}
 use Rattle.publication_law.specs.Steps.{reader, publisher, raise, walk}
-use Rattle.publication_law.specs.Damage.{headRows, publisherRows, readersDamaged, publishersDamaged, sharedDamage, wrongPick}
-use Rattle.publication_law.specs.DamageLaws.{Fine, fine-of, publisher-of, publisher-to}
+use Rattle.publication_law.specs.Damage.{headRows, publisherRows, sharedDamage, readersTest, publishersTest, wrongPick}
+use Rattle.publication_law.specs.DamageLaws.{Fine, fine-of, tests-shared, readers-test-fine, publishers-test-fine, publisher-of, publisher-to}
 use Rattle.publication_law.specs.Decide.{decide-accepts}
 use Rattle.publication_law.specs.Rules.{damaged, tests, act, step}
 use Rattle.publication_law.specs.Sound.{Sound, sound}
@@ -33,23 +33,29 @@ pub fine : (s : State) → damaged rules s ≡ false → Fine kind s
 unfolding damaged
 fine s e = fine-of kind s (or-false (sharedDamage kind s) false e .0)
 
--- The damage test is that of the head, of the readers and of the publishers.
+-- The damage test is that of the head, of the readers and of the publishers, each by itself.
 module _ (s : State) where
+  pub undamaged : anyTrue (headRows kind s) ≡ false → readersTest kind s ≡ false → publishersTest kind s ≡ false → damaged rules s ≡ false
+  unfolding damaged
+  undamaged h r p = neither (sharedDamage kind s) false (tests-shared kind s h r p) refl
+
+  -- A test that no fine store fails damages the store that fails it.
+  unless : (b : Bool) → (Fine kind s → b ≡ false) → b ≡ true → damaged rules s ≡ true
+  unless b f e = go (damaged rules s) refl
+    where
+      go : (d : Bool) → damaged rules s ≡ d → damaged rules s ≡ true
+      go true d = d
+      go false d = absurd (not-both b e (f (fine s d)))
+
   pub damaged-head : anyTrue (headRows kind s) ≡ true → damaged rules s ≡ true
   unfolding damaged
   damaged-head e = rw e refl
 
-  pub damaged-readers : anyTrue (headRows kind s) ≡ false → readersDamaged kind s ≡ true → damaged rules s ≡ true
-  unfolding damaged
-  damaged-readers h e = rw (h, e) refl
+  pub damaged-readers : readersTest kind s ≡ true → damaged rules s ≡ true
+  damaged-readers = unless (readersTest kind s) (readers-test-fine kind s)
 
-  pub damaged-publishers : anyTrue (headRows kind s) ≡ false → readersDamaged kind s ≡ false → publishersDamaged kind s ≡ true → damaged rules s ≡ true
-  unfolding damaged
-  damaged-publishers h r e = rw (h, r, e) refl
-
-  pub undamaged : anyTrue (headRows kind s) ≡ false → readersDamaged kind s ≡ false → publishersDamaged kind s ≡ false → damaged rules s ≡ false
-  unfolding damaged
-  undamaged h r e = rw (h, r, e) refl
+  pub damaged-publishers : publishersTest kind s ≡ true → damaged rules s ≡ true
+  damaged-publishers = unless (publishersTest kind s) (publishers-test-fine kind s)
 
 picks : (ss : ℕ) (x : Reader) → kind .readerDamaged ss x ≡ false → wrongPick ss x ≡ false
 picks ss x e = all-false (readerRows ss x) e .1 .0
@@ -140,9 +146,9 @@ pub record Walking (n : ℕ) (y : Publisher) : Type 0 where
   pub next-low : y .walk .next < n
   pub waits-low : y .walk .waits ≤ y .walk .looks
 
-pub walking-of : (s : State) → damaged rules s ≡ false → (p : ℕ) → p < publishers (s .words) → (eqb (publisher s p .place) 35 || eqb (publisher s p .place) 37) ≡ true → 35 ≤ publisher s p .place
-    → Walking (readers (s .words)) (publisher s p)
-walking-of s e p named turn low =
+pub walking-of : (s : State) → damaged rules s ≡ false → (p : ℕ) → p < publishers (s .words) → (eqb (publisher s p .place) 35 || eqb (publisher s p .place) 37) ≡ true → Walking (readers (s .words)) (publisher s p)
+walking-of s e p named turn =
+    let low = late (publisher s p .place) (eqb (publisher s p .place) 35) refl turn in
     let d = fine s e .publishers-fine p named in
     let f = publisher-of versions (slots (s .words)) (publisher s p) (law .shared-rows (readers (s .words)) (slots (s .words)) (publisher s p) d) in
     let m = or-false (eqb (publisher s p .walk .mark) 0) (ltb LAST (publisher s p .walk .mark)) (f .mark-fits low) in
@@ -152,6 +158,10 @@ walking-of s e p named turn low =
       waits-low = f .waits-low low;
     }
   where
+    late : (n : ℕ) (b : Bool) → eqb n 35 ≡ b → (b || eqb n 37) ≡ true → 35 ≤ n
+    late n true d t = omega (arith, eqb-true n 35 d)
+    late n false d t = omega (arith, eqb-true n 37 t)
+
     above-zero : (n : ℕ) → eqb n 0 ≡ false → 1 ≤ n
     above-zero n z = let q = eqb-false n 0 z in omega arith
 

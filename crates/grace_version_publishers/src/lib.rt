@@ -50,8 +50,8 @@ pub fn make(
     )
 }
 
-pub fn claim(words: &mut [u64], entries: &[Pitch], p: u16, x: u16) -> Reply
-    ensures { λ a. ⌜ outcome a (state (now (words .exit)) (now (entries .entry))) ≡ step rules (state (now (words .entry)) (now (entries .entry))) (Claim p x) ⌝ }
+pub fn claim(words: &mut [u64], entries: &[Pitch], p: u16, slot: u16) -> Reply
+    ensures { λ a. ⌜ outcome a (state (now (words .exit)) (now (entries .entry))) ≡ step rules (state (now (words .entry)) (now (entries .entry))) (Claim p slot) ⌝ }
 {
     if head_is_damaged(words, entries.len())
         || readers_are_damaged(words)
@@ -59,7 +59,7 @@ pub fn claim(words: &mut [u64], entries: &[Pitch], p: u16, x: u16) -> Reply
     {
         return Reply::Refused(DAMAGED);
     }
-    claim_slot(words, p, x, false)
+    claim_slot(words, p, slot, false)
 }
 
 pub fn write(words: &mut [u64], entries: &mut [Pitch], p: u16, v: Pitch) -> Reply

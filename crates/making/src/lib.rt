@@ -2,14 +2,14 @@
 // It uses layout; its contracts cite publication_law.
 ghost use mathlib.Core.Path.{_≡_};
 ghost use mathlib.Core.List.{List};
-ghost use Prim.Native.Nat.{_*_, _<_};
+ghost use Prim.Native.Nat.{ℕ};
 ghost use lib.IntN.{ℤ};
 ghost use lib.ListN.{length, replicate};
 ghost use lib.Dec.{ltb};
-ghost use Rattle.calls.specs.Numbers.{TABLE, FEATHERED};
+ghost use Rattle.calls.specs.Numbers.{FEATHERED};
 ghost use Rattle.calls.specs.declared.Reply.the-variants.{Made};
-ghost use Rattle.calls.specs.Rows.{anyTrue};
-ghost use Rattle.layout.specs.Layout.{publishers, slots, version, blankReader};
+ghost use Rattle.calls.specs.Rows.{firstOf, anyTrue};
+ghost use Rattle.layout.specs.Layout.{version, blankReader};
 ghost use Rattle.statement.specs.Machine.{state, outcome, given};
 ghost use Rattle.publication_law.specs.Steps.{Versions, decide, makingTests, made};
 ghost use Rattle.publication_law.specs.Damage.{Kind, headRows};
@@ -76,6 +76,38 @@ fn feather(entries: &mut [Pitch])
     }
 }
 
+// The number of the first row of making that applies, or 0; `large` says whether the first version is above the last.
+fn first_refusal(
+    words_len: usize,
+    entries_len: usize,
+    readers: u16,
+    publishers: u16,
+    slots: u16,
+    large: bool,
+) -> u64
+    ensures { λ n. ⌜ ((vs : Versions) (w : List ℕ) (es : List ℤ) (version : ℕ) → length w ≡ «words_len» → length es ≡ «entries_len» → large ≡ vs .tooLarge version → n ≡ firstOf (makingTests vs (given readers publishers slots version) (state w es))) ⌝ }
+{
+    if words_len != WORDS {
+        return DAMAGED;
+    }
+    if (readers < 1) | (readers > READERS_MAX) {
+        return BAD_READERS;
+    }
+    if (publishers < 1) | (publishers > PUBLISHERS_MAX) {
+        return BAD_PUBLISHERS;
+    }
+    if (slots < SLOTS_MIN) | (slots > SLOTS_MAX) {
+        return BAD_SLOTS;
+    }
+    if entries_len != (slots as usize) * TABLE {
+        return BAD_ENTRIES;
+    }
+    if large {
+        return BAD_VERSION;
+    }
+    0
+}
+
 // Making of a store of this kind, whose fresh readers have published this; the kind says whether the first version is too large.
 pub fn make_store(
     words: &mut [u64],
@@ -90,23 +122,16 @@ pub fn make_store(
 ) -> Reply
     ensures { λ a. ⌜ ((vs : Versions) → large ≡ vs .tooLarge version → let s = state (now (words .entry)) (now (entries .entry)) in let g = given readers publishers slots version in outcome a (state (now (words .exit)) (now (entries .exit))) ≡ decide (makingTests vs g s) (outcome Made (made kind (blankReader published) g s)) s) ⌝ }
 {
-    if words.len() != WORDS {
-        return Reply::Refused(DAMAGED);
-    }
-    if (readers < 1) | (readers > READERS_MAX) {
-        return Reply::Refused(BAD_READERS);
-    }
-    if (publishers < 1) | (publishers > PUBLISHERS_MAX) {
-        return Reply::Refused(BAD_PUBLISHERS);
-    }
-    if (slots < SLOTS_MIN) | (slots > SLOTS_MAX) {
-        return Reply::Refused(BAD_SLOTS);
-    }
-    if entries.len() != (slots as usize) * TABLE {
-        return Reply::Refused(BAD_ENTRIES);
-    }
-    if large {
-        return Reply::Refused(BAD_VERSION);
+    let n = first_refusal(
+        words.len(),
+        entries.len(),
+        readers,
+        publishers,
+        slots,
+        large,
+    );
+    if n != 0 {
+        return Reply::Refused(n);
     }
     put_fresh(
         words,

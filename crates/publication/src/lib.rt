@@ -110,16 +110,16 @@ fn in_use(words: &[u64], x: u64) -> bool
     false
 }
 
-// CLAIM p x; whether 31 is given is the kind's own.
-pub fn claim_slot(words: &mut [u64], p: u16, x: u16, exclusive: bool) -> Reply
+// CLAIM p s; whether 31 is given is the kind's own.
+pub fn claim_slot(words: &mut [u64], p: u16, slot: u16, exclusive: bool) -> Reply
     requires { ⌜ Sound (now words) ⌝ }
-    ensures { λ a. ⌜ ((es : List ℤ) → let s = state (now (words .entry)) es in outcome a (state (now (words .exit)) es) ≡ decide (claimTests exclusive s p x) (claim s p x) s) ⌝ }
+    ensures { λ a. ⌜ ((es : List ℤ) → let s = state (now (words .entry)) es in outcome a (state (now (words .exit)) es) ≡ decide (claimTests exclusive s p slot) (claim s p slot) s) ⌝ }
 {
     if p as u64 >= publishers_of(words) {
         return Reply::Refused(NO_SUCH_PUBLISHER);
     }
-    let slot = x as u64;
-    if slot >= slots_of(words) {
+    let wanted = slot as u64;
+    if wanted >= slots_of(words) {
         return Reply::Refused(NO_SUCH_SLOT);
     }
     let at = p as usize;
@@ -130,13 +130,13 @@ pub fn claim_slot(words: &mut [u64], p: u16, x: u16, exclusive: bool) -> Reply
             if busy(words, p, exclusive) {
                 return Reply::Refused(BUSY);
             }
-            if in_use(words, slot) {
+            if in_use(words, wanted) {
                 return Reply::Refused(SLOT_IN_USE);
             }
             y.place = 1;
-            y.held = slot;
+            y.held = wanted;
             put_publisher(words, at, y);
-            Reply::Claimed(slot)
+            Reply::Claimed(wanted)
         }
         _ => Reply::Refused(PUBLISHER_TURN),
     }

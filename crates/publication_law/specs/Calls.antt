@@ -1,6 +1,6 @@
 -- What an accepted shared call comes to, from what its code has come to know: the rows that do not apply, the record that it read, the words that it wrote.
 -- Assumes nothing.
-use Prim.Native.Nat.{ℕ, _+_, _-_, _*_, _%_, _<_, _≤_}
+use Prim.Native.Nat.{ℕ, _+_, _-_, _%_, _<_, _≤_}
 use mathlib.Core.Path.{_≡_, refl, sym}
 use mathlib.Core.Logic.{_≢_}
 use mathlib.Core.Bool.{Bool, true, false, not, _&&_, _||_}
@@ -9,12 +9,12 @@ use lib.IntN.{ℤ, pos}
 use lib.Signed.{ltZ}
 use lib.ListN.{getD, set, length, replicate}
 use lib.Dec.{eqb}
-use borrow.Author.Tests.{eq-eqb, ne-eqb, lt-leb, le-ltb}
+use borrow.Author.Tests.{eqb-true, eq-eqb, ne-eqb, lt-leb, le-ltb, not-false}
 use Rattle.calls.specs.declared.Call.{Call}
 use Rattle.calls.specs.declared.Reply.the-variants.{Made, Pitch, Claimed, Written, Swapped, Synced, Raised, Shared, Walked, Freed, Refused}
-use Rattle.calls.specs.Numbers.{READERS-MAX, PUBLISHERS-MAX, SLOTS-MIN, SLOTS-MAX, TABLE, FEATHERED, PITCH-LOW, PITCH-HIGH, MODULUS, DAMAGED}
-use Rattle.calls.specs.Rows.{outside}
-use Rattle.calls.specs.RowLaws.{negated, not-outside}
+use Rattle.calls.specs.Numbers.{FEATHERED, PITCH-LOW, PITCH-HIGH, MODULUS, DAMAGED}
+use Rattle.calls.specs.Rows.{firstOf}
+use Rattle.calls.specs.RowLaws.{negated, not-outside, clear}
 use Rattle.layout.specs.declared.Reader.{Reader}
 use Rattle.layout.specs.declared.Publisher.{Publisher}
 use Rattle.layout.specs.declared.Progress.{Progress}
@@ -83,9 +83,15 @@ module _ (w : List ℕ) (p : ℕ) (y : Publisher) (named : p < publishers w) (is
   release-is v n turn more put es =
       rw (put, more, is) (sym (decide-accepts (releaseTests (state w es) p) (release (state w es) p) (state w es) (lt-leb _ _ named, (not-at _ 38 (rw is at turn), tt))))
 
-pub make-is : (vs : Versions) (w v : List ℕ) (es fs : List ℤ) (kind rs ps ss ver : ℕ) (x : Reader) → length w ≡ WORDS → outside 1 READERS-MAX rs ≡ false → outside 1 PUBLISHERS-MAX ps ≡ false → outside SLOTS-MIN SLOTS-MAX ss ≡ false
-    → length es ≡ ss * TABLE → vs .tooLarge ver ≡ false → v ≡ fresh kind rs ps ss ver x → fs ≡ replicate (length es) FEATHERED
-    → outcome Made (state v fs) ≡ decide (makingTests vs (given rs ps ss ver) (state w es)) (outcome Made (made kind x (given rs ps ss ver) (state w es))) (state w es)
-make-is vs w v es fs kind rs ps ss ver x long a b c d e put fill =
-    rw (put, fill) (sym (decide-accepts (makingTests vs (given rs ps ss ver) (state w es)) (outcome Made (made kind x (given rs ps ss ver) (state w es))) (state w es)
-    (negated _ (eq-eqb _ _ long), (a, (b, (c, (negated _ (eq-eqb _ _ d), (e, tt))))))))
+-- Making, by the number of its first row that applies.
+module _ (vs : Versions) (w : List ℕ) (es : List ℤ) (kind rs ps ss ver : ℕ) (x : Reader) where
+  pub making-clear : firstOf (makingTests vs (given rs ps ss ver) (state w es)) ≡ 0 → length w ≡ WORDS
+  making-clear e = eqb-true _ _ (not-false _ (clear (makingTests vs (given rs ps ss ver) (state w es)) refl e .0))
+
+  pub make-is : (v : List ℕ) (fs : List ℤ) → firstOf (makingTests vs (given rs ps ss ver) (state w es)) ≡ 0 → v ≡ fresh kind rs ps ss ver x → fs ≡ replicate (length es) FEATHERED
+      → outcome Made (state v fs) ≡ decide (makingTests vs (given rs ps ss ver) (state w es)) (outcome Made (made kind x (given rs ps ss ver) (state w es))) (state w es)
+  make-is v fs e put fill = rw (put, fill, e) refl
+
+  pub make-refused : (n : ℕ) → n ≢ 0 → n ≡ firstOf (makingTests vs (given rs ps ss ver) (state w es))
+      → outcome (Refused n) (state w es) ≡ decide (makingTests vs (given rs ps ss ver) (state w es)) (outcome Made (made kind x (given rs ps ss ver) (state w es))) (state w es)
+  make-refused n ne e = rw (← e, ne-eqb n 0 ne) refl

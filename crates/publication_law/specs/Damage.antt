@@ -53,3 +53,10 @@ publishersDamaged K s = anyBelow (λ p. K .publisherDamaged (readers (s .words))
 
 abbrev pub sharedDamage : Kind → State → Bool
 sharedDamage K s = anyTrue (headRows K s) || readersDamaged K s || publishersDamaged K s
+
+-- The same of the readers alone and of the publishers alone, of any words: another length and a count outside the making rules spoil here too.
+abbrev pub readersTest : Kind → State → Bool
+readersTest K s = not (eqb (length (s .words)) WORDS) || outside 1 READERS-MAX (readers (s .words)) || readersDamaged K s
+
+abbrev pub publishersTest : Kind → State → Bool
+publishersTest K s = not (eqb (length (s .words)) WORDS) || outside 1 PUBLISHERS-MAX (publishers (s .words)) || publishersDamaged K s

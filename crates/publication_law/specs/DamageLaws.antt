@@ -9,14 +9,14 @@ use lib.ListN.{length, replicate}
 use lib.Dec.{leb, ltb, eqb}
 use borrow.Author.Tests.{eqb-true, eqb-false, eq-eqb, ne-eqb, not-true, leb-true, leb-false, lt-leb, le-leb, ltb-false, le-ltb, not-false}
 use Rattle.calls.specs.Numbers.{READERS-MAX, PUBLISHERS-MAX, SLOTS-MIN, SLOTS-MAX, TABLE}
-use Rattle.calls.specs.Rows.{anyTrue}
+use Rattle.calls.specs.Rows.{anyTrue, outside}
 use Rattle.calls.specs.RowLaws.{and-false, and-not, or-false, or-left, or-right, neither, negated, within, not-outside, all-false, none-true, none-below, no-below}
 use Rattle.layout.specs.declared.Publisher.{Publisher}
 use Rattle.layout.specs.Layout.{WORDS, kind, readers, publishers, slots, current, version}
 use Rattle.statement.specs.Machine.{State, state}
 use Rattle.publication_law.specs.Steps.{Versions, reader, publisher}
 use Rattle.publication_law.specs.Rules.{Rules, damaged}
-use Rattle.publication_law.specs.Damage.{Kind, headRows, publisherRows, readersDamaged, publishersDamaged, sharedDamage}
+use Rattle.publication_law.specs.Damage.{Kind, headRows, publisherRows, readersDamaged, publishersDamaged, sharedDamage, readersTest, publishersTest}
 
 pub record HeadFine (K : Kind) (s : State) : Type 0 where
   pub long : length (s .words) ≡ WORDS
@@ -98,6 +98,23 @@ fine-to K s f = let h = f .head in
     ))
     (no-below (λ r. K .readerDamaged (slots (s .words)) (reader s r)) (readers (s .words)) (f .readers-fine)))
     (no-below (λ p. K .publisherDamaged (readers (s .words)) (slots (s .words)) (publisher s p)) (publishers (s .words)) (f .publishers-fine))
+
+-- The damage test is that of the head, of the readers and of the publishers, each by itself.
+module _ (K : Kind) (s : State) where
+  pub readers-test-fine : Fine K s → readersTest K s ≡ false
+  readers-test-fine f = let h = f .head in neither (not (eqb (length (s .words)) WORDS) || outside 1 READERS-MAX (readers (s .words))) (readersDamaged K s)
+      (neither (not (eqb (length (s .words)) WORDS)) (outside 1 READERS-MAX (readers (s .words))) (negated _ (eq-eqb _ _ (h .long))) (not-outside 1 READERS-MAX _ (h .readers-low) (h .readers-high)))
+      (no-below (λ r. K .readerDamaged (slots (s .words)) (reader s r)) (readers (s .words)) (f .readers-fine))
+
+  pub publishers-test-fine : Fine K s → publishersTest K s ≡ false
+  publishers-test-fine f = let h = f .head in neither (not (eqb (length (s .words)) WORDS) || outside 1 PUBLISHERS-MAX (publishers (s .words))) (publishersDamaged K s)
+      (neither (not (eqb (length (s .words)) WORDS)) (outside 1 PUBLISHERS-MAX (publishers (s .words))) (negated _ (eq-eqb _ _ (h .long))) (not-outside 1 PUBLISHERS-MAX _ (h .publishers-low) (h .publishers-high)))
+      (no-below (λ p. K .publisherDamaged (readers (s .words)) (slots (s .words)) (publisher s p)) (publishers (s .words)) (f .publishers-fine))
+
+  pub tests-shared : anyTrue (headRows K s) ≡ false → readersTest K s ≡ false → publishersTest K s ≡ false → sharedDamage K s ≡ false
+  tests-shared h r p = neither (anyTrue (headRows K s) || readersDamaged K s) (publishersDamaged K s)
+      (neither (anyTrue (headRows K s)) (readersDamaged K s) h (or-false (not (eqb (length (s .words)) WORDS) || outside 1 READERS-MAX (readers (s .words))) (readersDamaged K s) r .1))
+      (or-false (not (eqb (length (s .words)) WORDS) || outside 1 PUBLISHERS-MAX (publishers (s .words))) (publishersDamaged K s) p .1)
 
 -- The rows of a publisher that the kinds share.
 pub record PublisherFine (vs : Versions) (slots : ℕ) (y : Publisher) : Type 0 where

@@ -1,11 +1,9 @@
--- `publishers_are_damaged` meets its contract: where the head is not damaged, length and count are right, and the scan decides. Assumes nothing.
+-- `publishers_are_damaged` meets its contract: length and count first, then the scan. Assumes nothing.
 use borrow.Author.Needs.{needs}
 use native.Mathlib.Omega.{arith}
-use Rattle.statement.specs.Machine.{state}
-use mathlib.Core.Path.{sym, _∙_}
-use Rattle.calls.specs.RowLaws.{clash, within, not-outside}
-use Rattle.publication_law.specs.DamageLaws.{head-of}
-use Rattle.grace_version_law.specs.Steps.{kind}
+use mathlib.Core.Path.{refl}
+use borrow.Author.Tests.{eq-eqb, ne-eqb}
+use Rattle.calls.specs.RowLaws.{within}
 use Rattle.grace_version_damage.proofs.publishers_are_damaged.Statement.{statement}
 use Rattle.grace_version_damage.proofs.publishers_are_damaged.Tie as tie
 use Rattle.grace_version_damage.proofs.publishers_are_damaged.Reads as reads
@@ -16,7 +14,7 @@ use Rattle.layout.proofs.readers_of.Reads as readers-of-reads
 use Rattle.layout.proofs.slots_of.Reads as slots-of-reads
 
 returns : tie.Need-returns
-returns c = λ es h. absurd (c .if1 .taken (head-of kind (state (c .before .before .args .words .now) es) h .long))
+returns c = λ es. rw (ne-eqb _ _ (c .if1 .taken)) refl
 
 publishers-of-requires : tie.Need-publishers-of-requires
 publishers-of-requires c κs = search needs
@@ -25,7 +23,7 @@ cast-if2 : tie.Need-cast-if2
 cast-if2 c = search needs
 
 returns-2 : tie.Need-returns-2
-returns-2 c = λ es h. let f = head-of kind (state (c .before .before .before .before .args .words .now) es) h in clash (sym (rw (c .before .publishers-of .ensures) at (c .if2 .taken)) ∙ not-outside 1 _ _ (f .publishers-low) (f .publishers-high))
+returns-2 c = λ es. rw (eq-eqb _ _ (c .before .before .if1 .left), rw (c .before .publishers-of .ensures) at (c .if2 .taken)) refl
 
 readers-of-requires : tie.Need-readers-of-requires
 readers-of-requires c κs = search needs
@@ -37,7 +35,7 @@ publishers-damaged-requires : tie.Need-publishers-damaged-requires
 publishers-damaged-requires c κs = omega (arith, within 1 16 (c .before .before .before .publishers-of .result) (c .before .before .if2 .left))
 
 returns-3 : tie.Need-returns-3
-returns-3 c = λ es h. (rw (c .before .before .before .before .publishers-of .ensures, c .before .before .readers-of .ensures, c .before .slots-of .ensures) at (c .publishers-damaged .ensures))
+returns-3 c = λ es. rw (eq-eqb _ _ (c .before .before .before .before .before .if1 .left), rw (c .before .before .before .before .publishers-of .ensures) at (c .before .before .before .if2 .left)) (rw (c .before .before .before .before .publishers-of .ensures, c .before .before .readers-of .ensures, c .before .slots-of .ensures) at (c .publishers-damaged .ensures))
 
 pub publishers-are-damaged-spec : {M : Type 1} → statement M
 publishers-are-damaged-spec =

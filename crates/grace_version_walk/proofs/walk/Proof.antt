@@ -4,13 +4,11 @@ use native.Mathlib.Omega.{arith}
 use mathlib.Core.Path.{_≡_, refl, sym, _∙_}
 use mathlib.Core.Bool.{true, false}
 use mathlib.Core.Logic.{⊎-elim}
-use Rattle.calls.specs.Rows.{anyTrue}
-use Rattle.publication_law.specs.Damage.{headRows}
 use borrow.Author.Tests.{le-leb, lt-leb, lt-ltb, ne-eqb}
 use Rattle.statement.specs.Machine.{state}
 use Rattle.publication_law.specs.Rules.{damaged, step}
 use Rattle.publication_law.specs.Calls.{step-damaged}
-use Rattle.grace_version_law.specs.Steps.{kind, rules}
+use Rattle.grace_version_law.specs.Steps.{rules}
 use Rattle.grace_version_law.specs.Calls.{damaged-head, damaged-readers, damaged-publishers, undamaged, sound-of, Walking, walking-of, walk-is}
 use Rattle.calls.specs.declared.Call.the-variants.{Walk}
 use Prim.Native.Nat.{_+_, _<_, _≤_}
@@ -30,27 +28,17 @@ use Rattle.layout.proofs.readers_of.Reads as readers-of-reads
 use Rattle.publication.proofs.end_walk.Reads as end-walk-reads
 
 clean : (c : tie.Else3) → damaged rules (state (c .before .before .before .before .before .before .before .before .before .before .args .words .now) (c .before .before .before .before .before .before .before .before .before .before .args .entries .now)) ≡ false
-clean c =
-    let h = sym (c .before .before .before .before .before .before .before .head-is-damaged .ensures (c .before .before .before .before .before .before .before .before .before .before .args .entries .now) refl) ∙ c .before .before .before .before .before .before .if1 .left in
-    undamaged (state (c .before .before .before .before .before .before .before .before .before .before .args .words .now) (c .before .before .before .before .before .before .before .before .before .before .args .entries .now)) h (sym (c .before .before .before .before .readers-are-damaged .ensures (c .before .before .before .before .before .before .before .before .before .before .args .entries .now) h) ∙ c .before .before .before .if2 .left) (sym (c .before .publishers-are-damaged .ensures (c .before .before .before .before .before .before .before .before .before .before .args .entries .now) h) ∙ c .if3 .left)
+clean c = undamaged (state (c .before .before .before .before .before .before .before .before .before .before .args .words .now) (c .before .before .before .before .before .before .before .before .before .before .args .entries .now)) (sym (c .before .before .before .before .before .before .before .head-is-damaged .ensures (c .before .before .before .before .before .before .before .before .before .before .args .entries .now) refl) ∙ c .before .before .before .before .before .before .if1 .left) (sym (c .before .before .before .before .readers-are-damaged .ensures (c .before .before .before .before .before .before .before .before .before .before .args .entries .now)) ∙ c .before .before .before .if2 .left) (sym (c .before .publishers-are-damaged .ensures (c .before .before .before .before .before .before .before .before .before .before .args .entries .now)) ∙ c .if3 .left)
 
--- One of the three tests says so.
 spoiled : (c : tie.Joined1) → damaged rules (state (c .before .before .before .before .args .words .now) (c .before .before .before .before .args .entries .now)) ≡ true
-spoiled c = ⊎-elim
-    (λ t. damaged-head (state (c .before .before .before .before .args .words .now) (c .before .before .before .before .args .entries .now)) (head ∙ t .taken))
-    (⊎-elim
-    (λ a. damaged-readers (state (c .before .before .before .before .args .words .now) (c .before .before .before .before .args .entries .now)) (head ∙ a .0 .left) (sym (a .2 .ensures (c .before .before .before .before .args .entries .now) (head ∙ a .0 .left)) ∙ a .3 .taken))
-    (λ a. damaged-publishers (state (c .before .before .before .before .args .words .now) (c .before .before .before .before .args .entries .now)) (head ∙ a .0 .left) (sym (a .2 .ensures (c .before .before .before .before .args .entries .now) (head ∙ a .0 .left)) ∙ a .3 .left)
-    (sym (a .5 .ensures (c .before .before .before .before .args .entries .now) (head ∙ a .0 .left)) ∙ a .6 .taken)))
+spoiled c = ⊎-elim (λ t. damaged-head (state (c .before .before .before .before .args .words .now) (c .before .before .before .before .args .entries .now)) (sym (c .before .head-is-damaged .ensures (c .before .before .before .before .args .entries .now) refl) ∙ t .taken))
+    (⊎-elim (λ a. damaged-readers (state (c .before .before .before .before .args .words .now) (c .before .before .before .before .args .entries .now)) (sym (a .2 .ensures (c .before .before .before .before .args .entries .now)) ∙ a .3 .taken)) (λ a. damaged-publishers (state (c .before .before .before .before .args .words .now) (c .before .before .before .before .args .entries .now)) (sym (a .5 .ensures (c .before .before .before .before .args .entries .now)) ∙ a .6 .taken)))
     (c .if1 .came)
-  where
-    head : anyTrue (headRows kind (state (c .before .before .before .before .args .words .now) (c .before .before .before .before .args .entries .now))) ≡ c .before .head-is-damaged .result
-    head = sym (c .before .head-is-damaged .ensures (c .before .before .before .before .args .entries .now) refl)
 
 walker : (c : tie.At-match-keys1) → Walking (readers (c .before .before .before .before .before .before .before .before .before .before .before .before .before .before .before .before .args .words .now)) (c .before .publisher-at .result)
 walker c =
     let e = rw (c .before .publisher-at .ensures) at (c .match .keys1) in
-    rw (c .before .publisher-at .ensures) (walking-of _ (clean (c .before .before .before .before .before .before)) _ (rw (c .before .before .before .before .publishers-of .ensures) at (c .before .before .before .if4 .left)) (rw e refl) (omega (arith, e)))
+    rw (c .before .publisher-at .ensures) (walking-of _ (clean (c .before .before .before .before .before .before)) _ (rw (c .before .before .before .before .publishers-of .ensures) at (c .before .before .before .if4 .left)) (rw e refl))
 
 room : (c : tie.Else5) → c .before .before .before .before .publisher-at .result .walk .looks + c .before .before .before .before .before .before .before .before .before .before .before .before .before .before .before .before .before .before .before .args .b ≤ NUMBER-MAX
 room c = omega (arith, c .if5 .left, c .before .before .before .before .before .before .before .before .before .before .before .before .before .before .before .before .before .before .before .fits .b)
