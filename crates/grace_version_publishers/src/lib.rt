@@ -27,6 +27,7 @@ use publication::start_sync;
 use publication::swap_in;
 use publication::write_entry;
 
+// Making, in words and entries whatever they hold.
 pub fn make(
     words: &mut [u64],
     entries: &mut [Pitch],
@@ -50,6 +51,7 @@ pub fn make(
     )
 }
 
+// CLAIM p s: 0 to 1, holds s.
 pub fn claim(words: &mut [u64], entries: &[Pitch], p: u16, slot: u16) -> Reply
     ensures { λ a. ⌜ outcome a (state (now (words .exit)) (now (entries .entry))) ≡ step rules (state (now (words .entry)) (now (entries .entry))) (Claim p slot) ⌝ }
 {
@@ -62,6 +64,7 @@ pub fn claim(words: &mut [u64], entries: &[Pitch], p: u16, slot: u16) -> Reply
     claim_slot(words, p, slot, false)
 }
 
+// WRITE p v: stores the next entry, and replies with the number written.
 pub fn write(words: &mut [u64], entries: &mut [Pitch], p: u16, v: Pitch) -> Reply
     ensures { λ a. ⌜ outcome a (state (now (words .exit)) (now (entries .exit))) ≡ step rules (state (now (words .entry)) (now (entries .entry))) (Write p v) ⌝ }
 {
@@ -74,6 +77,7 @@ pub fn write(words: &mut [u64], entries: &mut [Pitch], p: u16, v: Pitch) -> Repl
     write_entry(words, entries, p, v)
 }
 
+// SWAP p: 33 to 34. Its slot becomes current; it holds the former one, and replies with that.
 pub fn swap(words: &mut [u64], entries: &[Pitch], p: u16) -> Reply
     ensures { λ a. ⌜ outcome a (state (now (words .exit)) (now (entries .entry))) ≡ step rules (state (now (words .entry)) (now (entries .entry))) (Swap p) ⌝ }
 {
@@ -86,6 +90,7 @@ pub fn swap(words: &mut [u64], entries: &[Pitch], p: u16) -> Reply
     swap_in(words, p)
 }
 
+// SYNC p: 34 to 35, with the mark one above the version.
 pub fn sync(words: &mut [u64], entries: &[Pitch], p: u16) -> Reply
     ensures { λ a. ⌜ outcome a (state (now (words .exit)) (now (entries .entry))) ≡ step rules (state (now (words .entry)) (now (entries .entry))) (Sync p) ⌝ }
 {
@@ -98,6 +103,7 @@ pub fn sync(words: &mut [u64], entries: &[Pitch], p: u16) -> Reply
     start_sync(words, p, LAST - 1)
 }
 
+// RAISE p: 35 to 37. The version becomes the mark, if it is one before it.
 pub fn raise(words: &mut [u64], entries: &[Pitch], p: u16) -> Reply
     ensures { λ a. ⌜ outcome a (state (now (words .exit)) (now (entries .entry))) ≡ step rules (state (now (words .entry)) (now (entries .entry))) (Raise p) ⌝ }
 {
@@ -119,6 +125,7 @@ pub fn raise(words: &mut [u64], entries: &[Pitch], p: u16) -> Reply
     }
 }
 
+// RELEASE p: 38 to 0, which frees the held slot; one more release.
 pub fn release(words: &mut [u64], entries: &[Pitch], p: u16) -> Reply
     ensures { λ a. ⌜ outcome a (state (now (words .exit)) (now (entries .entry))) ≡ step rules (state (now (words .entry)) (now (entries .entry))) (Release p) ⌝ }
 {

@@ -56,6 +56,7 @@ fn advanced(mut x: Reader, version: u64, current: u64) -> Reader
     }
 }
 
+// ENTER r: one place on. Replies with the place.
 pub fn enter(words: &mut [u64], entries: &[Pitch], r: u16) -> Reply
     ensures { λ a. ⌜ outcome a (state (now (words .exit)) (now (entries .entry))) ≡ step rules (state (now (words .entry)) (now (entries .entry))) (Enter r) ⌝ }
 {
@@ -78,6 +79,7 @@ pub fn enter(words: &mut [u64], entries: &[Pitch], r: u16) -> Reply
     Reply::At(moved.place)
 }
 
+// LOOK r k (place 5): entry k of the picked slot.
 pub fn look(words: &[u64], entries: &[Pitch], r: u16, k: u16) -> Reply
     ensures { λ a. ⌜ outcome a (state (now (words .entry)) (now (entries .entry))) ≡ step rules (state (now (words .entry)) (now (entries .entry))) (Look r k) ⌝ }
 {
@@ -90,6 +92,7 @@ pub fn look(words: &[u64], entries: &[Pitch], r: u16, k: u16) -> Reply
     look_up(words, entries, r, k)
 }
 
+// LEAVE r (places 4, 5): to 0, and NOT_READING is published.
 pub fn leave(words: &mut [u64], entries: &[Pitch], r: u16) -> Reply
     ensures { λ a. ⌜ outcome a (state (now (words .exit)) (now (entries .entry))) ≡ step rules (state (now (words .entry)) (now (entries .entry))) (Leave r) ⌝ }
 {

@@ -75,6 +75,7 @@ fn looks(words: &[u64], n: u64, walk: Walk, b: u16) -> Progress
     }
 }
 
+// WALK p b (place 37): up to b looks at the readers that are still to pass.
 pub fn walk(words: &mut [u64], entries: &[Pitch], p: u16, b: u16) -> Reply
     ensures { λ a. ⌜ outcome a (state (now (words .exit)) (now (entries .entry))) ≡ step rules (state (now (words .entry)) (now (entries .entry))) (WALK p b) ⌝ }
 {

@@ -254,7 +254,7 @@ fn clear(words: &mut [u64])
     }
 }
 
-// Of words that are all 0, the version that each reader has published anew.
+// In words that are all 0: stores what each of the 64 readers has published.
 fn publish_all(words: &mut [u64], published: u64)
     requires { ⌜ now words ≡ replicate WORDS 0 ⌝ }
     ensures { λ _. ⌜ now (words .exit) ≡ withReaders READERS-MAX (replicate WORDS 0) (blankReader published) ⌝ }

@@ -47,7 +47,7 @@ use layout::releases_of;
 use layout::slots_of;
 use layout::version_of;
 
-// LOOK r k.
+// LOOK r k (place 5): entry k of the picked slot.
 pub fn look_up(words: &[u64], entries: &[Pitch], r: u16, k: u16) -> Reply
     requires { ⌜ Sound (now words) × (length (now entries) ≡ slots (now words) * TABLE) ⌝ }
     ensures { λ a. ⌜ (let s = state (now (words .entry)) (now (entries .entry)) in outcome a s ≡ decide (lookTests s r k) (look s r k) s) ⌝ }
@@ -110,7 +110,7 @@ fn in_use(words: &[u64], x: u64) -> bool
     false
 }
 
-// CLAIM p s; whether 31 is given is the kind's own.
+// CLAIM p s: 0 to 1, holds s. Whether 31 is given is the kind's own.
 pub fn claim_slot(words: &mut [u64], p: u16, slot: u16, exclusive: bool) -> Reply
     requires { ⌜ Sound (now words) ⌝ }
     ensures { λ a. ⌜ ((es : List ℤ) → let s = state (now (words .entry)) es in outcome a (state (now (words .exit)) es) ≡ decide (claimTests exclusive s p slot) (claim s p slot) s) ⌝ }
@@ -149,7 +149,7 @@ fn bad_pitch(v: Pitch) -> bool
     (v < PITCH_LOW) | (v > PITCH_HIGH)
 }
 
-// WRITE p v.
+// WRITE p v: stores the next entry, and replies with the number written.
 pub fn write_entry(words: &mut [u64], entries: &mut [Pitch], p: u16, v: Pitch) -> Reply
     requires { ⌜ Sound (now words) × (length (now entries) ≡ slots (now words) * TABLE) ⌝ }
     ensures { λ a. ⌜ (let s = state (now (words .entry)) (now (entries .entry)) in outcome a (state (now (words .exit)) (now (entries .exit))) ≡ decide (writeTests s p v) (write s p v) s) ⌝ }
@@ -174,7 +174,7 @@ pub fn write_entry(words: &mut [u64], entries: &mut [Pitch], p: u16, v: Pitch) -
     }
 }
 
-// SWAP p.
+// SWAP p: 33 to 34. Its slot becomes current; it holds the former one, and replies with that.
 pub fn swap_in(words: &mut [u64], p: u16) -> Reply
     requires { ⌜ Sound (now words) ⌝ }
     ensures { λ a. ⌜ ((es : List ℤ) → let s = state (now (words .entry)) es in outcome a (state (now (words .exit)) es) ≡ decide (swapTests s p) (swap s p) s) ⌝ }
@@ -199,7 +199,7 @@ pub fn swap_in(words: &mut [u64], p: u16) -> Reply
     }
 }
 
-// SYNC p; up to which version it is allowed is the kind's own.
+// SYNC p: 34 to 35, a walk with a new mark. Up to which version it is allowed is the kind's own.
 pub fn start_sync(words: &mut [u64], p: u16, limit: u64) -> Reply
     requires { ⌜ Sound (now words) ⌝ }
     ensures { λ a. ⌜ ((vs : Versions) (es : List ℤ) → vs .isLast (version (now (words .entry))) ≡ ltb limit (version (now (words .entry))) → vs .markAt (version (now (words .entry))) ≡ (version (now (words .entry)) + 1) % MODULUS → let s = state (now (words .entry)) es in outcome a (state (now (words .exit)) es) ≡ decide (syncTests vs s p) (sync vs s p) s) ⌝ }
@@ -274,7 +274,7 @@ pub fn end_walk(words: &mut [u64], p: usize, y: Publisher, k: Progress) -> Reply
     Reply::Walked(reply)
 }
 
-// RELEASE p.
+// RELEASE p: 38 to 0, which frees the held slot; one more release.
 pub fn release_slot(words: &mut [u64], p: u16) -> Reply
     requires { ⌜ Sound (now words) ⌝ }
     ensures { λ a. ⌜ ((es : List ℤ) → let s = state (now (words .entry)) es in outcome a (state (now (words .exit)) es) ≡ decide (releaseTests s p) (release s p) s) ⌝ }
