@@ -11,51 +11,26 @@ use borrow.Author.Tests.{eq-eqb, ne-eqb, eqb-true, eqb-false, ltb-false, lt-leb,
 use Rattle.calls.specs.declared.Call.the-variants.{Enter, Leave, Raise, Walk}
 use Rattle.calls.specs.declared.Reply.the-variants.{At, Left}
 use Rattle.calls.specs.declared.WalkReply.the-variants.{Waiting, Spent, Returned}
-use Rattle.calls.specs.Numbers.{TABLE, MODULUS, NUMBER-MAX}
+use Rattle.calls.specs.Numbers.{TABLE, NUMBER-MAX}
 use Rattle.calls.specs.Rows.{anyTrue}
-use Rattle.calls.specs.RowLaws.{clash, not-both, neither, and-false, or-false, or-left, or-right, or-none, all-false, negated}
+use Rattle.calls.specs.RowLaws.{clash, and-false, or-false, or-left, or-right, or-none, all-false, negated}
 use Rattle.layout.specs.declared.Reader.{Reader}
 use Rattle.layout.specs.declared.Publisher.{Publisher}
 use Rattle.layout.specs.declared.Progress.{Progress}
 use Rattle.layout.specs.Layout.{readers, publishers, slots, current, version, readerAt, withReader}
 use Rattle.statement.specs.Machine.{State, state, Outcome, outcome}
 use Rattle.publication_law.specs.Steps.{reader, publisher, raise, walk}
-use Rattle.publication_law.specs.Damage.{headRows, publisherRows, sharedDamage, readersTest, publishersTest, wrongPick}
-use Rattle.publication_law.specs.DamageLaws.{Fine, fine-of, tests-shared, readers-test-fine, publishers-test-fine, publisher-of, publisher-to}
+use Rattle.publication_law.specs.Damage.{publisherRows, wrongPick}
+use Rattle.publication_law.specs.DamageLaws.{Fine, publisher-of, publisher-to}
 use Rattle.publication_law.specs.Decide.{decide-accepts}
 use Rattle.publication_law.specs.Rules.{damaged, tests, act, step}
 use Rattle.publication_law.specs.Sound.{Sound, sound}
-use Rattle.publication_law.specs.Calls.{step-undamaged}
+use Rattle.publication_law.specs.Calls.{step-undamaged, undamaged-fine}
 use Rattle.grace_version_law.specs.Steps.{LAST, versions, kind, readerRows, ownRows, onward, leaving, lookedAt, progress, looksFrom, looksOf, rules}
 use Rattle.grace_version_law.specs.Safety.{law, next-below}
 
 pub fine : (s : State) → damaged rules s ≡ false → Fine kind s
-unfolding damaged
-fine s e = fine-of kind s (or-false (sharedDamage kind s) false e .0)
-
--- The damage test is that of the head, of the readers and of the publishers, each by itself.
-module _ (s : State) where
-  pub undamaged : anyTrue (headRows kind s) ≡ false → readersTest kind s ≡ false → publishersTest kind s ≡ false → damaged rules s ≡ false
-  unfolding damaged
-  undamaged h r p = neither (sharedDamage kind s) false (tests-shared kind s h r p) refl
-
-  -- A test that no fine store fails damages the store that fails it.
-  unless : (b : Bool) → (Fine kind s → b ≡ false) → b ≡ true → damaged rules s ≡ true
-  unless b f e = go (damaged rules s) refl
-    where
-      go : (d : Bool) → damaged rules s ≡ d → damaged rules s ≡ true
-      go true d = d
-      go false d = absurd (not-both b e (f (fine s d)))
-
-  pub damaged-head : anyTrue (headRows kind s) ≡ true → damaged rules s ≡ true
-  unfolding damaged
-  damaged-head e = rw e refl
-
-  pub damaged-readers : readersTest kind s ≡ true → damaged rules s ≡ true
-  damaged-readers = unless (readersTest kind s) (readers-test-fine kind s)
-
-  pub damaged-publishers : publishersTest kind s ≡ true → damaged rules s ≡ true
-  damaged-publishers = unless (publishersTest kind s) (publishers-test-fine kind s)
+fine = undamaged-fine rules
 
 picks : (ss : ℕ) (x : Reader) → kind .readerDamaged ss x ≡ false → wrongPick ss x ≡ false
 picks ss x e = all-false (readerRows ss x) e .1 .0
@@ -164,17 +139,6 @@ walking-of s e p named turn =
 
     above-zero : (n : ℕ) → eqb n 0 ≡ false → 1 ≤ n
     above-zero n z = let q = eqb-false n 0 z in omega arith
-
--- Up to LAST - 1 a SYNC is allowed, and its mark does not run over.
-pub last-is : (v : ℕ) → v ≤ LAST → versions .isLast v ≡ ltb (LAST - 1) v
-last-is v l = go (eqb v LAST) refl
-  where
-    go : (b : Bool) → eqb v LAST ≡ b → b ≡ ltb (LAST - 1) v
-    go true e = sym (lt-ltb (LAST - 1) v (omega (arith, eqb-true v LAST e)))
-    go false e = let q = eqb-false v LAST e in sym (le-ltb (LAST - 1) v (omega arith))
-
-pub mark-is : (v : ℕ) → v ≤ LAST → versions .markAt v ≡ (v + 1) % MODULUS
-mark-is v l = omega arith
 
 module _ (s : State) (clean : damaged rules s ≡ false) where
   pub version-low : version (s .words) ≤ LAST

@@ -1,5 +1,6 @@
 -- What an accepted shared call comes to, from what its code has come to know: the rows that do not apply, the record that it read, the words that it wrote.
 -- Assumes nothing.
+use native.Mathlib.Omega.{arith}
 use Prim.Native.Nat.{ℕ, _+_, _-_, _%_, _<_, _≤_}
 use mathlib.Core.Path.{_≡_, refl, sym}
 use mathlib.Core.Logic.{_≢_}
@@ -8,19 +9,21 @@ use mathlib.Core.List.{List}
 use lib.IntN.{ℤ, pos}
 use lib.Signed.{ltZ}
 use lib.ListN.{getD, set, length, replicate}
-use lib.Dec.{eqb}
-use borrow.Author.Tests.{eqb-true, eq-eqb, ne-eqb, lt-leb, le-ltb, not-false}
+use lib.Dec.{ltb, eqb}
+use borrow.Author.Tests.{eqb-true, eqb-false, eq-eqb, ne-eqb, lt-leb, lt-ltb, le-ltb, not-false}
 use Rattle.calls.specs.declared.Call.{Call}
 use Rattle.calls.specs.declared.Reply.the-variants.{Made, Pitch, Claimed, Written, Swapped, Synced, Raised, Shared, Walked, Freed, Refused}
-use Rattle.calls.specs.Numbers.{FEATHERED, PITCH-LOW, PITCH-HIGH, MODULUS, DAMAGED}
-use Rattle.calls.specs.Rows.{firstOf}
-use Rattle.calls.specs.RowLaws.{negated, not-outside, clear}
+use Rattle.calls.specs.Numbers.{FEATHERED, PITCH-LOW, PITCH-HIGH, MODULUS, NUMBER-MAX, DAMAGED}
+use Rattle.calls.specs.Rows.{firstOf, anyTrue}
+use Rattle.calls.specs.RowLaws.{not-both, or-false, neither, negated, not-outside, clear}
 use Rattle.layout.specs.declared.Reader.{Reader}
 use Rattle.layout.specs.declared.Publisher.{Publisher}
 use Rattle.layout.specs.declared.Progress.{Progress}
 use Rattle.layout.specs.Layout.{WORDS, readers, publishers, slots, current, version, releases, readerAt, publisherAt, withPublisher, withCurrent, withVersion, withReleases, entryAt, fresh}
 use Rattle.statement.specs.Machine.{State, state, outcome, given}
-use Rattle.publication_law.specs.Steps.{Versions, decide, atPlace, newWalk, anotherBusy, inUse, lookTests, look, claimTests, claim, writeTests, write, swapTests, swap, syncTests, sync, raise, placeAfter, walk, releaseTests, release, makingTests, made}
+use Rattle.publication_law.specs.Steps.{Versions, upTo, decide, atPlace, newWalk, anotherBusy, inUse, lookTests, look, claimTests, claim, writeTests, write, swapTests, swap, syncTests, sync, raise, placeAfter, walk, releaseTests, release, makingTests, made}
+use Rattle.publication_law.specs.Damage.{headRows, sharedDamage, readersTest, publishersTest}
+use Rattle.publication_law.specs.DamageLaws.{Fine, fine-of, tests-shared, readers-test-fine, publishers-test-fine}
 use Rattle.publication_law.specs.Decide.{decide-accepts}
 use Rattle.publication_law.specs.Rules.{Rules, damaged, tests, act, rows, step}
 
@@ -32,6 +35,52 @@ step-damaged R s c e = rw e refl
 pub step-undamaged : (R : Rules) (s : State) (c : Call) → damaged R s ≡ false → decide (tests R s c) (act R s c) s ≡ step R s c
 unfolding step
 step-undamaged R s c e = rw e refl
+
+-- The damage test is that of the head, of the readers, of the publishers, each by itself, and what a kind adds.
+module _ (R : Rules) (s : State) where
+  pub undamaged-fine : damaged R s ≡ false → Fine (R .kind) s
+  unfolding damaged
+  undamaged-fine e = fine-of (R .kind) s (or-false (sharedDamage (R .kind) s) (R .further s) e .0)
+
+  pub undamaged-further : damaged R s ≡ false → R .further s ≡ false
+  unfolding damaged
+  undamaged-further e = or-false (sharedDamage (R .kind) s) (R .further s) e .1
+
+  pub undamaged : anyTrue (headRows (R .kind) s) ≡ false → readersTest (R .kind) s ≡ false → R .further s ≡ false → publishersTest (R .kind) s ≡ false → damaged R s ≡ false
+  unfolding damaged
+  undamaged h r f p = neither (sharedDamage (R .kind) s) (R .further s) (tests-shared (R .kind) s h r p) f
+
+  -- A test that no undamaged store fails damages the store that fails it.
+  unless : (b : Bool) → (damaged R s ≡ false → b ≡ false) → b ≡ true → damaged R s ≡ true
+  unless b f e = go (damaged R s) refl
+    where
+      go : (d : Bool) → damaged R s ≡ d → damaged R s ≡ true
+      go true d = d
+      go false d = absurd (not-both b e (f d))
+
+  pub damaged-head : anyTrue (headRows (R .kind) s) ≡ true → damaged R s ≡ true
+  unfolding damaged
+  damaged-head e = rw e refl
+
+  pub damaged-readers : readersTest (R .kind) s ≡ true → damaged R s ≡ true
+  damaged-readers = unless (readersTest (R .kind) s) (λ d. readers-test-fine (R .kind) s (undamaged-fine d))
+
+  pub damaged-publishers : publishersTest (R .kind) s ≡ true → damaged R s ≡ true
+  damaged-publishers = unless (publishersTest (R .kind) s) (λ d. publishers-test-fine (R .kind) s (undamaged-fine d))
+
+  pub damaged-further : R .further s ≡ true → damaged R s ≡ true
+  damaged-further = unless (R .further s) undamaged-further
+
+-- Up to the version before the last a SYNC is allowed, and its mark does not run over.
+pub last-is : (last v : ℕ) → 1 ≤ last → v ≤ last → upTo last .isLast v ≡ ltb (last - 1) v
+last-is last v some l = go (eqb v last) refl
+  where
+    go : (b : Bool) → eqb v last ≡ b → b ≡ ltb (last - 1) v
+    go true e = sym (lt-ltb (last - 1) v (omega (arith, eqb-true v last e)))
+    go false e = let q = eqb-false v last e in sym (le-ltb (last - 1) v (omega arith))
+
+pub mark-is : (last v : ℕ) → last < NUMBER-MAX → v ≤ last → upTo last .markAt v ≡ (v + 1) % MODULUS
+mark-is last v room l = omega arith
 
 not-at : (n m : ℕ) → n ≡ m → not (eqb n m) ≡ false
 not-at n m e = negated (eqb n m) (eq-eqb n m e)

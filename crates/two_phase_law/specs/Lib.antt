@@ -2,5 +2,6 @@ pub mod Steps
 pub mod Counts
 pub mod Safety
 pub mod Promises
+pub mod Calls
 pub mod Examples
 pub mod Refuted

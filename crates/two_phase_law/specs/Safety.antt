@@ -44,7 +44,7 @@ use Rattle.publication_law.specs.Lawful.{Good, Lawful}
 use Rattle.two_phase_law.specs.Steps.{LAST, versions, kind, readerRows, parity, addedTo, onward, placeOn, entered, enterWords, leaving, leaveWords, watched, looksOf, lookAt, rules}
 use Rattle.two_phase_law.specs.Counts.{Counted, counted-to, none-added, stays-counted, arrives-counted, leaves-counted, passedAt, Looked, look-turn, looked}
 
-law : KindLaw kind
+pub law : KindLaw kind
 law = record {
   shared-rows = λ rs ss y e. or-false (ltb 38 (y .place)) (anyTrue (publisherRows versions ss y)) e .1;
   versions-law = up-to-law LAST;

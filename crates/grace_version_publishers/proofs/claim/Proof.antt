@@ -5,9 +5,9 @@ use mathlib.Core.Bool.{true, false}
 use mathlib.Core.Logic.{⊎-elim}
 use Rattle.statement.specs.Machine.{state}
 use Rattle.publication_law.specs.Rules.{damaged}
-use Rattle.publication_law.specs.Calls.{step-damaged, step-undamaged}
+use Rattle.publication_law.specs.Calls.{step-damaged, step-undamaged, undamaged, damaged-head, damaged-readers, damaged-publishers}
 use Rattle.grace_version_law.specs.Steps.{rules}
-use Rattle.grace_version_law.specs.Calls.{damaged-head, damaged-readers, damaged-publishers, undamaged, sound-of}
+use Rattle.grace_version_law.specs.Calls.{sound-of}
 use Rattle.calls.specs.declared.Call.the-variants.{Claim}
 use Rattle.grace_version_publishers.proofs.claim.Statement.{statement}
 use Rattle.grace_version_publishers.proofs.claim.Tie as tie
@@ -19,11 +19,11 @@ use Rattle.grace_version_damage.proofs.readers_are_damaged.Reads as readers-are
 use Rattle.publication.proofs.claim_slot.Reads as claim-slot-reads
 
 clean : (c : tie.Else3) → damaged rules (state (c .before .before .before .before .before .before .before .before .before .before .args .words .now) (c .before .before .before .before .before .before .before .before .before .before .args .entries .now)) ≡ false
-clean c = undamaged (state (c .before .before .before .before .before .before .before .before .before .before .args .words .now) (c .before .before .before .before .before .before .before .before .before .before .args .entries .now)) (sym (c .before .before .before .before .before .before .before .head-is-damaged .ensures (c .before .before .before .before .before .before .before .before .before .before .args .entries .now) refl) ∙ c .before .before .before .before .before .before .if1 .left) (sym (c .before .before .before .before .readers-are-damaged .ensures (c .before .before .before .before .before .before .before .before .before .before .args .entries .now)) ∙ c .before .before .before .if2 .left) (sym (c .before .publishers-are-damaged .ensures (c .before .before .before .before .before .before .before .before .before .before .args .entries .now)) ∙ c .if3 .left)
+clean c = undamaged rules (state (c .before .before .before .before .before .before .before .before .before .before .args .words .now) (c .before .before .before .before .before .before .before .before .before .before .args .entries .now)) (sym (c .before .before .before .before .before .before .before .head-is-damaged .ensures (c .before .before .before .before .before .before .before .before .before .before .args .entries .now) refl) ∙ c .before .before .before .before .before .before .if1 .left) (sym (c .before .before .before .before .readers-are-damaged .ensures (c .before .before .before .before .before .before .before .before .before .before .args .entries .now)) ∙ c .before .before .before .if2 .left) refl (sym (c .before .publishers-are-damaged .ensures (c .before .before .before .before .before .before .before .before .before .before .args .entries .now)) ∙ c .if3 .left)
 
 spoiled : (c : tie.Joined1) → damaged rules (state (c .before .before .before .before .args .words .now) (c .before .before .before .before .args .entries .now)) ≡ true
-spoiled c = ⊎-elim (λ t. damaged-head (state (c .before .before .before .before .args .words .now) (c .before .before .before .before .args .entries .now)) (sym (c .before .head-is-damaged .ensures (c .before .before .before .before .args .entries .now) refl) ∙ t .taken))
-    (⊎-elim (λ a. damaged-readers (state (c .before .before .before .before .args .words .now) (c .before .before .before .before .args .entries .now)) (sym (a .2 .ensures (c .before .before .before .before .args .entries .now)) ∙ a .3 .taken)) (λ a. damaged-publishers (state (c .before .before .before .before .args .words .now) (c .before .before .before .before .args .entries .now)) (sym (a .5 .ensures (c .before .before .before .before .args .entries .now)) ∙ a .6 .taken)))
+spoiled c = ⊎-elim (λ t. damaged-head rules (state (c .before .before .before .before .args .words .now) (c .before .before .before .before .args .entries .now)) (sym (c .before .head-is-damaged .ensures (c .before .before .before .before .args .entries .now) refl) ∙ t .taken))
+    (⊎-elim (λ a. damaged-readers rules (state (c .before .before .before .before .args .words .now) (c .before .before .before .before .args .entries .now)) (sym (a .2 .ensures (c .before .before .before .before .args .entries .now)) ∙ a .3 .taken)) (λ a. damaged-publishers rules (state (c .before .before .before .before .args .words .now) (c .before .before .before .before .args .entries .now)) (sym (a .5 .ensures (c .before .before .before .before .args .entries .now)) ∙ a .6 .taken)))
     (c .if1 .came)
 
 head-is-damaged-requires : tie.Need-head-is-damaged-requires

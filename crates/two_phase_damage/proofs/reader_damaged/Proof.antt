@@ -1,0 +1,36 @@
+-- `reader_damaged` meets its contract: by the place, each case a law about `readerRows`. Assumes nothing.
+use borrow.Author.Needs.{needs}
+use native.Mathlib.Omega.{arith}
+use Prim.Native.Nat.{_≤_}
+use mathlib.Core.Path.{sym, _∙_}
+use Rattle.layout.specs.Layout.{readerAt}
+use Rattle.two_phase_law.specs.Calls.{reader-picked, reader-beyond, reader-others}
+use Rattle.two_phase_damage.proofs.reader_damaged.Statement.{statement}
+use Rattle.two_phase_damage.proofs.reader_damaged.Tie as tie
+use Rattle.two_phase_damage.proofs.reader_damaged.Reads as reads
+use Rattle.two_phase_damage.proofs.reader_damaged.Lts as lts
+use Rattle.layout.proofs.reader_at.Reads as reader-at-reads
+use Rattle.layout.proofs.reader_place.Reads as reader-place-reads
+
+-- Below 5: neither 5 nor above.
+four : (c : tie.Else2) → c .before .before .reader-place .result ≤ 4
+four c = let q = c .before .if1 .left in omega (arith, c .if2 .left)
+
+reader-place-requires : tie.Need-reader-place-requires
+reader-place-requires c κs = search needs
+
+reader-at-requires : tie.Need-reader-at-requires
+reader-at-requires c κs = search needs
+
+returns : tie.Need-returns
+returns c = rw (c .before .reader-at .ensures) (sym (reader-picked (c .before .before .before .before .before .args .slots) (readerAt (c .before .before .before .before .before .args .words .now) (c .before .before .before .before .before .args .r)) (sym (c .before .before .before .reader-place .ensures) ∙ c .before .before .if1 .taken)))
+
+returns-2 : tie.Need-returns-2
+returns-2 c = sym (reader-beyond (c .before .before .before .before .args .slots) (readerAt (c .before .before .before .before .args .words .now) (c .before .before .before .before .args .r)) (rw (c .before .before .reader-place .ensures) at (c .if2 .taken)))
+
+returns-3 : tie.Need-returns-3
+returns-3 c = rw (c .before .before .reader-place .ensures) (sym (reader-others (c .before .before .before .before .args .slots) (readerAt (c .before .before .before .before .args .words .now) (c .before .before .before .before .args .r)) (rw (c .before .before .reader-place .ensures) at (four c))))
+
+pub reader-damaged-spec : {M : Type 1} → statement M
+reader-damaged-spec =
+    tie.close (tie.spec reader-place-requires reader-at-requires returns returns-2 returns-3)

@@ -1,0 +1,157 @@
+// The old store's damage test (document 01's spoiled), and its last version.
+// One pass over the readers in use tests them and counts, for each parity, those at 4 or 5 whose loaded version has it.
+// It uses making and what lies below; its contracts cite two_phase_law.
+ghost use mathlib.Core.Path.{_≡_};
+ghost use mathlib.Core.Bool.{_||_};
+ghost use mathlib.Core.List.{List};
+ghost use Prim.Native.Nat.{ℕ, _<_, _≤_};
+ghost use lib.IntN.{ℤ};
+ghost use lib.ListN.{length};
+ghost use Rattle.calls.specs.Base.{pick};
+ghost use Rattle.calls.specs.Numbers.{READERS-MAX, PUBLISHERS-MAX};
+ghost use Rattle.calls.specs.Rows.{anyTrue, anyBelow};
+ghost use Rattle.layout.specs.Layout.{WORDS, readerAt, publisherAt};
+ghost use Rattle.statement.specs.Machine.{state};
+ghost use Rattle.publication_law.specs.Damage.{headRows, readersTest, publishersTest};
+ghost use Rattle.two_phase_law.specs.Calls.{miscountedAt};
+ghost use Rattle.two_phase_law.specs.Steps.{kind, addedTo, rules};
+use calls::KIND_OLD;
+use calls::PUBLISHERS_MAX;
+use calls::READERS_MAX;
+use layout::WORDS;
+use layout::indicator_of;
+use layout::publisher_at;
+use layout::publisher_place;
+use layout::publishers_of;
+use layout::reader_at;
+use layout::reader_place;
+use layout::readers_of;
+use layout::slots_of;
+use making::head_damaged;
+
+// The last version: 2^63 - 1.
+pub const LAST: u64 = 9223372036854775807;
+
+// Whether reader r is spoiled.
+fn reader_damaged(words: &[u64], r: usize, slots: u64) -> bool
+    requires { ⌜ (length (now words) ≡ WORDS) × (r < READERS-MAX) ⌝ }
+    ensures { λ b. ⌜ b ≡ kind .readerDamaged slots (readerAt (now (words .entry)) r) ⌝ }
+{
+    let place = reader_place(words, r);
+    if place == 5 {
+        let x = reader_at(words, r);
+        return x.picked >= slots;
+    }
+    // 2, 3, and above 5
+    if place > 5 {
+        return true;
+    }
+    place % 4 >= 2
+}
+
+// 1 if reader r is at 4 or 5 and added to indicator i, else 0.
+fn added(words: &[u64], r: usize, i: u64) -> u64
+    requires { ⌜ (length (now words) ≡ WORDS) × (r < READERS-MAX) ⌝ }
+    ensures { λ n. ⌜ n ≡ pick (addedTo i (readerAt (now (words .entry)) r)) 1 0 ⌝ }
+{
+    let place = reader_place(words, r);
+    if place < 4 {
+        return 0;
+    }
+    let x = reader_at(words, r);
+    if x.first % 2 == i {
+        return 1;
+    }
+    0
+}
+
+// Whether one of the first n readers is spoiled, or an indicator is unlike the number of them that added to it.
+fn readers_damaged(words: &[u64], n: u64, slots: u64) -> bool
+    requires { ⌜ (length (now words) ≡ WORDS) × (n ≤ READERS-MAX) ⌝ }
+    ensures { λ b. ⌜ b ≡ (anyBelow (λ r. kind .readerDamaged slots (readerAt (now (words .entry)) r)) n || (miscountedAt (now (words .entry)) n 0 || miscountedAt (now (words .entry)) n 1)) ⌝ }
+{
+    let mut even: u64 = 0;
+    let mut odd: u64 = 0;
+    for r in 0..n {
+        if reader_damaged(words, r as usize, slots) {
+            return true;
+        }
+        even = even + added(words, r as usize, 0);
+        odd = odd + added(words, r as usize, 1);
+    }
+    (indicator_of(words, 0) != even) | (indicator_of(words, 1) != odd)
+}
+
+// Whether publisher p is spoiled.
+fn publisher_damaged(words: &[u64], p: usize, slots: u64) -> bool
+    requires { ⌜ (length (now words) ≡ WORDS) × (p < PUBLISHERS-MAX) ⌝ }
+    ensures { λ b. ⌜ ((readers : ℕ) → b ≡ kind .publisherDamaged readers slots (publisherAt (now (words .entry)) p)) ⌝ }
+{
+    let place = publisher_place(words, p);
+    if place == 0 {
+        return false;
+    }
+    let y = publisher_at(words, p);
+    if y.held >= slots {
+        return true;
+    }
+    if place < 35 {
+        return false;
+    }
+    if place > 38 {
+        return true;
+    }
+    let walk = y.walk;
+    if (walk.mark == 0) | (walk.mark > LAST) {
+        return true;
+    }
+    walk.waits > walk.looks
+}
+
+// Whether one of the first n publishers is spoiled.
+fn publishers_damaged(words: &[u64], n: u64, slots: u64) -> bool
+    requires { ⌜ (length (now words) ≡ WORDS) × (n ≤ PUBLISHERS-MAX) ⌝ }
+    ensures { λ b. ⌜ ((readers : ℕ) → b ≡ anyBelow (λ p. kind .publisherDamaged readers slots (publisherAt (now (words .entry)) p)) n) ⌝ }
+{
+    for p in 0..n {
+        if publisher_damaged(words, p as usize, slots) {
+            return true;
+        }
+    }
+    false
+}
+
+// Whether the head spoils a store with these words and so many entries.
+pub fn head_is_damaged(words: &[u64], entries: usize) -> bool
+    ensures { λ b. ⌜ ((es : List ℤ) → length es ≡ entries → b ≡ anyTrue (headRows kind (state (now (words .entry)) es))) ⌝ }
+{
+    head_damaged(words, entries, KIND_OLD, LAST)
+}
+
+// Whether the readers or the indicators spoil it.
+pub fn readers_are_damaged(words: &[u64]) -> bool
+    ensures { λ b. ⌜ ((es : List ℤ) → b ≡ (readersTest kind (state (now (words .entry)) es) || rules .further (state (now (words .entry)) es))) ⌝ }
+{
+    if words.len() != WORDS {
+        return true;
+    }
+    let readers = readers_of(words);
+    if (readers < 1) | (readers > READERS_MAX as u64) {
+        return true;
+    }
+    readers_damaged(words, readers, slots_of(words))
+}
+
+// Whether the publishers spoil it.
+pub fn publishers_are_damaged(words: &[u64]) -> bool
+    ensures { λ b. ⌜ ((es : List ℤ) → b ≡ publishersTest kind (state (now (words .entry)) es)) ⌝ }
+{
+    if words.len() != WORDS {
+        return true;
+    }
+    let publishers = publishers_of(words);
+    if (publishers < 1) | (publishers > PUBLISHERS_MAX as u64) {
+        return true;
+    }
+    publishers_damaged(words, publishers, slots_of(words))
+}

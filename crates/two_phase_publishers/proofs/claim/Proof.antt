@@ -1,0 +1,64 @@
+-- `claim` meets its contract: a damaged store is refused; else the shared claim is the step. Assumes nothing.
+use borrow.Author.Needs.{needs}
+use mathlib.Core.Path.{_≡_, refl, sym, _∙_}
+use mathlib.Core.Bool.{true, false}
+use mathlib.Core.Logic.{⊎-elim}
+use Rattle.statement.specs.Machine.{state}
+use Rattle.publication_law.specs.Rules.{damaged}
+use Rattle.publication_law.specs.Calls.{step-damaged, step-undamaged, damaged-head, damaged-publishers}
+use Rattle.two_phase_law.specs.Steps.{rules}
+use Rattle.two_phase_law.specs.Calls.{scan-damaged, scan-undamaged, sound-of}
+use Rattle.calls.specs.declared.Call.the-variants.{Claim}
+use Rattle.two_phase_publishers.proofs.claim.Statement.{statement}
+use Rattle.two_phase_publishers.proofs.claim.Tie as tie
+use Rattle.two_phase_publishers.proofs.claim.Reads as reads
+use Rattle.two_phase_publishers.proofs.claim.Lts as lts
+use Rattle.publication.proofs.claim_slot.Reads as claim-slot-reads
+use Rattle.two_phase_damage.proofs.head_is_damaged.Reads as head-is-damaged-reads
+use Rattle.two_phase_damage.proofs.publishers_are_damaged.Reads as publishers-are-damaged-reads
+use Rattle.two_phase_damage.proofs.readers_are_damaged.Reads as readers-are-damaged-reads
+
+clean : (c : tie.Else3) → damaged rules (state (c .before .before .before .before .before .before .before .before .before .before .args .words .now) (c .before .before .before .before .before .before .before .before .before .before .args .entries .now)) ≡ false
+clean c = scan-undamaged (state (c .before .before .before .before .before .before .before .before .before .before .args .words .now) (c .before .before .before .before .before .before .before .before .before .before .args .entries .now)) (sym (c .before .before .before .before .before .before .before .head-is-damaged .ensures (c .before .before .before .before .before .before .before .before .before .before .args .entries .now) refl) ∙ c .before .before .before .before .before .before .if1 .left) (sym (c .before .before .before .before .readers-are-damaged .ensures (c .before .before .before .before .before .before .before .before .before .before .args .entries .now)) ∙ c .before .before .before .if2 .left) (sym (c .before .publishers-are-damaged .ensures (c .before .before .before .before .before .before .before .before .before .before .args .entries .now)) ∙ c .if3 .left)
+
+spoiled : (c : tie.Joined1) → damaged rules (state (c .before .before .before .before .args .words .now) (c .before .before .before .before .args .entries .now)) ≡ true
+spoiled c = ⊎-elim (λ t. damaged-head rules (state (c .before .before .before .before .args .words .now) (c .before .before .before .before .args .entries .now)) (sym (c .before .head-is-damaged .ensures (c .before .before .before .before .args .entries .now) refl) ∙ t .taken))
+    (⊎-elim (λ a. scan-damaged (state (c .before .before .before .before .args .words .now) (c .before .before .before .before .args .entries .now)) (sym (a .2 .ensures (c .before .before .before .before .args .entries .now)) ∙ a .3 .taken)) (λ a. damaged-publishers rules (state (c .before .before .before .before .args .words .now) (c .before .before .before .before .args .entries .now)) (sym (a .5 .ensures (c .before .before .before .before .args .entries .now)) ∙ a .6 .taken)))
+    (c .if1 .came)
+
+head-is-damaged-requires : tie.Need-head-is-damaged-requires
+head-is-damaged-requires c κs = search needs
+
+readers-are-damaged-requires : tie.Need-readers-are-damaged-requires
+readers-are-damaged-requires c κs = search needs
+
+publishers-are-damaged-requires : tie.Need-publishers-are-damaged-requires
+publishers-are-damaged-requires c κs = search needs
+
+same-length : tie.Need-same-length
+same-length c = search needs
+
+returns : tie.Need-returns
+returns c = step-damaged rules _ (Claim _ _) (spoiled c)
+
+claim-slot-requires : tie.Need-claim-slot-requires
+claim-slot-requires c κs = sound-of _ (clean (c .before))
+
+same-length-2 : tie.Need-same-length-2
+same-length-2 c = search needs
+
+returns-2 : tie.Need-returns-2
+returns-2 c = c .before .before .claim-slot .ensures (c .before .before .before .before .before .before .before .before .before .before .before .before .before .before .args .entries .now) ∙ step-undamaged rules _ (Claim _ _) (clean (c .before .before .before .before))
+
+pub claim-spec : {M : Type 1} → statement M
+claim-spec =
+    tie.close
+    (tie.spec
+    head-is-damaged-requires
+    readers-are-damaged-requires
+    publishers-are-damaged-requires
+    same-length
+    returns
+    claim-slot-requires
+    same-length-2
+    returns-2)

@@ -1,0 +1,69 @@
+-- `write` meets its contract: a damaged store is refused; else the shared write is the step. Assumes nothing.
+use borrow.Author.Needs.{needs}
+use mir.ValLaws.{toZ-ofZ}
+use mathlib.Core.Path.{_≡_, refl, sym, _∙_}
+use mathlib.Core.Bool.{true, false}
+use mathlib.Core.Logic.{⊎-elim}
+use Rattle.statement.specs.Machine.{state}
+use Rattle.publication_law.specs.Rules.{damaged}
+use Rattle.publication_law.specs.Calls.{step-damaged, step-undamaged, damaged-head, damaged-publishers}
+use Rattle.two_phase_law.specs.Steps.{rules}
+use Rattle.two_phase_law.specs.Calls.{scan-damaged, scan-undamaged, sound-of, entries-of}
+use Rattle.calls.specs.declared.Call.the-variants.{Write}
+use Rattle.two_phase_publishers.proofs.write.Statement.{statement}
+use Rattle.two_phase_publishers.proofs.write.Tie as tie
+use Rattle.two_phase_publishers.proofs.write.Reads as reads
+use Rattle.two_phase_publishers.proofs.write.Lts as lts
+use Rattle.publication.proofs.write_entry.Reads as write-entry-reads
+use Rattle.two_phase_damage.proofs.head_is_damaged.Reads as head-is-damaged-reads
+use Rattle.two_phase_damage.proofs.publishers_are_damaged.Reads as publishers-are-damaged-reads
+use Rattle.two_phase_damage.proofs.readers_are_damaged.Reads as readers-are-damaged-reads
+
+clean : (c : tie.Else3) → damaged rules (state (c .before .before .before .before .before .before .before .before .before .before .args .words .now) (c .before .before .before .before .before .before .before .before .before .before .args .entries .now)) ≡ false
+clean c = scan-undamaged (state (c .before .before .before .before .before .before .before .before .before .before .args .words .now) (c .before .before .before .before .before .before .before .before .before .before .args .entries .now)) (sym (c .before .before .before .before .before .before .before .head-is-damaged .ensures (c .before .before .before .before .before .before .before .before .before .before .args .entries .now) refl) ∙ c .before .before .before .before .before .before .if1 .left) (sym (c .before .before .before .before .readers-are-damaged .ensures (c .before .before .before .before .before .before .before .before .before .before .args .entries .now)) ∙ c .before .before .before .if2 .left) (sym (c .before .publishers-are-damaged .ensures (c .before .before .before .before .before .before .before .before .before .before .args .entries .now)) ∙ c .if3 .left)
+
+spoiled : (c : tie.Joined1) → damaged rules (state (c .before .before .before .before .args .words .now) (c .before .before .before .before .args .entries .now)) ≡ true
+spoiled c = ⊎-elim (λ t. damaged-head rules (state (c .before .before .before .before .args .words .now) (c .before .before .before .before .args .entries .now)) (sym (c .before .head-is-damaged .ensures (c .before .before .before .before .args .entries .now) refl) ∙ t .taken))
+    (⊎-elim (λ a. scan-damaged (state (c .before .before .before .before .args .words .now) (c .before .before .before .before .args .entries .now)) (sym (a .2 .ensures (c .before .before .before .before .args .entries .now)) ∙ a .3 .taken)) (λ a. damaged-publishers rules (state (c .before .before .before .before .args .words .now) (c .before .before .before .before .args .entries .now)) (sym (a .5 .ensures (c .before .before .before .before .args .entries .now)) ∙ a .6 .taken)))
+    (c .if1 .came)
+
+head-is-damaged-requires : tie.Need-head-is-damaged-requires
+head-is-damaged-requires c κs = search needs
+
+readers-are-damaged-requires : tie.Need-readers-are-damaged-requires
+readers-are-damaged-requires c κs = search needs
+
+publishers-are-damaged-requires : tie.Need-publishers-are-damaged-requires
+publishers-are-damaged-requires c κs = search needs
+
+same-length : tie.Need-same-length
+same-length c = search needs
+
+returns : tie.Need-returns
+returns c = step-damaged rules _ (Write _ _) (spoiled c)
+
+write-entry-requires : tie.Need-write-entry-requires
+write-entry-requires c κs = (sound-of _ (clean (c .before .before)), entries-of _ (clean (c .before .before)))
+
+same-length-2 : tie.Need-same-length-2
+same-length-2 c = search needs
+
+same-length-3 : tie.Need-same-length-3
+same-length-3 c = search needs
+
+returns-2 : tie.Need-returns-2
+returns-2 c = simp (toZ-ofZ _ _ (c .before .before .before .before .before .before .before .before .before .before .before .before .before .before .before .before .fits .v)) at (c .before .before .before .write-entry .ensures) ∙ step-undamaged rules _ (Write _ _) (clean (c .before .before .before .before .before .before))
+
+pub write-spec : {M : Type 1} → statement M
+write-spec =
+    tie.close
+    (tie.spec
+    head-is-damaged-requires
+    readers-are-damaged-requires
+    publishers-are-damaged-requires
+    same-length
+    returns
+    write-entry-requires
+    same-length-2
+    same-length-3
+    returns-2)

@@ -1,0 +1,108 @@
+-- `leave` meets its contract: the refusals are rows of the step; an accepted LEAVE is `leave-is`. The reader itself is counted, so there is one to take. Assumes nothing.
+use borrow.Author.Needs.{needs}
+use native.Mathlib.Omega.{arith}
+use mathlib.Core.Path.{_≡_, refl, sym, _∙_}
+use mathlib.Core.Bool.{true, false}
+use mathlib.Core.Logic.{⊎-elim}
+use borrow.Author.Tests.{le-leb, lt-leb, lt-ltb}
+use Rattle.statement.specs.Machine.{state}
+use Rattle.publication_law.specs.Rules.{damaged, step}
+use Rattle.publication_law.specs.Calls.{step-damaged, damaged-head, damaged-publishers}
+use Rattle.two_phase_law.specs.Steps.{rules}
+use Rattle.two_phase_law.specs.Calls.{scan-damaged, scan-undamaged, sound-of, indicator-some, leave-is}
+use Rattle.calls.specs.declared.Call.the-variants.{Leave}
+use Rattle.two_phase_readers.proofs.leave.Statement.{statement}
+use Rattle.two_phase_readers.proofs.leave.Tie as tie
+use Rattle.two_phase_readers.proofs.leave.Reads as reads
+use Rattle.two_phase_readers.proofs.leave.Lts as lts
+use Rattle.layout.proofs.indicator_of.Reads as indicator-of-reads
+use Rattle.layout.proofs.put_indicator.Reads as put-indicator-reads
+use Rattle.layout.proofs.put_reader.Reads as put-reader-reads
+use Rattle.layout.proofs.reader_at.Reads as reader-at-reads
+use Rattle.layout.proofs.readers_of.Reads as readers-of-reads
+use Rattle.two_phase_damage.proofs.head_is_damaged.Reads as head-is-damaged-reads
+use Rattle.two_phase_damage.proofs.publishers_are_damaged.Reads as publishers-are-damaged-reads
+use Rattle.two_phase_damage.proofs.readers_are_damaged.Reads as readers-are-damaged-reads
+
+clean : (c : tie.Else3) → damaged rules (state (c .before .before .before .before .before .before .before .before .before .before .args .words .now) (c .before .before .before .before .before .before .before .before .before .before .args .entries .now)) ≡ false
+clean c = scan-undamaged (state (c .before .before .before .before .before .before .before .before .before .before .args .words .now) (c .before .before .before .before .before .before .before .before .before .before .args .entries .now)) (sym (c .before .before .before .before .before .before .before .head-is-damaged .ensures (c .before .before .before .before .before .before .before .before .before .before .args .entries .now) refl) ∙ c .before .before .before .before .before .before .if1 .left) (sym (c .before .before .before .before .readers-are-damaged .ensures (c .before .before .before .before .before .before .before .before .before .before .args .entries .now)) ∙ c .before .before .before .if2 .left) (sym (c .before .publishers-are-damaged .ensures (c .before .before .before .before .before .before .before .before .before .before .args .entries .now)) ∙ c .if3 .left)
+
+spoiled : (c : tie.Joined1) → damaged rules (state (c .before .before .before .before .args .words .now) (c .before .before .before .before .args .entries .now)) ≡ true
+spoiled c = ⊎-elim (λ t. damaged-head rules (state (c .before .before .before .before .args .words .now) (c .before .before .before .before .args .entries .now)) (sym (c .before .head-is-damaged .ensures (c .before .before .before .before .args .entries .now) refl) ∙ t .taken))
+    (⊎-elim (λ a. scan-damaged (state (c .before .before .before .before .args .words .now) (c .before .before .before .before .args .entries .now)) (sym (a .2 .ensures (c .before .before .before .before .args .entries .now)) ∙ a .3 .taken)) (λ a. damaged-publishers rules (state (c .before .before .before .before .args .words .now) (c .before .before .before .before .args .entries .now)) (sym (a .5 .ensures (c .before .before .before .before .args .entries .now)) ∙ a .6 .taken)))
+    (c .if1 .came)
+
+head-is-damaged-requires : tie.Need-head-is-damaged-requires
+head-is-damaged-requires c κs = search needs
+
+readers-are-damaged-requires : tie.Need-readers-are-damaged-requires
+readers-are-damaged-requires c κs = search needs
+
+publishers-are-damaged-requires : tie.Need-publishers-are-damaged-requires
+publishers-are-damaged-requires c κs = search needs
+
+same-length : tie.Need-same-length
+same-length c = search needs
+
+returns : tie.Need-returns
+returns c = step-damaged rules _ (Leave _) (spoiled c)
+
+readers-of-requires : tie.Need-readers-of-requires
+readers-of-requires c κs = sound-of _ (clean (c .before)) .long
+
+same-length-2 : tie.Need-same-length-2
+same-length-2 c = search needs
+
+returns-2 : tie.Need-returns-2
+unfolding step
+returns-2 c = rw (clean (c .before .before .before), le-leb _ _ (rw (c .before .readers-of .ensures) at (c .if4 .taken))) refl
+
+reader-at-requires : tie.Need-reader-at-requires
+reader-at-requires c κs = omega (arith, sound-of _ (clean (c .before .before .before .before)), c .before .before .readers-of .ensures)
+
+same-length-3 : tie.Need-same-length-3
+same-length-3 c = search needs
+
+returns-3 : tie.Need-returns-3
+unfolding step
+returns-3 c = rw (clean (c .before .before .before .before .before .before .before), lt-leb _ _ (rw (c .before .before .before .before .before .readers-of .ensures) at (c .before .before .before .before .if4 .left)), lt-ltb _ 4 (rw (c .before .before .reader-at .ensures) at (c .if5 .taken))) refl
+
+indicator-of-requires : tie.Need-indicator-of-requires
+indicator-of-requires c κs = (sound-of _ (clean (c .before .before .before .before .before .before .before .before .before)) .long, omega arith)
+
+put-reader-requires : tie.Need-put-reader-requires
+put-reader-requires c κs = omega (arith, sound-of _ (clean (c .before .before .before .before .before .before .before .before .before .before .before)), c .before .before .before .before .before .before .before .before .before .readers-of .ensures)
+
+sub-put-indicator : tie.Need-sub-put-indicator
+sub-put-indicator c = rw (c .before .before .before .before .before .indicator-of .ensures, c .before .before .before .before .before .before .before .before .before .before .reader-at .ensures) (indicator-some (state (c .before .before .before .before .before .before .before .before .before .before .before .before .before .before .before .before .before .before .before .before .before .before .before .before .before .args .words .now) (c .before .before .before .before .before .before .before .before .before .before .before .before .before .before .before .before .before .before .before .before .before .before .before .before .before .args .entries .now)) (clean (c .before .before .before .before .before .before .before .before .before .before .before .before .before .before .before)) (c .before .before .before .before .before .before .before .before .before .before .before .before .before .before .before .before .before .before .before .before .before .before .before .before .before .args .r) (rw (c .before .before .before .before .before .before .before .before .before .before .before .before .before .readers-of .ensures) at (c .before .before .before .before .before .before .before .before .before .before .before .before .if4 .left)) (rw (c .before .before .before .before .before .before .before .before .before .before .reader-at .ensures) at (c .before .before .before .before .before .before .before .before .if5 .left)))
+
+put-indicator-requires : tie.Need-put-indicator-requires
+put-indicator-requires c κs = omega (arith, sound-of _ (clean (c .before .before .before .before .before .before .before .before .before .before .before .before .before .before .before)))
+
+same-length-4 : tie.Need-same-length-4
+same-length-4 c = search needs
+
+returns-4 : tie.Need-returns-4
+returns-4 c = leave-is _ (clean (c .before .before .before .before .before .before .before .before .before .before .before .before .before .before .before .before .before .before)) _ _ _ _ _ (rw (c .before .before .before .before .before .before .before .before .before .before .before .before .before .before .before .before .readers-of .ensures) at (c .before .before .before .before .before .before .before .before .before .before .before .before .before .before .before .if4 .left)) (c .before .before .before .before .before .before .before .before .before .before .before .before .before .reader-at .ensures) (c .before .before .before .before .before .before .before .before .before .before .before .if5 .left) refl (c .before .before .before .before .before .before .before .before .indicator-of .ensures) (rw (c .before .before .before .before .before .before .put-reader .ensures) at (c .before .before .put-indicator .ensures))
+
+pub leave-spec : {M : Type 1} → statement M
+leave-spec =
+    tie.close
+    (tie.spec
+    head-is-damaged-requires
+    readers-are-damaged-requires
+    publishers-are-damaged-requires
+    same-length
+    returns
+    readers-of-requires
+    same-length-2
+    returns-2
+    reader-at-requires
+    same-length-3
+    returns-3
+    indicator-of-requires
+    put-reader-requires
+    sub-put-indicator
+    put-indicator-requires
+    same-length-4
+    returns-4)

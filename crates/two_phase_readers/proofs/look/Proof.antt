@@ -1,0 +1,56 @@
+-- `look` meets its contract: a damaged store is refused; else the shared look is the step. Assumes nothing.
+use borrow.Author.Needs.{needs}
+use mathlib.Core.Path.{_≡_, refl, sym, _∙_}
+use mathlib.Core.Bool.{true, false}
+use mathlib.Core.Logic.{⊎-elim}
+use Rattle.statement.specs.Machine.{state}
+use Rattle.publication_law.specs.Rules.{damaged}
+use Rattle.publication_law.specs.Calls.{step-damaged, step-undamaged, damaged-head, damaged-publishers}
+use Rattle.two_phase_law.specs.Steps.{rules}
+use Rattle.two_phase_law.specs.Calls.{scan-damaged, scan-undamaged, sound-of, entries-of}
+use Rattle.calls.specs.declared.Call.the-variants.{Look}
+use Rattle.two_phase_readers.proofs.look.Statement.{statement}
+use Rattle.two_phase_readers.proofs.look.Tie as tie
+use Rattle.two_phase_readers.proofs.look.Reads as reads
+use Rattle.two_phase_readers.proofs.look.Lts as lts
+use Rattle.publication.proofs.look_up.Reads as look-up-reads
+use Rattle.two_phase_damage.proofs.head_is_damaged.Reads as head-is-damaged-reads
+use Rattle.two_phase_damage.proofs.publishers_are_damaged.Reads as publishers-are-damaged-reads
+use Rattle.two_phase_damage.proofs.readers_are_damaged.Reads as readers-are-damaged-reads
+
+clean : (c : tie.Else3) → damaged rules (state (c .before .before .before .before .before .before .before .args .words .now) (c .before .before .before .before .before .before .before .args .entries .now)) ≡ false
+clean c = scan-undamaged (state (c .before .before .before .before .before .before .before .args .words .now) (c .before .before .before .before .before .before .before .args .entries .now)) (sym (c .before .before .before .before .before .head-is-damaged .ensures (c .before .before .before .before .before .before .before .args .entries .now) refl) ∙ c .before .before .before .before .if1 .left) (sym (c .before .before .before .readers-are-damaged .ensures (c .before .before .before .before .before .before .before .args .entries .now)) ∙ c .before .before .if2 .left) (sym (c .before .publishers-are-damaged .ensures (c .before .before .before .before .before .before .before .args .entries .now)) ∙ c .if3 .left)
+
+spoiled : (c : tie.Joined1) → damaged rules (state (c .before .before .before .args .words .now) (c .before .before .before .args .entries .now)) ≡ true
+spoiled c = ⊎-elim (λ t. damaged-head rules (state (c .before .before .before .args .words .now) (c .before .before .before .args .entries .now)) (sym (c .before .head-is-damaged .ensures (c .before .before .before .args .entries .now) refl) ∙ t .taken))
+    (⊎-elim (λ a. scan-damaged (state (c .before .before .before .args .words .now) (c .before .before .before .args .entries .now)) (sym (a .1 .ensures (c .before .before .before .args .entries .now)) ∙ a .2 .taken)) (λ a. damaged-publishers rules (state (c .before .before .before .args .words .now) (c .before .before .before .args .entries .now)) (sym (a .3 .ensures (c .before .before .before .args .entries .now)) ∙ a .4 .taken)))
+    (c .if1 .came)
+
+head-is-damaged-requires : tie.Need-head-is-damaged-requires
+head-is-damaged-requires c κs = search needs
+
+readers-are-damaged-requires : tie.Need-readers-are-damaged-requires
+readers-are-damaged-requires c κs = search needs
+
+publishers-are-damaged-requires : tie.Need-publishers-are-damaged-requires
+publishers-are-damaged-requires c κs = search needs
+
+returns : tie.Need-returns
+returns c = step-damaged rules _ (Look _ _) (spoiled c)
+
+look-up-requires : tie.Need-look-up-requires
+look-up-requires c κs = (sound-of _ (clean c), entries-of _ (clean c))
+
+returns-2 : tie.Need-returns-2
+returns-2 c = c .look-up .ensures ∙ step-undamaged rules _ (Look _ _) (clean (c .before))
+
+pub look-spec : {M : Type 1} → statement M
+look-spec =
+    tie.close
+    (tie.spec
+    head-is-damaged-requires
+    readers-are-damaged-requires
+    publishers-are-damaged-requires
+    returns
+    look-up-requires
+    returns-2)
