@@ -1,5 +1,6 @@
 /* Plays one list of calls, drawn from a seed and mostly in turn, on the proved store and on the C baseline side by side,
-   and compares every reply, the words and the entries. run counts the instructions of each call under callgrind. */
+   and compares every reply, the words and the entries. run counts the instructions of each call under callgrind.
+   Compile with -DKIND=new or -DKIND=old. */
 #include "baseline.h"
 
 #include <stdio.h>
@@ -10,18 +11,6 @@ enum { WORDS = 425, TABLE = 32, ENTRIES_MAX = 1024 };
 
 /* docs/LAYOUT.md: where the place of the first reader and of the first publisher stands, and the words of a record. */
 enum { FIRST_READER = 9, READER_WORDS = 5, FIRST_PUBLISHER = 329, PUBLISHER_WORDS = 6 };
-
-struct reply rv_make(uint64_t *words, size_t words_len, int16_t *entries, size_t entries_len, uint16_t readers, uint16_t publishers, uint16_t slots, uint64_t version);
-struct reply rv_enter(uint64_t *words, size_t words_len, const int16_t *entries, size_t entries_len, uint16_t r);
-struct reply rv_look(const uint64_t *words, size_t words_len, const int16_t *entries, size_t entries_len, uint16_t r, uint16_t k);
-struct reply rv_leave(uint64_t *words, size_t words_len, const int16_t *entries, size_t entries_len, uint16_t r);
-struct reply rv_claim(uint64_t *words, size_t words_len, const int16_t *entries, size_t entries_len, uint16_t p, uint16_t s);
-struct reply rv_write(uint64_t *words, size_t words_len, int16_t *entries, size_t entries_len, uint16_t p, int16_t v);
-struct reply rv_swap(uint64_t *words, size_t words_len, const int16_t *entries, size_t entries_len, uint16_t p);
-struct reply rv_sync(uint64_t *words, size_t words_len, const int16_t *entries, size_t entries_len, uint16_t p);
-struct reply rv_raise(uint64_t *words, size_t words_len, const int16_t *entries, size_t entries_len, uint16_t p);
-struct reply rv_walk(uint64_t *words, size_t words_len, const int16_t *entries, size_t entries_len, uint16_t p, uint16_t b);
-struct reply rv_release(uint64_t *words, size_t words_len, const int16_t *entries, size_t entries_len, uint16_t p);
 
 static uint64_t words[2][WORDS];
 static int16_t entries[2][ENTRIES_MAX];
@@ -45,7 +34,9 @@ static void compared(const char *call, struct reply ours, struct reply theirs)
     }
 }
 
-#define BOTH(call, ...) compared(#call, rv_##call(words[0], WORDS, entries[0], entries_len, __VA_ARGS__), c_##call(words[1], WORDS, entries[1], entries_len, __VA_ARGS__))
+#define NAME(side, kind, call) side##_##kind##_##call
+#define OF(side, kind, call) NAME(side, kind, call)
+#define BOTH(call, ...) compared(#call, OF(rv, KIND, call)(words[0], WORDS, entries[0], entries_len, __VA_ARGS__), OF(c, KIND, call)(words[1], WORDS, entries[1], entries_len, __VA_ARGS__))
 
 /* A reader goes on: it enters, looks a few times, and leaves. */
 static void reader_goes_on(uint16_t r)
@@ -63,7 +54,7 @@ static void reader_goes_on(uint16_t r)
     }
 }
 
-/* A publisher goes on: it claims a slot at random, writes, swaps, synchronises, raises, walks by small slices and releases. */
+/* A publisher goes on: it claims a slot at random, writes, swaps, synchronises, raises, walks by small slices and releases. The old store walks before the raise too. */
 static void publisher_goes_on(uint16_t p, uint16_t slots)
 {
     const uint16_t slot = (uint16_t)below(slots), b = (uint16_t)below(9);
@@ -79,6 +70,12 @@ static void publisher_goes_on(uint16_t p, uint16_t slots)
         BOTH(sync, p);
         break;
     case 35:
+        if (words[1][0] == 2)
+            BOTH(walk, p, b);
+        else
+            BOTH(raise, p);
+        break;
+    case 36:
         BOTH(raise, p);
         break;
     case 37:

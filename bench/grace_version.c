@@ -1,41 +1,11 @@
 /* The new store, GraceVersion, by hand in C, written to be fast: the damage test leaves at the first fault, reads only the records in use,
    and a record's further words only at the places that need them. Nothing here is proved. */
-#include "baseline.h"
+#include "store.h"
 
 #include <stdbool.h>
 #include <string.h>
 
-enum { WORDS = 425, TABLE = 32, READERS_MAX = 64, PUBLISHERS_MAX = 16, SLOTS_MAX = 32 };
-
-#define NOT_READING UINT64_MAX
 #define LAST (UINT64_MAX - 1)
-
-struct reader {
-    uint64_t place, first, second, published, picked;
-};
-
-struct publisher {
-    uint64_t place, held, mark, next, looks, waits;
-};
-
-/* The words of a store; every field is one word, so that it lies over them without a gap. */
-struct store {
-    uint64_t kind, readers, publishers, slots, current, version, releases, indicators[2];
-    struct reader reader[READERS_MAX];
-    struct publisher publisher[PUBLISHERS_MAX];
-};
-
-_Static_assert(sizeof(struct store) == WORDS * sizeof(uint64_t), "one word a number");
-
-static struct reply refused(uint64_t n)
-{
-    return (struct reply){ n, 0, 0 };
-}
-
-static struct reply accepted(uint64_t code, uint64_t first, uint64_t second)
-{
-    return (struct reply){ code, first, second };
-}
 
 static inline bool damaged(const struct store *s, size_t words_len, size_t entries_len)
 {
@@ -79,7 +49,7 @@ static inline bool damaged(const struct store *s, size_t words_len, size_t entri
     return false;
 }
 
-struct reply c_make(uint64_t *words, size_t words_len, int16_t *entries, size_t entries_len, uint16_t readers, uint16_t publishers, uint16_t slots, uint64_t version)
+struct reply c_new_make(uint64_t *words, size_t words_len, int16_t *entries, size_t entries_len, uint16_t readers, uint16_t publishers, uint16_t slots, uint64_t version)
 {
     struct store *s = (struct store *)words;
     if (words_len != WORDS)
@@ -108,7 +78,7 @@ struct reply c_make(uint64_t *words, size_t words_len, int16_t *entries, size_t 
     return accepted(100, 0, 0);
 }
 
-struct reply c_enter(uint64_t *words, size_t words_len, const int16_t *entries, size_t entries_len, uint16_t r)
+struct reply c_new_enter(uint64_t *words, size_t words_len, const int16_t *entries, size_t entries_len, uint16_t r)
 {
     struct store *s = (struct store *)words;
     (void)entries;
@@ -140,7 +110,7 @@ struct reply c_enter(uint64_t *words, size_t words_len, const int16_t *entries, 
     return accepted(101, ++x->place, 0);
 }
 
-struct reply c_look(const uint64_t *words, size_t words_len, const int16_t *entries, size_t entries_len, uint16_t r, uint16_t k)
+struct reply c_new_look(const uint64_t *words, size_t words_len, const int16_t *entries, size_t entries_len, uint16_t r, uint16_t k)
 {
     const struct store *s = (const struct store *)words;
     if (damaged(s, words_len, entries_len))
@@ -155,7 +125,7 @@ struct reply c_look(const uint64_t *words, size_t words_len, const int16_t *entr
     return accepted(102, (uint64_t)(int64_t)entries[x->picked * TABLE + k], 0);
 }
 
-struct reply c_leave(uint64_t *words, size_t words_len, const int16_t *entries, size_t entries_len, uint16_t r)
+struct reply c_new_leave(uint64_t *words, size_t words_len, const int16_t *entries, size_t entries_len, uint16_t r)
 {
     struct store *s = (struct store *)words;
     (void)entries;
@@ -171,7 +141,7 @@ struct reply c_leave(uint64_t *words, size_t words_len, const int16_t *entries, 
     return accepted(103, 0, 0);
 }
 
-struct reply c_claim(uint64_t *words, size_t words_len, const int16_t *entries, size_t entries_len, uint16_t p, uint16_t x)
+struct reply c_new_claim(uint64_t *words, size_t words_len, const int16_t *entries, size_t entries_len, uint16_t p, uint16_t x)
 {
     struct store *s = (struct store *)words;
     (void)entries;
@@ -193,7 +163,7 @@ struct reply c_claim(uint64_t *words, size_t words_len, const int16_t *entries, 
     return accepted(104, x, 0);
 }
 
-struct reply c_write(uint64_t *words, size_t words_len, int16_t *entries, size_t entries_len, uint16_t p, int16_t v)
+struct reply c_new_write(uint64_t *words, size_t words_len, int16_t *entries, size_t entries_len, uint16_t p, int16_t v)
 {
     struct store *s = (struct store *)words;
     if (damaged(s, words_len, entries_len))
@@ -211,7 +181,7 @@ struct reply c_write(uint64_t *words, size_t words_len, int16_t *entries, size_t
     return accepted(105, place, 0);
 }
 
-struct reply c_swap(uint64_t *words, size_t words_len, const int16_t *entries, size_t entries_len, uint16_t p)
+struct reply c_new_swap(uint64_t *words, size_t words_len, const int16_t *entries, size_t entries_len, uint16_t p)
 {
     struct store *s = (struct store *)words;
     (void)entries;
@@ -229,7 +199,7 @@ struct reply c_swap(uint64_t *words, size_t words_len, const int16_t *entries, s
     return accepted(106, former, 0);
 }
 
-struct reply c_sync(uint64_t *words, size_t words_len, const int16_t *entries, size_t entries_len, uint16_t p)
+struct reply c_new_sync(uint64_t *words, size_t words_len, const int16_t *entries, size_t entries_len, uint16_t p)
 {
     struct store *s = (struct store *)words;
     (void)entries;
@@ -248,7 +218,7 @@ struct reply c_sync(uint64_t *words, size_t words_len, const int16_t *entries, s
     return accepted(107, y->mark, 0);
 }
 
-struct reply c_raise(uint64_t *words, size_t words_len, const int16_t *entries, size_t entries_len, uint16_t p)
+struct reply c_new_raise(uint64_t *words, size_t words_len, const int16_t *entries, size_t entries_len, uint16_t p)
 {
     struct store *s = (struct store *)words;
     (void)entries;
@@ -266,7 +236,7 @@ struct reply c_raise(uint64_t *words, size_t words_len, const int16_t *entries, 
     return accepted(108, 0, 0);
 }
 
-struct reply c_walk(uint64_t *words, size_t words_len, const int16_t *entries, size_t entries_len, uint16_t p, uint16_t b)
+struct reply c_new_walk(uint64_t *words, size_t words_len, const int16_t *entries, size_t entries_len, uint16_t p, uint16_t b)
 {
     struct store *s = (struct store *)words;
     (void)entries;
@@ -297,7 +267,7 @@ struct reply c_walk(uint64_t *words, size_t words_len, const int16_t *entries, s
     return accepted(113, y->looks, y->waits);
 }
 
-struct reply c_release(uint64_t *words, size_t words_len, const int16_t *entries, size_t entries_len, uint16_t p)
+struct reply c_new_release(uint64_t *words, size_t words_len, const int16_t *entries, size_t entries_len, uint16_t p)
 {
     struct store *s = (struct store *)words;
     (void)entries;

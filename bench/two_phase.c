@@ -1,0 +1,272 @@
+/* The old store, Two-Phase with one publisher, by hand in C, written to be fast: the damage test leaves at the first fault, reads only the records in use,
+   and a record's further words only at the places that need them. Nothing here is proved. */
+#include "store.h"
+
+#include <stdbool.h>
+#include <string.h>
+
+#define LAST (UINT64_MAX / 2)
+
+static inline bool damaged(const struct store *s, size_t words_len, size_t entries_len)
+{
+    if (words_len != WORDS || s->kind != 2)
+        return true;
+    const uint64_t readers = s->readers, publishers = s->publishers, slots = s->slots;
+    if (readers - 1 >= READERS_MAX || publishers - 1 >= PUBLISHERS_MAX || slots - 2 > SLOTS_MAX - 2)
+        return true;
+    if (entries_len != slots * TABLE || s->current >= slots || s->version > LAST)
+        return true;
+    uint64_t open = 0, odd = 0;
+    for (const struct reader *x = s->reader, *end = x + readers; x != end; x++) {
+        const uint64_t place = x->place;
+        if (place < 2)
+            continue;
+        if (place == 5) {
+            if (x->picked >= slots)
+                return true;
+        } else if (place != 4) {
+            return true;
+        }
+        open++;
+        odd += x->first & 1;
+    }
+    if (s->indicators[0] != open - odd || s->indicators[1] != odd)
+        return true;
+    for (const struct publisher *y = s->publisher, *end = y + publishers; y != end; y++) {
+        const uint64_t place = y->place;
+        if (place == 0)
+            continue;
+        if (y->held >= slots)
+            return true;
+        if (place < 35)
+            continue;
+        if (place > 38 || y->mark - 1 >= LAST || y->waits > y->looks)
+            return true;
+    }
+    return false;
+}
+
+struct reply c_old_make(uint64_t *words, size_t words_len, int16_t *entries, size_t entries_len, uint16_t readers, uint16_t publishers, uint16_t slots, uint64_t version)
+{
+    struct store *s = (struct store *)words;
+    if (words_len != WORDS)
+        return refused(1);
+    if (readers < 1 || readers > READERS_MAX)
+        return refused(2);
+    if (publishers < 1 || publishers > PUBLISHERS_MAX)
+        return refused(3);
+    if (slots < 2 || slots > SLOTS_MAX)
+        return refused(4);
+    if (entries_len != (size_t)slots * TABLE)
+        return refused(5);
+    if (version > LAST)
+        return refused(6);
+    memset(s, 0, sizeof *s);
+    s->kind = 2;
+    s->readers = readers;
+    s->publishers = publishers;
+    s->slots = slots;
+    s->version = version;
+    for (uint16_t i = 0; i < slots; i++)
+        for (int k = 0; k < TABLE; k++)
+            entries[i * TABLE + k] = 9000;
+    return accepted(100, 0, 0);
+}
+
+struct reply c_old_enter(uint64_t *words, size_t words_len, const int16_t *entries, size_t entries_len, uint16_t r)
+{
+    struct store *s = (struct store *)words;
+    (void)entries;
+    if (damaged(s, words_len, entries_len))
+        return refused(1);
+    if (r >= s->readers)
+        return refused(10);
+    struct reader *x = &s->reader[r];
+    switch (x->place) {
+    case 0:
+        x->first = s->version;
+        x->place = 1;
+        return accepted(101, 1, 0);
+    case 1:
+        s->indicators[x->first & 1]++;
+        x->place = 4;
+        return accepted(101, 4, 0);
+    case 4:
+        x->picked = s->current;
+        x->place = 5;
+        return accepted(101, 5, 0);
+    default:
+        return refused(20);
+    }
+}
+
+struct reply c_old_look(const uint64_t *words, size_t words_len, const int16_t *entries, size_t entries_len, uint16_t r, uint16_t k)
+{
+    const struct store *s = (const struct store *)words;
+    if (damaged(s, words_len, entries_len))
+        return refused(1);
+    if (r >= s->readers)
+        return refused(10);
+    if (k >= TABLE)
+        return refused(13);
+    const struct reader *x = &s->reader[r];
+    if (x->place != 5)
+        return refused(20);
+    return accepted(102, (uint64_t)(int64_t)entries[x->picked * TABLE + k], 0);
+}
+
+struct reply c_old_leave(uint64_t *words, size_t words_len, const int16_t *entries, size_t entries_len, uint16_t r)
+{
+    struct store *s = (struct store *)words;
+    (void)entries;
+    if (damaged(s, words_len, entries_len))
+        return refused(1);
+    if (r >= s->readers)
+        return refused(10);
+    struct reader *x = &s->reader[r];
+    if (x->place < 4)
+        return refused(20);
+    x->place = 0;
+    s->indicators[x->first & 1]--;
+    return accepted(103, 0, 0);
+}
+
+struct reply c_old_claim(uint64_t *words, size_t words_len, const int16_t *entries, size_t entries_len, uint16_t p, uint16_t x)
+{
+    struct store *s = (struct store *)words;
+    (void)entries;
+    if (damaged(s, words_len, entries_len))
+        return refused(1);
+    if (p >= s->publishers)
+        return refused(11);
+    if (x >= s->slots)
+        return refused(12);
+    if (s->publisher[p].place != 0)
+        return refused(21);
+    for (uint16_t q = 0; q < s->publishers; q++)
+        if (s->publisher[q].place != 0)
+            return refused(31);
+    if (s->current == x)
+        return refused(30);
+    s->publisher[p].place = 1;
+    s->publisher[p].held = x;
+    return accepted(104, x, 0);
+}
+
+struct reply c_old_write(uint64_t *words, size_t words_len, int16_t *entries, size_t entries_len, uint16_t p, int16_t v)
+{
+    struct store *s = (struct store *)words;
+    if (damaged(s, words_len, entries_len))
+        return refused(1);
+    if (p >= s->publishers)
+        return refused(11);
+    if (v < -500 || v > 9500)
+        return refused(14);
+    struct publisher *y = &s->publisher[p];
+    const uint64_t place = y->place;
+    if (place - 1 >= TABLE)
+        return refused(21);
+    entries[y->held * TABLE + place - 1] = v;
+    y->place = place + 1;
+    return accepted(105, place, 0);
+}
+
+struct reply c_old_swap(uint64_t *words, size_t words_len, const int16_t *entries, size_t entries_len, uint16_t p)
+{
+    struct store *s = (struct store *)words;
+    (void)entries;
+    if (damaged(s, words_len, entries_len))
+        return refused(1);
+    if (p >= s->publishers)
+        return refused(11);
+    struct publisher *y = &s->publisher[p];
+    if (y->place != 33)
+        return refused(21);
+    const uint64_t former = s->current;
+    s->current = y->held;
+    y->held = former;
+    y->place = 34;
+    return accepted(106, former, 0);
+}
+
+struct reply c_old_sync(uint64_t *words, size_t words_len, const int16_t *entries, size_t entries_len, uint16_t p)
+{
+    struct store *s = (struct store *)words;
+    (void)entries;
+    if (damaged(s, words_len, entries_len))
+        return refused(1);
+    if (p >= s->publishers)
+        return refused(11);
+    struct publisher *y = &s->publisher[p];
+    if (y->place != 34)
+        return refused(21);
+    if (s->version == LAST)
+        return refused(32);
+    y->place = 35;
+    y->mark = s->version + 1;
+    y->next = y->looks = y->waits = 0;
+    return accepted(107, y->mark, 0);
+}
+
+struct reply c_old_raise(uint64_t *words, size_t words_len, const int16_t *entries, size_t entries_len, uint16_t p)
+{
+    struct store *s = (struct store *)words;
+    (void)entries;
+    if (damaged(s, words_len, entries_len))
+        return refused(1);
+    if (p >= s->publishers)
+        return refused(11);
+    struct publisher *y = &s->publisher[p];
+    if (y->place != 36)
+        return refused(21);
+    y->place = 37;
+    if (s->version != y->mark - 1)
+        return accepted(109, 0, 0);
+    s->version = y->mark;
+    return accepted(108, 0, 0);
+}
+
+struct reply c_old_walk(uint64_t *words, size_t words_len, const int16_t *entries, size_t entries_len, uint16_t p, uint16_t b)
+{
+    struct store *s = (struct store *)words;
+    (void)entries;
+    if (damaged(s, words_len, entries_len))
+        return refused(1);
+    if (p >= s->publishers)
+        return refused(11);
+    struct publisher *y = &s->publisher[p];
+    const uint64_t place = y->place;
+    if (place != 35 && place != 37)
+        return refused(21);
+    if (y->looks > UINT64_MAX - b)
+        return refused(33);
+    if (b == 0)
+        return accepted(111, 0, 0);
+    const uint64_t i = (y->mark ^ (place == 37)) & 1;
+    y->looks++;
+    if (s->indicators[i] != 0) {
+        y->waits++;
+        return accepted(110, i, 0);
+    }
+    if (place == 35) {
+        y->place = 36;
+        return accepted(112, 0, 0);
+    }
+    y->place = 38;
+    return accepted(113, y->looks, y->waits);
+}
+
+struct reply c_old_release(uint64_t *words, size_t words_len, const int16_t *entries, size_t entries_len, uint16_t p)
+{
+    struct store *s = (struct store *)words;
+    (void)entries;
+    if (damaged(s, words_len, entries_len))
+        return refused(1);
+    if (p >= s->publishers)
+        return refused(11);
+    struct publisher *y = &s->publisher[p];
+    if (y->place != 38)
+        return refused(21);
+    y->place = 0;
+    return accepted(114, y->held, ++s->releases);
+}
