@@ -34,7 +34,7 @@ pub struct Stepped {
 }
 
 impl TwoPhase {
-    // The last version: 2^64 - 2.
+    // The last version: 2^63 - 1.
     pub const LAST: u64 = two_phase_damage::LAST;
 
     // A refused making hands back a store with every number 0.

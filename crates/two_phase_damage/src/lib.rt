@@ -42,10 +42,10 @@ fn reader_damaged(words: &[u64], r: usize, slots: u64) -> bool
         let x = reader_at(words, r);
         return x.picked >= slots;
     }
-    // 2, 3, and above 5
     if place > 5 {
         return true;
     }
+    // 2 or 3
     place % 4 >= 2
 }
 
