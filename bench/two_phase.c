@@ -5,6 +5,7 @@
 #include <stdbool.h>
 #include <string.h>
 
+#define NAMED(call) c_old_##call
 #define LAST (UINT64_MAX / 2)
 
 static inline bool damaged(const struct store *s, size_t words_len, size_t entries_len)
@@ -45,6 +46,8 @@ static inline bool damaged(const struct store *s, size_t words_len, size_t entri
     }
     return false;
 }
+
+#include "shared_calls.h"
 
 struct reply c_old_make(uint64_t *words, size_t words_len, int16_t *entries, size_t entries_len, uint16_t readers, uint16_t publishers, uint16_t slots, uint64_t version)
 {
@@ -100,21 +103,6 @@ struct reply c_old_enter(uint64_t *words, size_t words_len, const int16_t *entri
     }
 }
 
-struct reply c_old_look(const uint64_t *words, size_t words_len, const int16_t *entries, size_t entries_len, uint16_t r, uint16_t k)
-{
-    const struct store *s = (const struct store *)words;
-    if (damaged(s, words_len, entries_len))
-        return refused(1);
-    if (r >= s->readers)
-        return refused(10);
-    if (k >= TABLE)
-        return refused(13);
-    const struct reader *x = &s->reader[r];
-    if (x->place != 5)
-        return refused(20);
-    return accepted(102, (uint64_t)(int64_t)entries[x->picked * TABLE + k], 0);
-}
-
 struct reply c_old_leave(uint64_t *words, size_t words_len, const int16_t *entries, size_t entries_len, uint16_t r)
 {
     struct store *s = (struct store *)words;
@@ -151,61 +139,6 @@ struct reply c_old_claim(uint64_t *words, size_t words_len, const int16_t *entri
     s->publisher[p].place = 1;
     s->publisher[p].held = x;
     return accepted(104, x, 0);
-}
-
-struct reply c_old_write(uint64_t *words, size_t words_len, int16_t *entries, size_t entries_len, uint16_t p, int16_t v)
-{
-    struct store *s = (struct store *)words;
-    if (damaged(s, words_len, entries_len))
-        return refused(1);
-    if (p >= s->publishers)
-        return refused(11);
-    if (v < -500 || v > 9500)
-        return refused(14);
-    struct publisher *y = &s->publisher[p];
-    const uint64_t place = y->place;
-    if (place - 1 >= TABLE)
-        return refused(21);
-    entries[y->held * TABLE + place - 1] = v;
-    y->place = place + 1;
-    return accepted(105, place, 0);
-}
-
-struct reply c_old_swap(uint64_t *words, size_t words_len, const int16_t *entries, size_t entries_len, uint16_t p)
-{
-    struct store *s = (struct store *)words;
-    (void)entries;
-    if (damaged(s, words_len, entries_len))
-        return refused(1);
-    if (p >= s->publishers)
-        return refused(11);
-    struct publisher *y = &s->publisher[p];
-    if (y->place != 33)
-        return refused(21);
-    const uint64_t former = s->current;
-    s->current = y->held;
-    y->held = former;
-    y->place = 34;
-    return accepted(106, former, 0);
-}
-
-struct reply c_old_sync(uint64_t *words, size_t words_len, const int16_t *entries, size_t entries_len, uint16_t p)
-{
-    struct store *s = (struct store *)words;
-    (void)entries;
-    if (damaged(s, words_len, entries_len))
-        return refused(1);
-    if (p >= s->publishers)
-        return refused(11);
-    struct publisher *y = &s->publisher[p];
-    if (y->place != 34)
-        return refused(21);
-    if (s->version == LAST)
-        return refused(32);
-    y->place = 35;
-    y->mark = s->version + 1;
-    y->next = y->looks = y->waits = 0;
-    return accepted(107, y->mark, 0);
 }
 
 struct reply c_old_raise(uint64_t *words, size_t words_len, const int16_t *entries, size_t entries_len, uint16_t p)
@@ -254,19 +187,4 @@ struct reply c_old_walk(uint64_t *words, size_t words_len, const int16_t *entrie
     }
     y->place = 38;
     return accepted(113, y->looks, y->waits);
-}
-
-struct reply c_old_release(uint64_t *words, size_t words_len, const int16_t *entries, size_t entries_len, uint16_t p)
-{
-    struct store *s = (struct store *)words;
-    (void)entries;
-    if (damaged(s, words_len, entries_len))
-        return refused(1);
-    if (p >= s->publishers)
-        return refused(11);
-    struct publisher *y = &s->publisher[p];
-    if (y->place != 38)
-        return refused(21);
-    y->place = 0;
-    return accepted(114, y->held, ++s->releases);
 }
