@@ -17,21 +17,19 @@ static inline bool damaged(const struct store *s, size_t words_len, size_t entri
         return true;
     if (entries_len != slots * TABLE || s->current >= slots || s->version > LAST)
         return true;
-    uint64_t open = 0, odd = 0;
+    uint64_t count[2] = {0, 0};
     for (const struct reader *x = s->reader, *end = x + readers; x != end; x++) {
         const uint64_t place = x->place;
-        if (place < 2)
-            continue;
         if (place == 5) {
             if (x->picked >= slots)
                 return true;
-        } else if (place != 4) {
+        } else if (place < 2)
+            continue;
+        else if (place != 4)
             return true;
-        }
-        open++;
-        odd += x->first & 1;
+        count[x->first & 1]++;
     }
-    if (s->indicators[0] != open - odd || s->indicators[1] != odd)
+    if (s->indicators[0] != count[0] || s->indicators[1] != count[1])
         return true;
     for (const struct publisher *y = s->publisher, *end = y + publishers; y != end; y++) {
         const uint64_t place = y->place;

@@ -2,11 +2,11 @@
 // It uses layout; its contracts cite publication_law.
 ghost use mathlib.Core.Path.{_≡_};
 ghost use mathlib.Core.List.{List};
-ghost use Prim.Native.Nat.{ℕ};
+ghost use Prim.Native.Nat.{ℕ, _+_, _*_, _≤_};
 ghost use lib.IntN.{ℤ};
-ghost use lib.ListN.{length, replicate};
+ghost use lib.ListN.{length, replicate, take};
 ghost use lib.Dec.{ltb};
-ghost use Rattle.calls.specs.Numbers.{FEATHERED};
+ghost use Rattle.calls.specs.Numbers.{FEATHERED, TABLE};
 ghost use Rattle.calls.specs.declared.Reply.the-variants.{Made};
 ghost use Rattle.calls.specs.Rows.{firstOf, anyTrue};
 ghost use Rattle.layout.specs.Layout.{version, blankReader};
@@ -67,12 +67,23 @@ pub fn head_damaged(words: &[u64], entries: usize, kind: u64, last: u64) -> bool
     version_of(words) > last
 }
 
-// Every entry feathered.
-fn feather(entries: &mut [Pitch])
+// Feathers the table at `base`, where all before it are feathered.
+fn feather_table(entries: &mut [Pitch], base: usize)
+    requires { ⌜ (base + TABLE ≤ length (now entries)) × (take base (now entries) ≡ replicate base FEATHERED) ⌝ }
+    ensures { λ _. ⌜ (length (now (entries .exit)) ≡ length (now (entries .entry))) × (take (base + TABLE) (now (entries .exit)) ≡ replicate (base + TABLE) FEATHERED) ⌝ }
+{
+    for k in 0..TABLE {
+        entries[base + k] = FEATHERED;
+    }
+}
+
+// Feathers every entry, a table at a time.
+fn feather(entries: &mut [Pitch], slots: u16)
+    requires { ⌜ length (now entries) ≡ slots * TABLE ⌝ }
     ensures { λ _. ⌜ now (entries .exit) ≡ replicate (length (now (entries .entry))) FEATHERED ⌝ }
 {
-    for i in 0..entries.len() {
-        entries[i] = FEATHERED;
+    for s in 0..slots {
+        feather_table(entries, s as usize * TABLE);
     }
 }
 
@@ -142,6 +153,6 @@ pub fn make_store(
         version,
         published,
     );
-    feather(entries);
+    feather(entries, slots);
     Reply::Made
 }

@@ -1,7 +1,7 @@
 -- What an accepted shared call comes to, from what its code has come to know: the rows that do not apply, the record that it read, the words that it wrote.
 -- Assumes nothing.
 use native.Mathlib.Omega.{arith}
-use Prim.Native.Nat.{ℕ, _+_, _-_, _%_, _<_, _≤_}
+use Prim.Native.Nat.{ℕ, _+_, _*_, _-_, _%_, _<_, _≤_}
 use mathlib.Core.Path.{_≡_, refl, sym}
 use mathlib.Core.Logic.{_≢_}
 use mathlib.Core.Bool.{Bool, true, false, not, _&&_, _||_}
@@ -13,7 +13,7 @@ use lib.Dec.{ltb, eqb}
 use borrow.Author.Tests.{eqb-true, eqb-false, eq-eqb, ne-eqb, lt-leb, lt-ltb, le-ltb, not-false}
 use Rattle.calls.specs.declared.Call.{Call}
 use Rattle.calls.specs.declared.Reply.the-variants.{Made, Pitch, Claimed, Written, Swapped, Synced, Raised, Shared, Walked, Freed, Refused}
-use Rattle.calls.specs.Numbers.{FEATHERED, PITCH-LOW, PITCH-HIGH, MODULUS, NUMBER-MAX, DAMAGED}
+use Rattle.calls.specs.Numbers.{TABLE, FEATHERED, PITCH-LOW, PITCH-HIGH, MODULUS, NUMBER-MAX, DAMAGED}
 use Rattle.calls.specs.Rows.{firstOf, anyTrue}
 use Rattle.calls.specs.RowLaws.{not-both, or-false, neither, negated, not-outside, clear}
 use Rattle.layout.specs.declared.Reader.{Reader}
@@ -136,6 +136,9 @@ module _ (w : List ℕ) (p : ℕ) (y : Publisher) (named : p < publishers w) (is
 module _ (vs : Versions) (w : List ℕ) (es : List ℤ) (kind rs ps ss ver : ℕ) (x : Reader) where
   pub making-clear : firstOf (makingTests vs (given rs ps ss ver) (state w es)) ≡ 0 → length w ≡ WORDS
   making-clear e = eqb-true _ _ (not-false _ (clear (makingTests vs (given rs ps ss ver) (state w es)) refl e .0))
+
+  pub making-entries : firstOf (makingTests vs (given rs ps ss ver) (state w es)) ≡ 0 → length es ≡ ss * TABLE
+  making-entries e = eqb-true _ _ (not-false _ (clear (makingTests vs (given rs ps ss ver) (state w es)) refl e .1 .1 .1 .1 .0))
 
   pub make-is : (v : List ℕ) (fs : List ℤ) → firstOf (makingTests vs (given rs ps ss ver) (state w es)) ≡ 0 → v ≡ fresh kind rs ps ss ver x → fs ≡ replicate (length es) FEATHERED
       → outcome Made (state v fs) ≡ decide (makingTests vs (given rs ps ss ver) (state w es)) (outcome Made (made kind x (given rs ps ss ver) (state w es))) (state w es)

@@ -32,54 +32,32 @@ use making::head_damaged;
 // The last version: 2^63 - 1.
 pub const LAST: u64 = 9223372036854775807;
 
-// Whether reader r is spoiled.
-fn reader_damaged(words: &[u64], r: usize, slots: u64) -> bool
-    requires { ⌜ (length (now words) ≡ WORDS) × (r < READERS-MAX) ⌝ }
-    ensures { λ b. ⌜ b ≡ kind .readerDamaged slots (readerAt (now (words .entry)) r) ⌝ }
-{
-    let place = reader_place(words, r);
-    if place == 5 {
-        let x = reader_at(words, r);
-        return x.picked >= slots;
-    }
-    if place > 5 {
-        return true;
-    }
-    // 2 or 3
-    place % 4 >= 2
-}
-
-// 1 if reader r is at 4 or 5 and added to indicator i, else 0.
-fn added(words: &[u64], r: usize, i: u64) -> u64
-    requires { ⌜ (length (now words) ≡ WORDS) × (r < READERS-MAX) ⌝ }
-    ensures { λ n. ⌜ n ≡ pick (addedTo i (readerAt (now (words .entry)) r)) 1 0 ⌝ }
-{
-    let place = reader_place(words, r);
-    if place < 4 {
-        return 0;
-    }
-    let x = reader_at(words, r);
-    if x.first % 2 == i {
-        return 1;
-    }
-    0
-}
-
 // Whether one of the first n readers is spoiled, or an indicator is unlike the number of them that added to it.
 fn readers_damaged(words: &[u64], n: u64, slots: u64) -> bool
     requires { ⌜ (length (now words) ≡ WORDS) × (n ≤ READERS-MAX) ⌝ }
     ensures { λ b. ⌜ b ≡ (anyBelow (λ r. kind .readerDamaged slots (readerAt (now (words .entry)) r)) n || (miscountedAt (now (words .entry)) n 0 || miscountedAt (now (words .entry)) n 1)) ⌝ }
 {
-    let mut even: u64 = 0;
-    let mut odd: u64 = 0;
+    let mut counts = [0u64; 2];
     for r in 0..n {
-        if reader_damaged(words, r as usize, slots) {
-            return true;
+        let place = reader_place(words, r as usize);
+        if place == 5 {
+            let x = reader_at(words, r as usize);
+            if x.picked >= slots {
+                return true;
+            }
+        } else {
+            if place < 2 {
+                continue;
+            }
+            if place != 4 {
+                return true;
+            }
         }
-        even = even + added(words, r as usize, 0);
-        odd = odd + added(words, r as usize, 1);
+        let x = reader_at(words, r as usize);
+        let i = (x.first % 2) as usize;
+        counts[i] = counts[i] + 1;
     }
-    (indicator_of(words, 0) != even) | (indicator_of(words, 1) != odd)
+    (indicator_of(words, 0) != counts[0]) | (indicator_of(words, 1) != counts[1])
 }
 
 // Whether publisher p is spoiled.

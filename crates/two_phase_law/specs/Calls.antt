@@ -5,8 +5,8 @@ use native.Mathlib.Numerals.{add-one}
 use mathlib.Core.Path.{_≡_, refl, sym, ap, _∙_}
 use mathlib.Core.Logic.{_≢_, _⊎_, inl, inr}
 use mathlib.Core.Bool.{Bool, true, false, not, _&&_, _||_}
-use mathlib.Core.List.{List}
-use lib.ListN.{length}
+use mathlib.Core.List.{List, [], _∷_}
+use lib.ListN.{length, getD, set}
 use lib.Dec.{leb, ltb, eqb}
 use borrow.Author.Tests.{eqb-true, eqb-false, eq-eqb, ne-eqb, ltb-false, lt-leb, le-leb, lt-ltb, le-ltb, not-false}
 use Rattle.calls.specs.declared.Call.the-variants.{Enter, Leave, Raise, Walk}
@@ -35,24 +35,15 @@ use Rattle.two_phase_law.specs.Safety.{law}
 abbrev pub miscountedAt : List ℕ → ℕ → ℕ → Bool
 miscountedAt w n i = not (eqb (indicator w i) (countBelow (λ r. addedTo i (readerAt w r)) n))
 
--- A count as a loop makes it: of no number, and of one more; it is at most how many there are.
-pub count-first : (f : ℕ → Bool) → countBelow f 0 ≡ 0
+-- How many of the first n readers added to each indicator, as the pass over the readers counts them.
+abbrev pub addedCounts : List ℕ → ℕ → List ℕ
+addedCounts w n = countBelow (λ r. addedTo 0 (readerAt w r)) n ∷ countBelow (λ r. addedTo 1 (readerAt w r)) n ∷ []
+
+count-more : (f : ℕ → Bool) (i : ℕ) → countBelow f (i + 1) ≡ pick (f i) (countBelow f i + 1) (countBelow f i)
 unfolding countBelow
-count-first f = refl
+count-more f i = rw (add-one i, add-one (countBelow f i)) refl
 
-pub count-more : (f : ℕ → Bool) (i : ℕ) → countBelow f (i + 1) ≡ countBelow f i + pick (f i) 1 0
-unfolding countBelow
-count-more f i = rw (add-one i) (go (f i))
-  where
-    go : (b : Bool) → pick b (suc (countBelow f i)) (countBelow f i) ≡ countBelow f i + pick b 1 0
-    go true = omega arith
-    go false = omega arith
-
-pub one-at-most : (b : Bool) → pick b 1 0 ≤ 1
-one-at-most true = omega arith
-one-at-most false = omega arith
-
-pub count-most : (f : ℕ → Bool) (n : ℕ) → countBelow f n ≤ n
+count-most : (f : ℕ → Bool) (n : ℕ) → countBelow f n ≤ n
 unfolding countBelow
 count-most f zero = omega arith
 count-most f (suc n) = go (f n) (count-most f n)
@@ -60,6 +51,31 @@ count-most f (suc n) = go (f n) (count-most f n)
     go : (b : Bool) → countBelow f n ≤ n → pick b (suc (countBelow f n)) (countBelow f n) ≤ suc n
     go true l = omega arith
     go false l = omega arith
+
+module _ (w : List ℕ) where
+  pub counts-none : 0 ∷ 0 ∷ [] ≡ addedCounts w 0
+  unfolding countBelow
+  counts-none = refl
+
+  -- A reader below 4 is not counted.
+  pub counts-out : (r : ℕ) → readerAt w r .place < 4 → addedCounts w r ≡ addedCounts w (r + 1)
+  counts-out r l = rw (count-more (λ q. addedTo 0 (readerAt w q)) r, count-more (λ q. addedTo 1 (readerAt w q)) r, lt-leb 4 (readerAt w r .place) l) refl
+
+  -- One at 4 or 5 is, by the parity of its loaded version.
+  pub counts-in : (r i : ℕ) → 4 ≤ readerAt w r .place → i ≡ readerAt w r .first % 2 → set (addedCounts w r) i (getD (addedCounts w r) i 0 + 1) ≡ addedCounts w (r + 1)
+  counts-in r i l e = rw (count-more (λ q. addedTo 0 (readerAt w q)) r, count-more (λ q. addedTo 1 (readerAt w q)) r, le-leb 4 (readerAt w r .place) l, ← e) (go i (omega arith))
+    where
+      go : (j : ℕ) → j < 2 → set (addedCounts w r) j (getD (addedCounts w r) j 0 + 1)
+          ≡ pick (eqb j 0) (countBelow (λ q. addedTo 0 (readerAt w q)) r + 1) (countBelow (λ q. addedTo 0 (readerAt w q)) r)
+          ∷ pick (eqb j 1) (countBelow (λ q. addedTo 1 (readerAt w q)) r + 1) (countBelow (λ q. addedTo 1 (readerAt w q)) r) ∷ []
+      go zero h = refl
+      go (suc zero) h = refl
+      go (suc (suc j)) h = absurd (omega arith)
+
+  pub counts-most : (n i : ℕ) → getD (addedCounts w n) i 0 ≤ n
+  counts-most n zero = count-most (λ q. addedTo 0 (readerAt w q)) n
+  counts-most n (suc zero) = count-most (λ q. addedTo 1 (readerAt w q)) n
+  counts-most n (suc (suc i)) = omega arith
 
 pub fine : (s : State) → damaged rules s ≡ false → Fine kind s
 fine = undamaged-fine rules
@@ -108,36 +124,41 @@ indicator-some s e r named turn = go (indicator (s .words) (reader s r .first % 
     go zero d = clash (sym here ∙ count-zero (λ q. addedTo (reader s r .first % 2) (reader s q)) (readers (s .words)) r (sym (counted-of s e (reader s r .first % 2) (omega arith)) ∙ d) named)
     go (suc n) d = omega arith
 
--- The damage test of a reader, by its place.
+-- What the pass over the readers finds at a reader, by its place.
+pub record InSection (ss : ℕ) (x : Reader) : Type 0 where
+  pub fits : anyTrue (readerRows ss x) ≡ false
+  pub arrived : 4 ≤ x .place
+
 module _ (ss : ℕ) (x : Reader) where
-  pub reader-picked : x .place ≡ 5 → anyTrue (readerRows ss x) ≡ leb ss (x .picked)
-  reader-picked e = rw e (or-none _)
+  pub picked-right : x .place ≡ 5 → x .picked < ss → InSection ss x
+  picked-right e l = record { fits = rw (e, lt-leb ss (x .picked) l) refl; arrived = omega arith }
 
-  pub reader-beyond : 5 < x .place → anyTrue (readerRows ss x) ≡ true
-  reader-beyond l = rw (lt-ltb 5 (x .place) l) refl
+  pub picked-wrong : x .place ≡ 5 → ss ≤ x .picked → anyTrue (readerRows ss x) ≡ true
+  picked-wrong e l = rw (e, le-leb ss (x .picked) l) refl
 
-  -- 2 and 3 are the new store's
-  pub reader-others : x .place ≤ 4 → anyTrue (readerRows ss x) ≡ leb 2 (x .place % 4)
-  reader-others high = go (x .place) refl high
+  pub not-picked : x .place ≡ 4 → InSection ss x
+  not-picked e = record { fits = rw e refl; arrived = omega arith }
+
+  pub outside-fits : x .place < 2 → anyTrue (readerRows ss x) ≡ false
+  outside-fits l = go (x .place) refl l
     where
-      go : (n : ℕ) → x .place ≡ n → n ≤ 4 → anyTrue (readerRows ss x) ≡ leb 2 (x .place % 4)
-      go zero e l = rw e refl
-      go (suc zero) e l = rw e refl
-      go (suc (suc zero)) e l = rw e refl
-      go (suc (suc (suc zero))) e l = rw e refl
-      go (suc (suc (suc (suc zero)))) e l = rw e refl
-      go (suc (suc (suc (suc (suc n))))) e l = absurd (omega arith)
+      go : (n : ℕ) → x .place ≡ n → n < 2 → anyTrue (readerRows ss x) ≡ false
+      go zero e h = rw e refl
+      go (suc zero) e h = rw e refl
+      go (suc (suc n)) e h = absurd (omega arith)
 
--- Whether a reader added to an indicator.
-module _ (i : ℕ) (x : Reader) where
-  pub added-out : x .place < 4 → _≡_ {A = ℕ} (pick (addedTo i x) 1 0) 0
-  added-out l = rw (lt-leb 4 (x .place) l) refl
-
-  pub added-there : 4 ≤ x .place → x .first % 2 ≡ i → _≡_ {A = ℕ} (pick (addedTo i x) 1 0) 1
-  added-there l e = rw (le-leb 4 (x .place) l, eq-eqb (x .first % 2) i e) refl
-
-  pub added-other : 4 ≤ x .place → x .first % 2 ≢ i → _≡_ {A = ℕ} (pick (addedTo i x) 1 0) 0
-  added-other l e = rw (le-leb 4 (x .place) l, ne-eqb (x .first % 2) i e) refl
+  -- 2 and 3 are the new store's.
+  pub no-reader-place : x .place ≢ 5 → 2 ≤ x .place → x .place ≢ 4 → anyTrue (readerRows ss x) ≡ true
+  no-reader-place five low four = go (x .place) refl low
+    where
+      go : (n : ℕ) → x .place ≡ n → 2 ≤ n → anyTrue (readerRows ss x) ≡ true
+      go zero e h = absurd (omega arith)
+      go (suc zero) e h = absurd (omega arith)
+      go (suc (suc zero)) e h = rw e refl
+      go (suc (suc (suc zero))) e h = rw e refl
+      go (suc (suc (suc (suc zero)))) e h = absurd (four e)
+      go (suc (suc (suc (suc (suc zero))))) e h = absurd (five e)
+      go (suc (suc (suc (suc (suc (suc n)))))) e h = rw (lt-ltb 5 (x .place) (omega arith)) refl
 
 -- The damage test of a publisher, by its place.
 module _ (rs ss : ℕ) (y : Publisher) where

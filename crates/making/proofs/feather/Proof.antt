@@ -1,48 +1,52 @@
--- `feather` meets its contract: the loop has feathered the entries before i. Assumes nothing.
+-- `feather` meets its contract: the loop has feathered the tables before s. Assumes nothing.
 use borrow.Author.Needs.{needs}
 use native.Mathlib.Omega.{arith}
-use lib.ListN.{length, length-set}
-use Prim.Native.Nat.{_-_, _<_, _≤_}
-use mathlib.Core.Path.{_≡_, refl}
-use lib.ListN.{take, replicate}
+use lib.ListN.{length}
+use lib.ListN.{length, take, replicate}
+use Prim.Native.Nat.{_+_, _-_, _*_, _≤_}
+use mathlib.Core.Path.{_≡_, refl, _∙_}
 use Rattle.calls.specs.Numbers.{FEATHERED}
-use Rattle.calls.specs.Fills.{fills, filled}
+use Rattle.calls.specs.Fills.{filled}
 use Rattle.making.proofs.feather.Statement.{statement}
 use Rattle.making.proofs.feather.Tie as tie
 use Rattle.making.proofs.feather.Reads as reads
 use Rattle.making.proofs.feather.Lts as lts
+use Rattle.making.proofs.feather_table.Reads as feather-table-reads
 
 abbrev Inv-loop : tie.InvT-loop
-Inv-loop entries₀ i₀ i-end entries i = (i ≤ i-end) × (i-end ≡ length entries₀) × (length entries ≡ length entries₀) × (take i entries ≡ replicate i FEATHERED)
+Inv-loop entries₀ slots s₀ entries s = (s ≤ slots) × (length entries ≡ length entries₀) × (take (s * 32) entries ≡ replicate (s * 32) FEATHERED)
 
 abbrev μ-loop : tie.MeasureT-loop
-μ-loop entries₀ i₀ i-end entries i = i-end - i
+μ-loop entries₀ slots s₀ entries s = slots - s
 
 loop-holds : tie.Need-loop-holds Inv-loop μ-loop
-loop-holds c = (search needs, search needs, refl, refl)
+loop-holds c = (search needs, refl, refl)
 
-mul-entries : tie.Need-mul-entries Inv-loop μ-loop
-mul-entries c = search needs
+cast-feather-table : tie.Need-cast-feather-table Inv-loop μ-loop
+cast-feather-table c = search needs
 
-slice-set-of-entries : tie.Need-slice-set-of-entries Inv-loop μ-loop
-slice-set-of-entries c = search needs
+mul-feather-table : tie.Need-mul-feather-table Inv-loop μ-loop
+mul-feather-table c = search needs
 
-add-i : tie.Need-add-i Inv-loop μ-loop
-add-i c = search needs
+feather-table-requires : tie.Need-feather-table-requires Inv-loop μ-loop
+feather-table-requires c κs = search needs
+
+add-s : tie.Need-add-s Inv-loop μ-loop
+add-s c = search needs
 
 loop-less : tie.Need-loop-less Inv-loop μ-loop
 loop-less c = search needs
 
 loop-again : tie.Need-loop-again Inv-loop μ-loop
-loop-again c = let k = c .before .loop in
-    let h : k .i < length (k .entries) = omega arith in
-    (search needs, search needs, simp length-set (k .inv .2), fills FEATHERED _ _ h (k .inv .3))
+loop-again c = let k = c .before .before .before .before .loop in
+    let e : (k .s + 1) * 32 ≡ k .s * 32 + 32 = omega arith in
+    (search needs, c .before .feather-table .ensures .0 ∙ k .inv .1, rw e (c .before .feather-table .ensures .1))
 
 same-length : tie.Need-same-length Inv-loop μ-loop
 same-length c = search needs
 
 returns : tie.Need-returns Inv-loop μ-loop
-returns c = let k = c .before .loop in filled FEATHERED _ (k .i) _ (k .inv .2) (omega arith) (omega arith) (k .inv .3)
+returns c = let k = c .before .loop in filled FEATHERED _ (k .s * 32) _ (k .inv .1) (omega (arith, k .inv, c .loop-test .left, c .before .before .pre)) (omega (arith, k .inv, c .loop-test .left, c .before .before .pre)) (k .inv .2)
 
 pub feather-spec : {M : Type 1} → statement M
 feather-spec =
@@ -51,9 +55,10 @@ feather-spec =
     Inv-loop
     μ-loop
     loop-holds
-    mul-entries
-    slice-set-of-entries
-    add-i
+    cast-feather-table
+    mul-feather-table
+    feather-table-requires
+    add-s
     loop-less
     loop-again
     same-length

@@ -3,9 +3,11 @@ use borrow.Author.Needs.{needs}
 use lib.ListN.{length}
 use mathlib.Core.Path.{_≡_, refl, sym, _∙_}
 use mathlib.Core.Bool.{Bool}
+use Prim.Native.Nat.{_*_}
+use Rattle.calls.specs.Numbers.{TABLE}
 use Rattle.layout.specs.Layout.{WORDS, blankReader}
 use Rattle.publication_law.specs.Steps.{Versions}
-use Rattle.publication_law.specs.Calls.{making-clear, make-is, make-refused}
+use Rattle.publication_law.specs.Calls.{making-clear, making-entries, make-is, make-refused}
 use Rattle.making.proofs.make_store.Statement.{statement}
 use Rattle.making.proofs.make_store.Tie as tie
 use Rattle.making.proofs.make_store.Reads as reads
@@ -23,6 +25,11 @@ unfolding some
 long c = making-clear (some (c .before .before .before .args .large)) (c .before .before .before .args .words .now) (c .before .before .before .args .entries .now) (c .before .before .before .args .kind) (c .before .before .before .args .readers) (c .before .before .before .args .publishers) (c .before .before .before .args .slots) (c .before .before .before .args .version) (blankReader (c .before .before .before .args .published))
     (sym (c .before .first-refusal .ensures (some (c .before .before .before .args .large)) (c .before .before .before .args .words .now) (c .before .before .before .args .entries .now) (c .before .before .before .args .version) refl refl refl) ∙ c .if1 .left)
 
+whole : (c : tie.Else1) → length (c .before .before .before .args .entries .now) ≡ c .before .before .before .args .slots * TABLE
+unfolding some
+whole c = making-entries (some (c .before .before .before .args .large)) (c .before .before .before .args .words .now) (c .before .before .before .args .entries .now) (c .before .before .before .args .kind) (c .before .before .before .args .readers) (c .before .before .before .args .publishers) (c .before .before .before .args .slots) (c .before .before .before .args .version) (blankReader (c .before .before .before .args .published))
+    (sym (c .before .first-refusal .ensures (some (c .before .before .before .args .large)) (c .before .before .before .args .words .now) (c .before .before .before .args .entries .now) (c .before .before .before .args .version) refl refl refl) ∙ c .if1 .left)
+
 first-refusal-requires : tie.Need-first-refusal-requires
 first-refusal-requires c κs = search needs
 
@@ -34,7 +41,7 @@ put-fresh-requires : tie.Need-put-fresh-requires
 put-fresh-requires c κs = long (c .before)
 
 feather-requires : tie.Need-feather-requires
-feather-requires c κs = search needs
+feather-requires c κs = whole (c .before .before .before .before .before)
 
 same-length : tie.Need-same-length
 same-length c = search needs
