@@ -20,12 +20,12 @@ use grace_version_damage::readers_are_damaged;
 use layout::publisher_at;
 use layout::publishers_of;
 use making::make_store;
-use publication::claim_slot;
-use publication::raise_version;
-use publication::release_slot;
-use publication::start_sync;
-use publication::swap_in;
-use publication::write_entry;
+use publication_entries::write_entry;
+use publication_grace::raise_version;
+use publication_grace::start_sync;
+use publication_slots::claim_slot;
+use publication_slots::release_slot;
+use publication_slots::swap_in;
 
 // Making, in words and entries whatever they hold.
 pub fn make(

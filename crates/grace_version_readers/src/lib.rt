@@ -21,7 +21,7 @@ use layout::put_reader;
 use layout::reader_at;
 use layout::readers_of;
 use layout::version_of;
-use publication::look_up;
+use publication_entries::look_up;
 
 // A reader one place on. At 3 an undamaged store's reader has published the version that it loaded first.
 fn advanced(mut x: Reader, version: u64, current: u64) -> Reader

@@ -26,7 +26,7 @@ use layout::publisher_at;
 use layout::publishers_of;
 use layout::reader_at;
 use layout::readers_of;
-use publication::end_walk;
+use publication_grace::end_walk;
 
 // The reader that a walk looks at when so many of n readers have passed.
 fn looked_at(n: u64, passed: u64) -> u64

@@ -19,7 +19,7 @@ use layout::put_reader;
 use layout::reader_at;
 use layout::readers_of;
 use layout::version_of;
-use publication::look_up;
+use publication_entries::look_up;
 use two_phase_damage::head_is_damaged;
 use two_phase_damage::publishers_are_damaged;
 use two_phase_damage::readers_are_damaged;

@@ -20,7 +20,7 @@ use layout::Publisher;
 use layout::indicator_of;
 use layout::publisher_at;
 use layout::publishers_of;
-use publication::end_walk;
+use publication_grace::end_walk;
 use two_phase_damage::head_is_damaged;
 use two_phase_damage::publishers_are_damaged;
 use two_phase_damage::readers_are_damaged;

@@ -16,7 +16,7 @@ use Rattle.grace_version_publishers.proofs.swap.Lts as lts
 use Rattle.grace_version_damage.proofs.head_is_damaged.Reads as head-is-damaged-reads
 use Rattle.grace_version_damage.proofs.publishers_are_damaged.Reads as publishers-are-damaged-reads
 use Rattle.grace_version_damage.proofs.readers_are_damaged.Reads as readers-are-damaged-reads
-use Rattle.publication.proofs.swap_in.Reads as swap-in-reads
+use Rattle.publication_slots.proofs.swap_in.Reads as swap-in-reads
 
 clean : (c : tie.Else3) → damaged rules (state (c .before .before .before .before .before .before .before .before .before .before .args .words .now) (c .before .before .before .before .before .before .before .before .before .before .args .entries .now)) ≡ false
 clean c = undamaged rules (state (c .before .before .before .before .before .before .before .before .before .before .args .words .now) (c .before .before .before .before .before .before .before .before .before .before .args .entries .now)) (sym (c .before .before .before .before .before .before .before .head-is-damaged .ensures (c .before .before .before .before .before .before .before .before .before .before .args .entries .now) refl) ∙ c .before .before .before .before .before .before .if1 .left) (sym (c .before .before .before .before .readers-are-damaged .ensures (c .before .before .before .before .before .before .before .before .before .before .args .entries .now)) ∙ c .before .before .before .if2 .left) refl (sym (c .before .publishers-are-damaged .ensures (c .before .before .before .before .before .before .before .before .before .before .args .entries .now)) ∙ c .if3 .left)

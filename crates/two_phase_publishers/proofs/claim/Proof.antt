@@ -13,7 +13,7 @@ use Rattle.two_phase_publishers.proofs.claim.Statement.{statement}
 use Rattle.two_phase_publishers.proofs.claim.Tie as tie
 use Rattle.two_phase_publishers.proofs.claim.Reads as reads
 use Rattle.two_phase_publishers.proofs.claim.Lts as lts
-use Rattle.publication.proofs.claim_slot.Reads as claim-slot-reads
+use Rattle.publication_slots.proofs.claim_slot.Reads as claim-slot-reads
 use Rattle.two_phase_damage.proofs.head_is_damaged.Reads as head-is-damaged-reads
 use Rattle.two_phase_damage.proofs.publishers_are_damaged.Reads as publishers-are-damaged-reads
 use Rattle.two_phase_damage.proofs.readers_are_damaged.Reads as readers-are-damaged-reads

@@ -13,7 +13,7 @@ use Rattle.two_phase_publishers.proofs.release.Statement.{statement}
 use Rattle.two_phase_publishers.proofs.release.Tie as tie
 use Rattle.two_phase_publishers.proofs.release.Reads as reads
 use Rattle.two_phase_publishers.proofs.release.Lts as lts
-use Rattle.publication.proofs.release_slot.Reads as release-slot-reads
+use Rattle.publication_slots.proofs.release_slot.Reads as release-slot-reads
 use Rattle.two_phase_damage.proofs.head_is_damaged.Reads as head-is-damaged-reads
 use Rattle.two_phase_damage.proofs.publishers_are_damaged.Reads as publishers-are-damaged-reads
 use Rattle.two_phase_damage.proofs.readers_are_damaged.Reads as readers-are-damaged-reads

@@ -13,7 +13,7 @@ use Rattle.two_phase_publishers.proofs.swap.Statement.{statement}
 use Rattle.two_phase_publishers.proofs.swap.Tie as tie
 use Rattle.two_phase_publishers.proofs.swap.Reads as reads
 use Rattle.two_phase_publishers.proofs.swap.Lts as lts
-use Rattle.publication.proofs.swap_in.Reads as swap-in-reads
+use Rattle.publication_slots.proofs.swap_in.Reads as swap-in-reads
 use Rattle.two_phase_damage.proofs.head_is_damaged.Reads as head-is-damaged-reads
 use Rattle.two_phase_damage.proofs.publishers_are_damaged.Reads as publishers-are-damaged-reads
 use Rattle.two_phase_damage.proofs.readers_are_damaged.Reads as readers-are-damaged-reads

@@ -14,7 +14,7 @@ use Rattle.two_phase_publishers.proofs.sync.Statement.{statement}
 use Rattle.two_phase_publishers.proofs.sync.Tie as tie
 use Rattle.two_phase_publishers.proofs.sync.Reads as reads
 use Rattle.two_phase_publishers.proofs.sync.Lts as lts
-use Rattle.publication.proofs.start_sync.Reads as start-sync-reads
+use Rattle.publication_grace.proofs.start_sync.Reads as start-sync-reads
 use Rattle.two_phase_damage.proofs.head_is_damaged.Reads as head-is-damaged-reads
 use Rattle.two_phase_damage.proofs.publishers_are_damaged.Reads as publishers-are-damaged-reads
 use Rattle.two_phase_damage.proofs.readers_are_damaged.Reads as readers-are-damaged-reads

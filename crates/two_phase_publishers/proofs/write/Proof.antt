@@ -14,7 +14,7 @@ use Rattle.two_phase_publishers.proofs.write.Statement.{statement}
 use Rattle.two_phase_publishers.proofs.write.Tie as tie
 use Rattle.two_phase_publishers.proofs.write.Reads as reads
 use Rattle.two_phase_publishers.proofs.write.Lts as lts
-use Rattle.publication.proofs.write_entry.Reads as write-entry-reads
+use Rattle.publication_entries.proofs.write_entry.Reads as write-entry-reads
 use Rattle.two_phase_damage.proofs.head_is_damaged.Reads as head-is-damaged-reads
 use Rattle.two_phase_damage.proofs.publishers_are_damaged.Reads as publishers-are-damaged-reads
 use Rattle.two_phase_damage.proofs.readers_are_damaged.Reads as readers-are-damaged-reads

@@ -13,7 +13,7 @@ use Rattle.two_phase_readers.proofs.look.Statement.{statement}
 use Rattle.two_phase_readers.proofs.look.Tie as tie
 use Rattle.two_phase_readers.proofs.look.Reads as reads
 use Rattle.two_phase_readers.proofs.look.Lts as lts
-use Rattle.publication.proofs.look_up.Reads as look-up-reads
+use Rattle.publication_entries.proofs.look_up.Reads as look-up-reads
 use Rattle.two_phase_damage.proofs.head_is_damaged.Reads as head-is-damaged-reads
 use Rattle.two_phase_damage.proofs.publishers_are_damaged.Reads as publishers-are-damaged-reads
 use Rattle.two_phase_damage.proofs.readers_are_damaged.Reads as readers-are-damaged-reads

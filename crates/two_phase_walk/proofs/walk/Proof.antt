@@ -21,7 +21,7 @@ use Rattle.two_phase_walk.proofs.walk.Lts as lts
 use Rattle.layout.proofs.indicator_of.Reads as indicator-of-reads
 use Rattle.layout.proofs.publisher_at.Reads as publisher-at-reads
 use Rattle.layout.proofs.publishers_of.Reads as publishers-of-reads
-use Rattle.publication.proofs.end_walk.Reads as end-walk-reads
+use Rattle.publication_grace.proofs.end_walk.Reads as end-walk-reads
 use Rattle.two_phase_damage.proofs.head_is_damaged.Reads as head-is-damaged-reads
 use Rattle.two_phase_damage.proofs.publishers_are_damaged.Reads as publishers-are-damaged-reads
 use Rattle.two_phase_damage.proofs.readers_are_damaged.Reads as readers-are-damaged-reads

@@ -1,0 +1,148 @@
+// CLAIM, SWAP and RELEASE of words that are not damaged, which the kinds share: the calls that move a slot.
+// A kind tests for damage first, and asks nothing of its own callers.
+// It uses layout; its contracts cite publication_law.
+ghost use mathlib.Core.Path.{_≡_};
+ghost use mathlib.Core.Bool.{_&&_};
+ghost use mathlib.Core.List.{List};
+ghost use lib.IntN.{ℤ};
+ghost use Rattle.statement.specs.Machine.{state, outcome};
+ghost use Rattle.publication_law.specs.Steps.{decide, anotherBusy, inUse, claimTests, claim, swapTests, swap, releaseTests, release};
+ghost use Rattle.publication_law.specs.Sound.{Sound};
+use calls::BUSY;
+use calls::NO_SUCH_PUBLISHER;
+use calls::NO_SUCH_SLOT;
+use calls::PUBLISHER_TURN;
+use calls::Reply;
+use calls::SLOT_IN_USE;
+use layout::current_of;
+use layout::publisher_at;
+use layout::publishers_of;
+use layout::put_current;
+use layout::put_publisher;
+use layout::put_releases;
+use layout::releases_of;
+use layout::slots_of;
+
+// Whether a publisher other than p is at a place other than 0.
+fn another_busy(words: &[u64], p: u16) -> bool
+    requires { ⌜ Sound (now words) ⌝ }
+    ensures { λ b. ⌜ ((es : List ℤ) → b ≡ anotherBusy (state (now (words .entry)) es) p) ⌝ }
+{
+    let n = publishers_of(words);
+    for q in 0..n {
+        let y = publisher_at(words, q as usize);
+        if (q != p as u64) & (y.place != 0) {
+            return true;
+        }
+    }
+    false
+}
+
+// Whether 31 is given, in a kind that has it or not.
+fn busy(words: &[u64], p: u16, exclusive: bool) -> bool
+    requires { ⌜ Sound (now words) ⌝ }
+    ensures { λ b. ⌜ ((es : List ℤ) → b ≡ (exclusive && anotherBusy (state (now (words .entry)) es) p)) ⌝ }
+{
+    if exclusive {
+        return another_busy(words, p);
+    }
+    false
+}
+
+// Whether a slot is not free.
+fn in_use(words: &[u64], x: u64) -> bool
+    requires { ⌜ Sound (now words) ⌝ }
+    ensures { λ b. ⌜ ((es : List ℤ) → b ≡ inUse (state (now (words .entry)) es) x) ⌝ }
+{
+    if current_of(words) == x {
+        return true;
+    }
+    let n = publishers_of(words);
+    for q in 0..n {
+        let y = publisher_at(words, q as usize);
+        if (y.place != 0) & (y.held == x) {
+            return true;
+        }
+    }
+    false
+}
+
+// CLAIM p s: 0 to 1, holds s. Whether 31 is given is the kind's own.
+pub fn claim_slot(words: &mut [u64], p: u16, slot: u16, exclusive: bool) -> Reply
+    requires { ⌜ Sound (now words) ⌝ }
+    ensures { λ a. ⌜ ((es : List ℤ) → let s = state (now (words .entry)) es in outcome a (state (now (words .exit)) es) ≡ decide (claimTests exclusive s p slot) (claim s p slot) s) ⌝ }
+{
+    if p as u64 >= publishers_of(words) {
+        return Reply::Refused(NO_SUCH_PUBLISHER);
+    }
+    let wanted = slot as u64;
+    if wanted >= slots_of(words) {
+        return Reply::Refused(NO_SUCH_SLOT);
+    }
+    let at = p as usize;
+    let mut y = publisher_at(words, at);
+    let place = y.place;
+    match place {
+        0 => {
+            if busy(words, p, exclusive) {
+                return Reply::Refused(BUSY);
+            }
+            if in_use(words, wanted) {
+                return Reply::Refused(SLOT_IN_USE);
+            }
+            y.place = 1;
+            y.held = wanted;
+            put_publisher(words, at, y);
+            Reply::Claimed(wanted)
+        }
+        _ => Reply::Refused(PUBLISHER_TURN),
+    }
+}
+
+// SWAP p: 33 to 34. Its slot becomes current; it holds the former one, and replies with that.
+pub fn swap_in(words: &mut [u64], p: u16) -> Reply
+    requires { ⌜ Sound (now words) ⌝ }
+    ensures { λ a. ⌜ ((es : List ℤ) → let s = state (now (words .entry)) es in outcome a (state (now (words .exit)) es) ≡ decide (swapTests s p) (swap s p) s) ⌝ }
+{
+    if p as u64 >= publishers_of(words) {
+        return Reply::Refused(NO_SUCH_PUBLISHER);
+    }
+    let at = p as usize;
+    let mut y = publisher_at(words, at);
+    let place = y.place;
+    match place {
+        33 => {
+            let former = current_of(words);
+            let slot = y.held;
+            y.place = 34;
+            y.held = former;
+            put_publisher(words, at, y);
+            put_current(words, slot);
+            Reply::Swapped(former)
+        }
+        _ => Reply::Refused(PUBLISHER_TURN),
+    }
+}
+
+// RELEASE p: 38 to 0, which frees the held slot; one more release.
+pub fn release_slot(words: &mut [u64], p: u16) -> Reply
+    requires { ⌜ Sound (now words) ⌝ }
+    ensures { λ a. ⌜ ((es : List ℤ) → let s = state (now (words .entry)) es in outcome a (state (now (words .exit)) es) ≡ decide (releaseTests s p) (release s p) s) ⌝ }
+{
+    if p as u64 >= publishers_of(words) {
+        return Reply::Refused(NO_SUCH_PUBLISHER);
+    }
+    let at = p as usize;
+    let mut y = publisher_at(words, at);
+    let place = y.place;
+    match place {
+        38 => {
+            let releases = std::num::wrapping_add_u64(releases_of(words), 1);
+            y.place = 0;
+            put_publisher(words, at, y);
+            put_releases(words, releases);
+            Reply::Freed(y.held, releases)
+        }
+        _ => Reply::Refused(PUBLISHER_TURN),
+    }
+}
