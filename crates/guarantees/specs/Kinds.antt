@@ -1,6 +1,7 @@
--- Demands 1 and 3 on the steps, and the companions, for every kind of store. Assumes nothing.
+-- Demands 1 and 3 on the steps, and the companions, for words of any kind: `store n` has the making of the kind with number n and the steps that
+-- the kind word tells, which are the steps that the contracts of `kinds` cite. Assumes nothing.
 use Prim.Native.Nat.{ℕ}
-use mathlib.Core.Path.{_≡_}
+use mathlib.Core.Path.{_≡_, refl, sym, ap, _∙_}
 use mathlib.Core.Bool.{true, false}
 use mathlib.Core.List.{List}
 use lib.IntN.{ℤ, pos}
@@ -10,75 +11,68 @@ use Rattle.calls.specs.declared.Call.the-variants.{Claim}
 use Rattle.calls.specs.declared.Reply.the-variants.{Refused}
 use Rattle.calls.specs.AnswerLaws.{NarrowPitch, Proper}
 use Rattle.calls.specs.Model.{firstTable}
-use Rattle.statement.specs.Machine.{State, state, Given, Machine, Fresh, afterAll}
+use Rattle.layout.specs.Layout.{WORDS, kind}
+use Rattle.statement.specs.Machine.{State, state, Given, Fresh, afterAll}
 use Rattle.statement.specs.Demand3.{Demand3}
-use Rattle.statement.specs.Companions.{Traits, MakingAccepts, RefusedLeaves, Frame, Companions}
-use Rattle.layout.specs.Layout.{WORDS}
+use Rattle.statement.specs.Companions.{MakingAccepts, RefusedLeaves, Frame, Companions}
+use Rattle.statement.specs.Alike.{fresh-alike, after-alike, demand3-alike, companions-alike, making-accepts-alike}
 use Rattle.publication_law.specs.DamageLaws.{zero-damaged}
-use Rattle.publication_law.specs.Rules.{Rules, damaged, step, machine}
-use Rattle.grace_version_law.specs.Steps as new-store
+use Rattle.publication_law.specs.Rules.{damaged}
+use Rattle.publication_law.specs.Calls.{undamaged-fine}
 use Rattle.grace_version_law.specs.Promises as new-promises
-use Rattle.two_phase_law.specs.Steps as old-store
-use Rattle.two_phase_law.specs.Promises as old-promises
+use Rattle.kinds_law.specs.Kinds.{Name, rulesOf, number, named, anyStep, anyMaking, store}
+use Rattle.kinds_law.specs.Kinds.Name.{new}
+use Rattle.kinds_law.specs.Calls.{step-named}
+use Rattle.guarantees.specs.Named.{storeOf, traits, own-demand3, own-companions, own-never-damaged, own-making-accepts, alike, by-number, chosen-refused-leaves, chosen-frame, chosen-proper, chosen-proper-making}
 
--- The kinds: the new store (GraceVersion) and the old one (Two-Phase with one publisher).
-pub data Name : Type 0 where
-  new : Name
-  old : Name
-
-abbrev pub rulesOf : Name → Rules
-rulesOf new = new-store.rules
-rulesOf old = old-store.rules
-
-abbrev pub storeOf : Name → Machine
-storeOf k = machine (rulesOf k)
-
-abbrev pub traits : Name → Traits
-traits new = new-promises.traits
-traits old = old-promises.traits
-
--- Demand 3: after every list of calls from every accepted making, looks, returns, slots and picks are as document 01 tells them.
-pub demand3 : (k : Name) → Demand3 (storeOf k) (λ z. firstTable)
-demand3 new = new-promises.new-demand3
-demand3 old = old-promises.old-demand3
+-- Demand 3: after every list of calls from every accepted making, of whatever kind, looks, returns, slots and picks are as document 01 tells them.
+pub demand3 : (n : ℕ) → Demand3 (store n) (λ z. firstTable)
+demand3 = by-number (λ n. Demand3 (store n) (λ z. firstTable))
+    (λ k. demand3-alike (storeOf k) (store (number k)) (alike k) (λ z. firstTable) (own-demand3 k))
+    (λ n none s f. absurd (none s f))
 
 -- Its companions: never damaged, order, counts, whole tables, readers never wait, claims, publishers get on, releases.
-pub companions : (k : Name) → Companions (storeOf k) (traits k)
-companions new = new-promises.new-companions
-companions old = old-promises.old-companions
+pub companions : (k : Name) → Companions (store (number k)) (traits k)
+companions k = companions-alike (storeOf k) (store (number k)) (alike k) (traits k) (own-companions k)
 
-pub never-damaged : (k : Name) (s : State) → Fresh (storeOf k) s → (cs : List Call) → damaged (rulesOf k) (afterAll (storeOf k) s cs) ≡ false
-never-damaged new = new-promises.new-never-damaged
-never-damaged old = old-promises.old-never-damaged
+pub never-damaged : (k : Name) (s : State) → Fresh (store (number k)) s → (cs : List Call) → damaged (rulesOf k) (afterAll (store (number k)) s cs) ≡ false
+never-damaged k s f cs = rw (after-alike (storeOf k) (store (number k)) (alike k) s f cs) (own-never-damaged k s (fresh-alike (storeOf k) (store (number k)) (alike k) s f) cs)
 
 -- A making with every argument in its range is accepted.
-pub making-accepts : (k : Name) → MakingAccepts (storeOf k) (traits k)
-making-accepts new = new-promises.new-making-accepts
-making-accepts old = old-promises.old-making-accepts
+pub making-accepts : (k : Name) → MakingAccepts (store (number k)) (traits k)
+making-accepts k = making-accepts-alike (storeOf k) (store (number k)) (alike k) (traits k) (own-making-accepts k)
 
--- Demand 1 on the steps: a refused call or making changes nothing.
-pub refused-leaves : (k : Name) → RefusedLeaves (storeOf k)
-refused-leaves new = new-promises.new-refused-leaves
-refused-leaves old = old-promises.old-refused-leaves
+-- Demand 1 on the steps: a refused call or making changes nothing, whatever the words hold.
+pub refused-leaves : (n : ℕ) → RefusedLeaves (store n)
+unfolding anyStep anyMaking
+refused-leaves n = record {
+  step = λ s. chosen-refused-leaves (named (kind (s .words))) .step s;
+  making = chosen-refused-leaves (named n) .making;
+}
 
 -- A call moves the record that it names, and no other.
-pub frame : (k : Name) → Frame (storeOf k)
-frame new = new-promises.new-frame
-frame old = old-promises.old-frame
+pub frame : (n : ℕ) → Frame (store n)
+unfolding anyStep
+frame n = record {
+  records = λ s. chosen-frame (named (kind (s .words))) .records s;
+  walk-head = λ s. chosen-frame (named (kind (s .words))) .walk-head s;
+  entries = λ s. chosen-frame (named (kind (s .words))) .entries s;
+  current = λ s. chosen-frame (named (kind (s .words))) .current s;
+}
 
 -- Every reply of a store whose entries are pitches of 64 bits has an answer that no other proper reply has.
-pub proper : (k : Name) (s : State) (c : Call) → ((j : ℕ) → NarrowPitch (getD (s .entries) j (pos 0))) → Proper (storeOf k .step s c .reply)
-proper new = new-promises.new-proper
-proper old = old-promises.old-proper
+pub proper : (s : State) (c : Call) → ((j : ℕ) → NarrowPitch (getD (s .entries) j (pos 0))) → Proper (anyStep s c .reply)
+unfolding anyStep
+proper s = chosen-proper (named (kind (s .words))) s
 
-pub proper-making : (k : Name) (g : Given) (s : State) → Proper (storeOf k .making g s .reply)
-proper-making new = new-promises.new-proper-making
-proper-making old = old-promises.old-proper-making
+pub proper-making : (n : ℕ) (g : Given) (s : State) → Proper (anyMaking n g s .reply)
+unfolding anyMaking
+proper-making n = chosen-proper-making (named n)
 
 -- A store with every number 0, as a refused making by value hands back, is damaged.
 pub zero-store-damaged : (k : Name) (es : List ℤ) → damaged (rulesOf k) (state (replicate WORDS 0) es) ≡ true
 zero-store-damaged k es = zero-damaged (rulesOf k) es
 
 -- The new store may not refuse another publisher as busy: a claim on an undamaged one is refused only for a wrong name, a wrong turn or a slot in use.
-pub claim-refusals : (s : State) (p x n : ℕ) → damaged new-store.rules s ≡ false → step new-store.rules s (Claim p x) .reply ≡ Refused n → new-promises.ClaimRefusal n
-claim-refusals = new-promises.new-claim-refusals
+pub claim-refusals : (s : State) (p x n : ℕ) → damaged (rulesOf new) s ≡ false → anyStep s (Claim p x) .reply ≡ Refused n → new-promises.ClaimRefusal n
+claim-refusals s p x n fine e = new-promises.new-claim-refusals s p x n fine (rw (step-named new s (Claim p x) (undamaged-fine (rulesOf new) s fine .head .kind-is)) at e)

@@ -1,2 +1,3 @@
+pub mod Named
 pub mod Kinds
 pub mod Bench

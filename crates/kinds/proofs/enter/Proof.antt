@@ -1,0 +1,56 @@
+-- `enter` meets its contract: words of another length and of no kind are refused; else the kind's own call is the step. Assumes nothing.
+use borrow.Author.Needs.{needs}
+use mathlib.Core.Path.{sym, _∙_}
+use Rattle.calls.specs.declared.Call.the-variants.{Enter}
+use Rattle.kinds_law.specs.Calls.{step-new, step-old, step-unknown, step-length}
+use Rattle.kinds.proofs.enter.Statement.{statement}
+use Rattle.kinds.proofs.enter.Tie as tie
+use Rattle.kinds.proofs.enter.Reads as reads
+use Rattle.kinds.proofs.enter.Lts as lts
+use Rattle.grace_version_readers.proofs.enter.Reads as enter-reads
+use Rattle.layout.proofs.kind_of.Reads as kind-of-reads
+
+returns : tie.Need-returns
+returns c = step-length _ (Enter _) (c .if1 .taken)
+
+kind-of-requires : tie.Need-kind-of-requires
+kind-of-requires c κs = search needs
+
+enter-requires : tie.Need-enter-requires
+enter-requires c κs = search needs
+
+enter-requires-2 : tie.Need-enter-requires-2
+enter-requires-2 c κs = search needs
+
+same-length : tie.Need-same-length
+same-length c = search needs
+
+returns-2 : tie.Need-returns-2
+returns-2 c = c .before .before .enter .ensures ∙ step-new _ (Enter _) (sym (c .before .before .before .before .before .kind-of .ensures) ∙ c .before .before .before .before .match .keys1)
+
+same-length-2 : tie.Need-same-length-2
+same-length-2 c = search needs
+
+returns-3 : tie.Need-returns-3
+returns-3 c = c .before .before .enter2 .ensures ∙ step-old _ (Enter _) (sym (c .before .before .before .before .before .kind-of .ensures) ∙ c .before .before .before .before .match .keys2)
+
+same-length-3 : tie.Need-same-length-3
+same-length-3 c = search needs
+
+returns-4 : tie.Need-returns-4
+returns-4 c = step-unknown _ (Enter _) (λ e. c .match .rest .0 .1 (c .before .kind-of .ensures ∙ e)) (λ e. c .match .rest .1 (c .before .kind-of .ensures ∙ e))
+
+pub enter-spec : {M : Type 1} → statement M
+enter-spec =
+    tie.close
+    (tie.spec
+    returns
+    kind-of-requires
+    enter-requires
+    enter-requires-2
+    same-length
+    returns-2
+    same-length-2
+    returns-3
+    same-length-3
+    returns-4)

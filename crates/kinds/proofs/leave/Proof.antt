@@ -1,0 +1,56 @@
+-- `leave` meets its contract: words of another length and of no kind are refused; else the kind's own call is the step. Assumes nothing.
+use borrow.Author.Needs.{needs}
+use mathlib.Core.Path.{sym, _∙_}
+use Rattle.calls.specs.declared.Call.the-variants.{Leave}
+use Rattle.kinds_law.specs.Calls.{step-new, step-old, step-unknown, step-length}
+use Rattle.kinds.proofs.leave.Statement.{statement}
+use Rattle.kinds.proofs.leave.Tie as tie
+use Rattle.kinds.proofs.leave.Reads as reads
+use Rattle.kinds.proofs.leave.Lts as lts
+use Rattle.grace_version_readers.proofs.leave.Reads as leave-reads
+use Rattle.layout.proofs.kind_of.Reads as kind-of-reads
+
+returns : tie.Need-returns
+returns c = step-length _ (Leave _) (c .if1 .taken)
+
+kind-of-requires : tie.Need-kind-of-requires
+kind-of-requires c κs = search needs
+
+leave-requires : tie.Need-leave-requires
+leave-requires c κs = search needs
+
+leave-requires-2 : tie.Need-leave-requires-2
+leave-requires-2 c κs = search needs
+
+same-length : tie.Need-same-length
+same-length c = search needs
+
+returns-2 : tie.Need-returns-2
+returns-2 c = c .before .before .leave .ensures ∙ step-new _ (Leave _) (sym (c .before .before .before .before .before .kind-of .ensures) ∙ c .before .before .before .before .match .keys1)
+
+same-length-2 : tie.Need-same-length-2
+same-length-2 c = search needs
+
+returns-3 : tie.Need-returns-3
+returns-3 c = c .before .before .leave2 .ensures ∙ step-old _ (Leave _) (sym (c .before .before .before .before .before .kind-of .ensures) ∙ c .before .before .before .before .match .keys2)
+
+same-length-3 : tie.Need-same-length-3
+same-length-3 c = search needs
+
+returns-4 : tie.Need-returns-4
+returns-4 c = step-unknown _ (Leave _) (λ e. c .match .rest .0 .1 (c .before .kind-of .ensures ∙ e)) (λ e. c .match .rest .1 (c .before .kind-of .ensures ∙ e))
+
+pub leave-spec : {M : Type 1} → statement M
+leave-spec =
+    tie.close
+    (tie.spec
+    returns
+    kind-of-requires
+    leave-requires
+    leave-requires-2
+    same-length
+    returns-2
+    same-length-2
+    returns-3
+    same-length-3
+    returns-4)

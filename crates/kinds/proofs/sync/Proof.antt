@@ -1,0 +1,56 @@
+-- `sync` meets its contract: words of another length and of no kind are refused; else the kind's own call is the step. Assumes nothing.
+use borrow.Author.Needs.{needs}
+use mathlib.Core.Path.{sym, _∙_}
+use Rattle.calls.specs.declared.Call.the-variants.{Sync}
+use Rattle.kinds_law.specs.Calls.{step-new, step-old, step-unknown, step-length}
+use Rattle.kinds.proofs.sync.Statement.{statement}
+use Rattle.kinds.proofs.sync.Tie as tie
+use Rattle.kinds.proofs.sync.Reads as reads
+use Rattle.kinds.proofs.sync.Lts as lts
+use Rattle.grace_version_publishers.proofs.sync.Reads as sync-reads
+use Rattle.layout.proofs.kind_of.Reads as kind-of-reads
+
+returns : tie.Need-returns
+returns c = step-length _ (Sync _) (c .if1 .taken)
+
+kind-of-requires : tie.Need-kind-of-requires
+kind-of-requires c κs = search needs
+
+sync-requires : tie.Need-sync-requires
+sync-requires c κs = search needs
+
+sync-requires-2 : tie.Need-sync-requires-2
+sync-requires-2 c κs = search needs
+
+same-length : tie.Need-same-length
+same-length c = search needs
+
+returns-2 : tie.Need-returns-2
+returns-2 c = c .before .before .sync .ensures ∙ step-new _ (Sync _) (sym (c .before .before .before .before .before .kind-of .ensures) ∙ c .before .before .before .before .match .keys1)
+
+same-length-2 : tie.Need-same-length-2
+same-length-2 c = search needs
+
+returns-3 : tie.Need-returns-3
+returns-3 c = c .before .before .sync2 .ensures ∙ step-old _ (Sync _) (sym (c .before .before .before .before .before .kind-of .ensures) ∙ c .before .before .before .before .match .keys2)
+
+same-length-3 : tie.Need-same-length-3
+same-length-3 c = search needs
+
+returns-4 : tie.Need-returns-4
+returns-4 c = step-unknown _ (Sync _) (λ e. c .match .rest .0 .1 (c .before .kind-of .ensures ∙ e)) (λ e. c .match .rest .1 (c .before .kind-of .ensures ∙ e))
+
+pub sync-spec : {M : Type 1} → statement M
+sync-spec =
+    tie.close
+    (tie.spec
+    returns
+    kind-of-requires
+    sync-requires
+    sync-requires-2
+    same-length
+    returns-2
+    same-length-2
+    returns-3
+    same-length-3
+    returns-4)

@@ -1,0 +1,77 @@
+-- What a call and a making for words of any kind come to, from what is known of the kind word, of the kind's number or of the words' length.
+-- Assumes nothing.
+use Prim.Native.Nat.{ℕ}
+use mathlib.Core.Path.{_≡_, refl, sym, ap, _∙_}
+use mathlib.Core.Logic.{_≢_}
+use mathlib.Core.Bool.{Bool, true, false, not, _||_}
+use mathlib.Core.Option.{Option, none, some}
+use lib.ListN.{length}
+use lib.Dec.{eqb}
+use borrow.Author.Tests.{eqb-true, ne-eqb}
+use Rattle.calls.specs.declared.Call.{Call}
+use Rattle.calls.specs.declared.Reply.the-variants.{Refused}
+use Rattle.calls.specs.Base.{pick}
+use Rattle.calls.specs.Numbers.{KIND-NEW, KIND-OLD, DAMAGED}
+use Rattle.layout.specs.Layout.{WORDS, kind}
+use Rattle.statement.specs.Machine.{State, outcome, Given}
+use Rattle.publication_law.specs.Rules.{Rules, damaged, step, making}
+use Rattle.publication_law.specs.Calls.{step-damaged, damaged-head}
+use Rattle.grace_version_law.specs.Steps as new-store
+use Rattle.two_phase_law.specs.Steps as old-store
+use Rattle.kinds_law.specs.Kinds.{Name, rulesOf, number, named, stepOf, anyStep, makingOf, anyMaking}
+use Rattle.kinds_law.specs.Kinds.Name.{new, old}
+
+-- A kind's number names it, and it is the number in the kind's own damage test.
+pub number-named : (k : Name) → named (number k) ≡ some k
+unfolding named
+number-named new = refl
+number-named old = refl
+
+pub number-own : (k : Name) → rulesOf k .kind .number ≡ number k
+number-own new = refl
+number-own old = refl
+
+-- No other number names a kind.
+pub named-none : (n : ℕ) → n ≢ KIND-NEW → n ≢ KIND-OLD → named n ≡ none
+unfolding named
+named-none n a b = rw (ne-eqb n KIND-NEW a, ne-eqb n KIND-OLD b) refl
+
+-- Words of a known kind: that kind's own step.
+pub step-named : (k : Name) (s : State) (c : Call) → kind (s .words) ≡ number k → anyStep s c ≡ step (rulesOf k) s c
+unfolding anyStep
+step-named k s c e = rw (e, number-named k) refl
+
+pub step-new : (s : State) (c : Call) → kind (s .words) ≡ KIND-NEW → step new-store.rules s c ≡ anyStep s c
+step-new s c e = sym (step-named new s c e)
+
+pub step-old : (s : State) (c : Call) → kind (s .words) ≡ KIND-OLD → step old-store.rules s c ≡ anyStep s c
+step-old s c e = sym (step-named old s c e)
+
+-- Words of no kind: 1.
+pub step-unknown : (s : State) (c : Call) → kind (s .words) ≢ KIND-NEW → kind (s .words) ≢ KIND-OLD → outcome (Refused DAMAGED) s ≡ anyStep s c
+unfolding anyStep
+step-unknown s c a b = rw (named-none (kind (s .words)) a b) refl
+
+-- Words of another length: 1, whatever the kind word says.
+pub step-length : (s : State) (c : Call) → length (s .words) ≢ WORDS → outcome (Refused DAMAGED) s ≡ anyStep s c
+unfolding anyStep
+step-length s c ne = go (named (kind (s .words)))
+  where
+    go : (o : Option Name) → outcome (Refused DAMAGED) s ≡ stepOf o s c
+    go none = refl
+    go (some k) = step-damaged (rulesOf k) s c (damaged-head (rulesOf k) s (rw (ne-eqb (length (s .words)) WORDS ne) refl))
+
+-- Making a known kind is that kind's own, and making another gets 1.
+pub making-named : (k : Name) (g : Given) (s : State) → anyMaking (number k) g s ≡ making (rulesOf k) g s
+unfolding anyMaking
+making-named k g s = rw (number-named k) refl
+
+pub making-new : (n : ℕ) (g : Given) (s : State) → n ≡ KIND-NEW → making new-store.rules g s ≡ anyMaking n g s
+making-new n g s e = rw e (sym (making-named new g s))
+
+pub making-old : (n : ℕ) (g : Given) (s : State) → n ≡ KIND-OLD → making old-store.rules g s ≡ anyMaking n g s
+making-old n g s e = rw e (sym (making-named old g s))
+
+pub making-unknown : (n : ℕ) (g : Given) (s : State) → n ≢ KIND-NEW → n ≢ KIND-OLD → outcome (Refused DAMAGED) s ≡ anyMaking n g s
+unfolding anyMaking
+making-unknown n g s a b = rw (named-none n a b) refl

@@ -1,0 +1,54 @@
+-- Words of any kind: the kind word tells which store they are, and that store's own making and step are what is done.
+use Prim.Native.Nat.{ℕ}
+use mathlib.Core.Option.{Option, none, some}
+use lib.Dec.{eqb}
+use Rattle.calls.specs.declared.Call.{Call}
+use Rattle.calls.specs.declared.Reply.the-variants.{Refused}
+use Rattle.calls.specs.Base.{pick}
+use Rattle.calls.specs.Numbers.{KIND-NEW, KIND-OLD, DAMAGED}
+use Rattle.layout.specs.Layout.{kind}
+use Rattle.statement.specs.Machine.{State, Outcome, outcome, Given, Machine}
+use Rattle.publication_law.specs.Rules.{Rules, step, making}
+use Rattle.grace_version_law.specs.Steps as new-store
+use Rattle.two_phase_law.specs.Steps as old-store
+
+-- The kinds: the new store (GraceVersion) and the old one (Two-Phase with one publisher).
+pub data Name : Type 0 where
+  new : Name
+  old : Name
+
+-- What each of them fixes of making and of the ten calls.
+abbrev pub rulesOf : Name → Rules
+rulesOf new = new-store.rules
+rulesOf old = old-store.rules
+
+-- A kind's number, which its making stores as the kind word.
+abbrev pub number : Name → ℕ
+number new = KIND-NEW
+number old = KIND-OLD
+
+-- The kind that a number names: 1 new, 2 old, every other number none.
+unfoldable pub named : ℕ → Option Name
+named n = pick (eqb n KIND-NEW) (some new) (pick (eqb n KIND-OLD) (some old) none)
+
+-- A call is its kind's own step; words of no kind are spoiled, and every call on them gets 1.
+abbrev pub stepOf : Option Name → State → Call → Outcome
+stepOf none s c = outcome (Refused DAMAGED) s
+stepOf (some k) s c = step (rulesOf k) s c
+
+-- Each call takes the words, whatever kind they are, and hands them back with a reply.
+unfoldable pub anyStep : State → Call → Outcome
+anyStep s c = stepOf (named (kind (s .words))) s c
+
+-- Making is its kind's own; a kind that there is not gets 1 before all else, and words and entries stay as lent.
+abbrev pub makingOf : Option Name → Given → State → Outcome
+makingOf none g s = outcome (Refused DAMAGED) s
+makingOf (some k) g s = making (rulesOf k) g s
+
+-- Making a store of the kind with this number.
+unfoldable pub anyMaking : ℕ → Given → State → Outcome
+anyMaking n g s = makingOf (named n) g s
+
+-- What an executive has: a store made of the kind with this number, and calls that are told the kind by the kind word alone.
+abbrev pub store : ℕ → Machine
+store n = record { making = anyMaking n; step = anyStep }
