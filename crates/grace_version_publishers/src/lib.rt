@@ -1,6 +1,6 @@
 // Making, CLAIM, WRITE, SWAP, SYNC, RAISE and RELEASE of the new store, in place on the lent words and entries.
 // Each is total, and its contract is the step (or the making) of grace_version_law.
-// It uses grace_version_damage, publication and what lies below.
+// It uses grace_version_damage, the publication crates and what lies below.
 ghost use mathlib.Core.Path.{_≡_};
 ghost use Rattle.calls.specs.declared.Call.the-variants.{Claim, Write, Swap, Sync, Raise, Release};
 ghost use Rattle.statement.specs.Machine.{state, outcome, given};

@@ -1,5 +1,5 @@
 // ENTER, LOOK and LEAVE of the new store, in place on the lent words. Each is total, and its contract is the step of grace_version_law.
-// It uses grace_version_damage, publication and what lies below.
+// It uses grace_version_damage, publication_entries and what lies below.
 ghost use mathlib.Core.Path.{_≡_};
 ghost use Prim.Native.Nat.{_<_};
 ghost use Rattle.calls.specs.declared.Call.the-variants.{Enter, Look, Leave};

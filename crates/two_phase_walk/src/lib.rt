@@ -1,5 +1,5 @@
 // WALK of the old store, in place on the lent words. It is total, and its contract is the step of two_phase_law.
-// It uses two_phase_damage, publication and what lies below.
+// It uses two_phase_damage, publication_grace and what lies below.
 ghost use mathlib.Core.Path.{_≡_};
 ghost use Prim.Native.Nat.{_+_, _≤_};
 ghost use Rattle.calls.specs.declared.Call.the-variants.{Walk as WALK};
