@@ -72,7 +72,7 @@ whole = shows GraceVersion (given 1 1 2 0) (tableOf 0 1 (pos 100))
     (Made ∷ Swapped 0 ∷ Synced 1 ∷ Raised ∷ Walked (Returned 1 0) ∷ Freed 0 1 ∷ [])
 
 -- The examples of document 01 that are about the new store, and of those that name no kind; and one whole publication.
-pub examples : List Example
+unfoldable pub examples : List Example
 examples = P1 ∷ P2 ∷ P3 ∷ P4 ∷ P6 ∷ P7 ∷ P8 ∷ P8-below ∷ P9 GraceVersion ∷ P10 GraceVersion ∷ P11 ∷ P12 ∷ whole ∷ []
 
 -- The reply of P6's call, at the state that it starts from.

@@ -1,12 +1,29 @@
--- P1 to P12 as one list, with one proof that all hold; each starts at its making. Assumes nothing.
+-- P1 to P12 as one list of words of any kind, with one proof that all hold; each starts at its making. They are proved of each kind's own steps;
+-- each begins with an accepted making, so that the store of the kind's number gives the same replies. Assumes nothing.
+use mathlib.Core.Path.{refl}
 use mathlib.Core.List.{List, _++_}
+use Rattle.calls.specs.Numbers.{KIND-NEW, KIND-OLD}
 use Rattle.statement.specs.Examples.{Example, AllHold, all-hold-append}
+use Rattle.statement.specs.Alike.{allBy, AllBegin, all-hold-alike}
 use Rattle.grace_version_law.specs.Examples as new-store
 use Rattle.two_phase_law.specs.Examples as old-store
+use Rattle.kinds_law.specs.Kinds.{store}
+use Rattle.kinds_law.specs.Kinds.Name.{new, old}
+use Rattle.guarantees.specs.Named.{storeOf, alike}
 
 -- P1 to P4, P6 to P12 of the new store; P5, P6 and P9 to P11 of the old; and one whole publication of each.
 abbrev pub examples : List Example
-examples = new-store.examples ++ old-store.examples
+examples = allBy (store KIND-NEW) new-store.examples ++ allBy (store KIND-OLD) old-store.examples
+
+new-begin : AllBegin (storeOf new) new-store.examples
+unfolding new-store.examples
+new-begin = ((refl, refl), ((refl, refl), ((refl, refl), ((refl, refl), (refl, ((refl, refl), ((refl, refl), ((refl, refl), ((refl, refl), ((refl, refl), ((refl, refl), ((refl, refl), ((refl, refl), tt)))))))))))))
+
+old-begin : AllBegin (storeOf old) old-store.examples
+unfolding old-store.examples
+old-begin = ((refl, refl), (refl, ((refl, refl), ((refl, refl), ((refl, refl), ((refl, refl), tt))))))
 
 pub bench : AllHold examples
-bench = all-hold-append new-store.examples old-store.examples new-store.bench old-store.bench
+bench = all-hold-append (allBy (store KIND-NEW) new-store.examples) (allBy (store KIND-OLD) old-store.examples)
+    (all-hold-alike (storeOf new) (store KIND-NEW) (alike new) new-store.examples new-begin new-store.bench)
+    (all-hold-alike (storeOf old) (store KIND-OLD) (alike old) old-store.examples old-begin old-store.bench)

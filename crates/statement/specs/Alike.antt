@@ -1,23 +1,51 @@
 -- Two machines are alike if they have the same making, and the same steps on every state that the first reaches from a fresh one.
--- What is promised of the first after every list of calls is then true of the second: its events and states are the same ones. Assumes nothing.
+-- What is promised of the first after every list of calls is then true of the second: its events and states are the same ones; and so is every example
+-- that begins with an accepted making. Assumes nothing.
 use Prim.Native.Nat.{ℕ}
-use mathlib.Core.Path.{_≡_, refl, sym, _∙_}
+use mathlib.Core.Path.{_≡_, refl, sym, ap, _∙_}
+use mathlib.Core.Bool.{Bool, true, _&&_}
 use mathlib.Core.List.{List, [], _∷_}
 use lib.IntN.{ℤ}
 use Rattle.calls.specs.declared.Call.{Call}
 use Rattle.calls.specs.declared.Call.the-variants.{Enter, Look, Leave, Claim, Write, Swap, Sync, Raise, Walk, Release}
-use Rattle.calls.specs.Events.{Event}
+use Rattle.calls.specs.declared.Reply.{Reply}
+use Rattle.calls.specs.declared.Reply.the-variants.{Made, Left}
+use Rattle.calls.specs.Events.{Event, accepted}
 use Rattle.calls.specs.Events.Event.{_⇒_}
 use Rattle.calls.specs.Model.{Model}
 use Rattle.calls.specs.Told.{Told}
 use Rattle.calls.specs.Tally.{Tally}
-use Rattle.statement.specs.Machine.{State, Given, Machine, Fresh, events, afterAll}
+use Rattle.statement.specs.Machine.{State, Outcome, outcome, Given, Machine, Fresh, events, afterAll}
 use Rattle.statement.specs.Demand3.{Demand3}
 use Rattle.statement.specs.Companions.{Traits, MakingAccepts, StateCompanions, Companions}
+use Rattle.statement.specs.Examples.{lentFor, replies, repliesAfter, played, leadTo, Example, Holds, AllHold}
+use Rattle.statement.specs.Examples.Example.{shows, unchanged}
 
 pub record Alike (M N : Machine) : Type 0 where
   pub makings : (g : Given) (s : State) → N .making g s ≡ M .making g s
   pub steps : (s : State) → Fresh M s → (cs : List Call) (c : Call) → N .step (afterAll M s cs) c ≡ M .step (afterAll M s cs) c
+
+-- The same example of another machine.
+abbrev pub by : Machine → Example → Example
+by N (shows M g ds cs due) = shows N g ds cs due
+by N (unchanged M g ds c a) = unchanged N g ds c a
+
+abbrev pub allBy : Machine → List Example → List Example
+allBy N [] = []
+allBy N (x ∷ xs) = by N x ∷ allBy N xs
+
+abbrev firstReply : List Reply → Reply
+firstReply [] = Left
+firstReply (a ∷ rest) = a
+
+-- An example of M that begins with an accepted making.
+abbrev Begins : Machine → Example → Type 0
+Begins M (shows L g ds cs due) = (L ≡ M) × (firstReply due ≡ Made)
+Begins M (unchanged L g ds c a) = L ≡ M
+
+abbrev pub AllBegin : Machine → List Example → Type 0
+AllBegin M [] = Unit {0}
+AllBegin M (x ∷ xs) = Begins M x × AllBegin M xs
 
 module _ (M N : Machine) where
   -- From one state on: the steps are the same on every state that the first reaches from there.
@@ -31,6 +59,14 @@ module _ (M N : Machine) where
   events-same : (s : State) → Agree s → (cs : List Call) → events N s cs ≡ events M s cs
   events-same s e [] = refl
   events-same s e (c ∷ cs) = rw (e [] c, events-same (M .step s c .after) (λ ds d. e (c ∷ ds) d) cs) refl
+
+  replies-same : (s : State) → Agree s → (cs : List Call) → replies N s cs ≡ replies M s cs
+  replies-same s e [] = refl
+  replies-same s e (c ∷ cs) = rw (e [] c, replies-same (M .step s c .after) (λ ds d. e (c ∷ ds) d) cs) refl
+
+  led-same : (ok : Bool) (s : State) → Agree s → (ds cs : List Call) → repliesAfter N ok s ds cs ≡ repliesAfter M ok s ds cs
+  led-same ok s e [] cs = rw (replies-same s e cs) refl
+  led-same ok s e (d ∷ ds) cs = rw (e [] d) (led-same (ok && accepted (M .step s d .reply)) (M .step s d .after) (λ es c. e (d ∷ es) c) ds cs)
 
   state-same : (T : Traits) (g : Given) (h : Model) (t : Told) (y : Tally) (s : State) → ((c : Call) → N .step s c ≡ M .step s c) → StateCompanions M T g h t y s → StateCompanions N T g h t y s
   state-same T g h t y s e x = record {
@@ -83,3 +119,32 @@ module _ (M N : Machine) where
 
     pub making-accepts-alike : (T : Traits) → MakingAccepts M T → MakingAccepts N T
     making-accepts-alike T d g s = rw (A .makings g s) (d g s)
+
+    -- From an accepted making on: the same replies, and the same states.
+    made-fresh : (g : Given) (s : State) → M .making g s .reply ≡ Made → Fresh M (M .making g s .after)
+    made-fresh g s e = record { arguments = g; lent = s; made = ap (λ a. outcome a (M .making g s .after)) e }
+
+    played-alike : (g : Given) (ds cs : List Call) → M .making g (lentFor g) .reply ≡ Made → played N g ds cs ≡ played M g ds cs
+    played-alike g ds cs e =
+        rw (A .makings g (lentFor g), led-same true (M .making g (lentFor g) .after) (A .steps _ (made-fresh g (lentFor g) e)) ds cs) refl
+
+    lead-alike : (g : Given) (ds : List Call) → M .making g (lentFor g) .reply ≡ Made → leadTo N g ds ≡ leadTo M g ds
+    lead-alike g ds e = rw (A .makings g (lentFor g)) (after-same (M .making g (lentFor g) .after) (A .steps _ (made-fresh g (lentFor g) e)) ds)
+
+    shows-alike : (g : Given) (ds cs : List Call) (due : List Reply) → firstReply due ≡ Made → played M g ds cs ≡ due → played N g ds cs ≡ due
+    shows-alike g ds cs due e h = played-alike g ds cs (ap firstReply h ∙ e) ∙ h
+
+    unchanged-alike : (g : Given) (ds : List Call) (c : Call) (a : Reply) → Holds (unchanged M g ds c a) → Holds (unchanged N g ds c a)
+    unchanged-alike g ds c a h =
+        let e = ap firstReply (h .0) in (
+          played-alike g ds (c ∷ []) e ∙ h .0,
+          rw (lead-alike g ds e, A .steps _ (made-fresh g (lentFor g) e) ds c) (h .1),
+        )
+
+    holds-alike : (x : Example) → Begins M x → Holds x → Holds (by N x)
+    holds-alike (shows L g ds cs due) b h = shows-alike g ds cs due (b .1) (rw (b .0) at h)
+    holds-alike (unchanged L g ds c a) b h = unchanged-alike g ds c a (rw b at h)
+
+    pub all-hold-alike : (xs : List Example) → AllBegin M xs → AllHold xs → AllHold (allBy N xs)
+    all-hold-alike [] b h = tt
+    all-hold-alike (x ∷ xs) b h = (holds-alike x (b .0) (h .0), all-hold-alike xs (b .1) (h .1))

@@ -38,7 +38,7 @@ whole = shows TwoPhase (given 1 1 2 0) (tableOf 0 1 (pos 100))
     (Made ∷ Swapped 0 ∷ Synced 1 ∷ Walked Quiet ∷ Raised ∷ Walked (Returned 2 0) ∷ Freed 0 1 ∷ [])
 
 -- The examples of document 01 that are about the old store, and of those that name no kind; and one whole publication.
-pub examples : List Example
+unfoldable pub examples : List Example
 examples = P5 ∷ P6 ∷ P9 TwoPhase ∷ P10 TwoPhase ∷ P11 ∷ whole ∷ []
 
 p5 : Holds P5

@@ -17,10 +17,10 @@ kind-of-requires : tie.Need-kind-of-requires
 kind-of-requires c κs = search needs
 
 enter-requires : tie.Need-enter-requires
-enter-requires c κs = search needs
+enter-requires c κs = tt
 
 enter-requires-2 : tie.Need-enter-requires-2
-enter-requires-2 c κs = search needs
+enter-requires-2 c κs = tt
 
 same-length : tie.Need-same-length
 same-length c = search needs

@@ -17,10 +17,10 @@ kind-of-requires : tie.Need-kind-of-requires
 kind-of-requires c κs = search needs
 
 leave-requires : tie.Need-leave-requires
-leave-requires c κs = search needs
+leave-requires c κs = tt
 
 leave-requires-2 : tie.Need-leave-requires-2
-leave-requires-2 c κs = search needs
+leave-requires-2 c κs = tt
 
 same-length : tie.Need-same-length
 same-length c = search needs

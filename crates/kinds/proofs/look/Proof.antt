@@ -17,10 +17,10 @@ kind-of-requires : tie.Need-kind-of-requires
 kind-of-requires c κs = search needs
 
 look-requires : tie.Need-look-requires
-look-requires c κs = search needs
+look-requires c κs = tt
 
 look-requires-2 : tie.Need-look-requires-2
-look-requires-2 c κs = search needs
+look-requires-2 c κs = tt
 
 returns-2 : tie.Need-returns-2
 returns-2 c = c .look .ensures ∙ step-new _ (Look _ _) (sym (c .before .before .kind-of .ensures) ∙ c .before .match .keys1)

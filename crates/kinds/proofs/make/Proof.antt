@@ -9,10 +9,10 @@ use Rattle.kinds.proofs.make.Lts as lts
 use Rattle.grace_version_publishers.proofs.make.Reads as make-reads
 
 make-requires : tie.Need-make-requires
-make-requires c κs = search needs
+make-requires c κs = tt
 
 make-requires-2 : tie.Need-make-requires-2
-make-requires-2 c κs = search needs
+make-requires-2 c κs = tt
 
 same-length : tie.Need-same-length
 same-length c = search needs

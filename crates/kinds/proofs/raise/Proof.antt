@@ -17,10 +17,10 @@ kind-of-requires : tie.Need-kind-of-requires
 kind-of-requires c κs = search needs
 
 raise-requires : tie.Need-raise-requires
-raise-requires c κs = search needs
+raise-requires c κs = tt
 
 raise-requires-2 : tie.Need-raise-requires-2
-raise-requires-2 c κs = search needs
+raise-requires-2 c κs = tt
 
 same-length : tie.Need-same-length
 same-length c = search needs

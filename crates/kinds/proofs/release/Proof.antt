@@ -17,10 +17,10 @@ kind-of-requires : tie.Need-kind-of-requires
 kind-of-requires c κs = search needs
 
 release-requires : tie.Need-release-requires
-release-requires c κs = search needs
+release-requires c κs = tt
 
 release-requires-2 : tie.Need-release-requires-2
-release-requires-2 c κs = search needs
+release-requires-2 c κs = tt
 
 same-length : tie.Need-same-length
 same-length c = search needs

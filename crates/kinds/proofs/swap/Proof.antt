@@ -17,10 +17,10 @@ kind-of-requires : tie.Need-kind-of-requires
 kind-of-requires c κs = search needs
 
 swap-requires : tie.Need-swap-requires
-swap-requires c κs = search needs
+swap-requires c κs = tt
 
 swap-requires-2 : tie.Need-swap-requires-2
-swap-requires-2 c κs = search needs
+swap-requires-2 c κs = tt
 
 same-length : tie.Need-same-length
 same-length c = search needs

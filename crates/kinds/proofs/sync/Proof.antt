@@ -17,10 +17,10 @@ kind-of-requires : tie.Need-kind-of-requires
 kind-of-requires c κs = search needs
 
 sync-requires : tie.Need-sync-requires
-sync-requires c κs = search needs
+sync-requires c κs = tt
 
 sync-requires-2 : tie.Need-sync-requires-2
-sync-requires-2 c κs = search needs
+sync-requires-2 c κs = tt
 
 same-length : tie.Need-same-length
 same-length c = search needs
