@@ -1,7 +1,7 @@
 -- Demands 1 and 3 on the steps, and the companions, for words of any kind: `store n` has the making of the kind with number n and the steps that
 -- the kind word tells, which are the steps that the contracts of `kinds` cite. Assumes nothing.
 use Prim.Native.Nat.{ℕ}
-use mathlib.Core.Path.{_≡_, refl, sym, ap, _∙_}
+use mathlib.Core.Path.{_≡_}
 use mathlib.Core.Bool.{true, false}
 use mathlib.Core.List.{List}
 use lib.IntN.{ℤ, pos}

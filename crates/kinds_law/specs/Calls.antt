@@ -1,24 +1,21 @@
 -- What a call and a making for words of any kind come to, from what is known of the kind word, of the kind's number or of the words' length.
 -- Assumes nothing.
 use Prim.Native.Nat.{ℕ}
-use mathlib.Core.Path.{_≡_, refl, sym, ap, _∙_}
+use mathlib.Core.Path.{_≡_, refl, sym}
 use mathlib.Core.Logic.{_≢_}
-use mathlib.Core.Bool.{Bool, true, false, not, _||_}
 use mathlib.Core.Option.{Option, none, some}
 use lib.ListN.{length}
-use lib.Dec.{eqb}
-use borrow.Author.Tests.{eqb-true, ne-eqb}
+use borrow.Author.Tests.{ne-eqb}
 use Rattle.calls.specs.declared.Call.{Call}
 use Rattle.calls.specs.declared.Reply.the-variants.{Refused}
-use Rattle.calls.specs.Base.{pick}
 use Rattle.calls.specs.Numbers.{KIND-NEW, KIND-OLD, DAMAGED}
 use Rattle.layout.specs.Layout.{WORDS, kind}
 use Rattle.statement.specs.Machine.{State, outcome, Given}
-use Rattle.publication_law.specs.Rules.{Rules, damaged, step, making}
+use Rattle.publication_law.specs.Rules.{step, making}
 use Rattle.publication_law.specs.Calls.{step-damaged, damaged-head}
 use Rattle.grace_version_law.specs.Steps as new-store
 use Rattle.two_phase_law.specs.Steps as old-store
-use Rattle.kinds_law.specs.Kinds.{Name, rulesOf, number, named, stepOf, anyStep, makingOf, anyMaking}
+use Rattle.kinds_law.specs.Kinds.{Name, rulesOf, number, named, stepOf, anyStep, anyMaking}
 use Rattle.kinds_law.specs.Kinds.Name.{new, old}
 
 -- A kind's number names it, and it is the number in the kind's own damage test.

@@ -1,7 +1,6 @@
 -- Two machines are alike if they have the same making, and the same steps on every state that the first reaches from a fresh one.
 -- What is promised of the first after every list of calls is then true of the second: its events and states are the same ones; and so is every example
 -- that begins with an accepted making. Assumes nothing.
-use Prim.Native.Nat.{ℕ}
 use mathlib.Core.Path.{_≡_, refl, sym, ap, _∙_}
 use mathlib.Core.Bool.{Bool, true, _&&_}
 use mathlib.Core.List.{List, [], _∷_}
@@ -10,12 +9,11 @@ use Rattle.calls.specs.declared.Call.{Call}
 use Rattle.calls.specs.declared.Call.the-variants.{Enter, Look, Leave, Claim, Write, Swap, Sync, Raise, Walk, Release}
 use Rattle.calls.specs.declared.Reply.{Reply}
 use Rattle.calls.specs.declared.Reply.the-variants.{Made, Left}
-use Rattle.calls.specs.Events.{Event, accepted}
-use Rattle.calls.specs.Events.Event.{_⇒_}
+use Rattle.calls.specs.Events.{accepted}
 use Rattle.calls.specs.Model.{Model}
 use Rattle.calls.specs.Told.{Told}
 use Rattle.calls.specs.Tally.{Tally}
-use Rattle.statement.specs.Machine.{State, Outcome, outcome, Given, Machine, Fresh, events, afterAll}
+use Rattle.statement.specs.Machine.{State, outcome, Given, Machine, Fresh, events, afterAll}
 use Rattle.statement.specs.Demand3.{Demand3}
 use Rattle.statement.specs.Companions.{Traits, MakingAccepts, StateCompanions, Companions}
 use Rattle.statement.specs.Examples.{lentFor, replies, repliesAfter, played, leadTo, Example, Holds, AllHold}
