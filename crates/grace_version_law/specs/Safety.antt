@@ -16,7 +16,7 @@ use Rattle.calls.specs.declared.WalkReply.the-variants.{Waiting, Spent, Quiet, 
 use Rattle.calls.specs.Base.{upd}
 use Rattle.calls.specs.Numbers.{READERS-MAX, PUBLISHERS-MAX, KIND-NEW}
 use Rattle.calls.specs.Rows.{anyTrue}
-use Rattle.calls.specs.RowLaws.{clash, by-test, and-false, and-not, or-false, neither, all-false, none-true, pick-split, same, at-or, AllClear, AllFalse}
+use Rattle.calls.specs.RowLaws.{clash, by-test, or-none, and-false, and-not, or-false, all-false, none-true, pick-split, same, at-or, AllClear, AllFalse}
 use Rattle.calls.specs.Model.{shelve, firstTable}
 use Rattle.calls.specs.Told.{tell}
 use Rattle.layout.specs.declared.Reader.{Reader}
@@ -29,7 +29,7 @@ use Rattle.statement.specs.Kept.{Pend, Ghost, ghost₀, Back}
 use Rattle.statement.specs.Kept as kept
 use Rattle.publication_law.specs.Steps.{reader, publisher, atPlace, enterTests, leaveTests, syncTests, sync, raise, walked, walk, newWalk, placeAfter, made}
 use Rattle.publication_law.specs.Damage.{publisherRows}
-use Rattle.publication_law.specs.DamageLaws.{PublisherFine, publisher-to, reader-below, publisher-below}
+use Rattle.publication_law.specs.DamageLaws.{reader-below, publisher-below}
 use Rattle.publication_law.specs.Core.{Core, enter-below, enter-open, enter-pick, leave-core}
 use Rattle.publication_law.specs.Core.Hold.{by-swap}
 use Rattle.publication_law.specs.Grace.{enter-grace, leave-grace}
@@ -37,17 +37,41 @@ use Rattle.publication_law.specs.Tallied.{place-tallied}
 use Rattle.publication_law.specs.Entries.{slotEntry}
 use Rattle.publication_law.specs.Moves.{MovesPublisher, moves-publisher, moves-head, moves-reader}
 use Rattle.publication_law.specs.Invariant.{formers, CoreOf, reader-moved}
-use Rattle.publication_law.specs.Keeps.{KindLaw, up-to-law, publisher-fine, sync-keeps, raise-keeps, walk-keeps, syncing-in-order}
+use Rattle.publication_law.specs.KindLaw.{KindLaw, up-to-law}
+use Rattle.publication_law.specs.Keeps.{publisher-fine, sync-keeps, raise-keeps, walk-keeps, syncing-in-order}
 use Rattle.publication_law.specs.Rules.{traitsOf}
 use Rattle.publication_law.specs.Lawful.{Good, Lawful}
 use Rattle.grace_version_law.specs.Steps.{LAST, versions, kind, readerRows, ownRows, onward, entered, leaving, lookedAt, looksOf, looksFrom, freshReader, rules}
 use Rattle.grace_version_law.specs.Walks.{lookedAt-all, Ends, Looked, looked}
 
-pub law : KindLaw kind
+-- What the kind adds to a publisher's rows, from facts and to them.
+pub own-clear : (rs : ℕ) (y : Publisher) → y .place ≤ 38 → y .place ≢ 36 → (35 ≤ y .place → y .place ≤ 37 → y .walk .next < rs) → anyTrue (ownRows rs y) ≡ false
+own-clear rs y high ne below = none-true (ownRows rs y) (
+  le-ltb 38 (y .place) high,
+  (
+    ne-eqb (y .place) 36 ne,
+    (and-not (eqb (y .place) 35 || eqb (y .place) 37) (leb rs (y .walk .next)) (λ e. lt-leb rs (y .walk .next) (by-place (eqb (y .place) 35) refl (eqb (y .place) 37) refl e)), tt),
+  ),
+)
+  where
+    by-place : (a : Bool) → eqb (y .place) 35 ≡ a → (b : Bool) → eqb (y .place) 37 ≡ b → (a || b) ≡ true → y .walk .next < rs
+    by-place true d b e t = below (omega (arith, eqb-true (y .place) 35 d)) (omega (arith, eqb-true (y .place) 35 d))
+    by-place false d true e t = below (omega (arith, eqb-true (y .place) 37 e)) (omega (arith, eqb-true (y .place) 37 e))
+    by-place false d false e t = clash (sym t)
+
+pub next-below : (rs ss : ℕ) (y : Publisher) → kind .publisherDamaged rs ss y ≡ false → (eqb (y .place) 35 || eqb (y .place) 37) ≡ true → y .walk .next < rs
+next-below rs ss y e t =
+    let f = all-false (ownRows rs y) (or-false (anyTrue (ownRows rs y)) (anyTrue (publisherRows versions ss y)) e .0) in
+    leb-false rs (y .walk .next) (and-false (eqb (y .place) 35 || eqb (y .place) 37) (leb rs (y .walk .next)) (f .1 .1 .0) t)
+
+abbrev pub law : KindLaw kind
 law = record {
-  shared-rows = λ rs ss y e. or-false (anyTrue (ownRows rs y)) (anyTrue (publisherRows versions ss y)) e .1;
   versions-law = up-to-law LAST;
-  places = λ rs ss y e. ltb-false 38 (y .place) (all-false (ownRows rs y) (or-false (anyTrue (ownRows rs y)) (anyTrue (publisherRows versions ss y)) e .0) .0);
+  reader-picked = λ ss x e. rw e (or-none (leb ss (x .picked)));
+  own = λ rs y. anyTrue (ownRows rs y);
+  own-rows = λ rs ss y. refl;
+  own-early = λ rs y l. own-clear rs y (omega arith) (λ e. omega arith) (λ a b. absurd (omega arith));
+  own-beyond = λ rs y e. ltb-false 38 (y .place) (all-false (ownRows rs y) e .0);
 }
 
 -- The kind's own numbers: what readers published, and which of them a walk has still to pass.
@@ -69,34 +93,6 @@ pub record Own (w : Pend) (ver n : ℕ) (R : ℕ → Reader) (P : ℕ → Publis
 
 abbrev pub OwnOf : Ghost → State → Type 0
 OwnOf g s = Own (g .pend) (version (s .words)) (readers (s .words)) (readerAt (s .words)) (publisherAt (s .words))
-
--- The damage test of a publisher, from facts and to them.
-pub publisher-fits : (rs ss : ℕ) (y : Publisher) → y .place ≤ 38 → y .place ≢ 36 → (35 ≤ y .place → y .place ≤ 37 → y .walk .next < rs) → PublisherFine versions ss y
-    → kind .publisherDamaged rs ss y ≡ false
-publisher-fits rs ss y high ne below f = neither (anyTrue (ownRows rs y)) (anyTrue (publisherRows versions ss y))
-    (none-true (ownRows rs y) (
-      le-ltb 38 (y .place) high,
-      (
-        ne-eqb (y .place) 36 ne,
-        (and-not (eqb (y .place) 35 || eqb (y .place) 37) (leb rs (y .walk .next)) (λ e. lt-leb rs (y .walk .next) (by-place (eqb (y .place) 35) refl (eqb (y .place) 37) refl e)), tt),
-      ),
-    ))
-    (publisher-to versions ss y f)
-  where
-    by-place : (a : Bool) → eqb (y .place) 35 ≡ a → (b : Bool) → eqb (y .place) 37 ≡ b → (a || b) ≡ true → y .walk .next < rs
-    by-place true d b e t = below (omega (arith, eqb-true (y .place) 35 d)) (omega (arith, eqb-true (y .place) 35 d))
-    by-place false d true e t = below (omega (arith, eqb-true (y .place) 37 e)) (omega (arith, eqb-true (y .place) 37 e))
-    by-place false d false e t = clash (sym t)
-
--- Below 35 only the held slot is tested.
-early-fits : (rs ss : ℕ) (y : Publisher) → y .place ≤ 34 → (1 ≤ y .place → y .held < ss) → kind .publisherDamaged rs ss y ≡ false
-early-fits rs ss y high held = publisher-fits rs ss y (omega arith) (λ e. omega arith) (λ a b. absurd (omega arith))
-    (record { held-below = held; mark-fits = λ l. absurd (omega arith); waits-low = λ l. absurd (omega arith) })
-
-pub next-below : (rs ss : ℕ) (y : Publisher) → kind .publisherDamaged rs ss y ≡ false → (eqb (y .place) 35 || eqb (y .place) 37) ≡ true → y .walk .next < rs
-next-below rs ss y e t =
-    let f = all-false (ownRows rs y) (or-false (anyTrue (ownRows rs y)) (anyTrue (publisherRows versions ss y)) e .0) in
-    leb-false rs (y .walk .next) (and-false (eqb (y .place) 35 || eqb (y .place) 37) (leb rs (y .walk .next)) (f .1 .1 .0) t)
 
 -- ENTER, by the place.
 module _ (ver cur : ℕ) where
@@ -223,12 +219,7 @@ module _ (z : Given) (g : Ghost) (s : State) (i : Good kind OwnOf z g s) where
       let h = i .shared .fine .head in
       let m = moves-publisher (s .words) p (record { place = 35; held = publisher s p .held; walk = newWalk (version (s .words) + 1) }) (h .long) (p16 p lt) in record {
         shared = sync-keeps kind law z g s (i .shared) p f
-            (publisher-fits (readers (s .words)) (slots (s .words)) (record { place = 35; held = publisher s p .held; walk = newWalk (version (s .words) + 1) }) (omega arith) (λ e. omega arith) (λ a b. omega (arith, h .readers-low))
-            (record {
-              held-below = λ _. publisher-fine kind law z g s (i .shared) p lt .held-below (omega arith);
-              mark-fits = λ l. law .versions-law .mark-fits (version (s .words)) (h .version-fits) (f .1 .1 .0);
-              waits-low = λ l. omega arith;
-            }));
+            (own-clear (readers (s .words)) (record { place = 35; held = publisher s p .held; walk = newWalk (version (s .words) + 1) }) (omega arith) (λ e. omega arith) (λ a b. omega (arith, h .readers-low)));
         own = rw (m .version-is, m .head READERS-AT (omega arith), m .readers-stay, m .publishers-are)
             (publisher-own _ _ _ _ _ (i .own) p _ _ _ (omega arith) (λ q r e. rw e refl)
             (λ r. rw (same p) (λ e. let l = leb-true 4 (reader s r .place) (sym (i .shared .core .readers r .inside-is) ∙ e) in
@@ -236,8 +227,8 @@ module _ (z : Given) (g : Ghost) (s : State) (i : Good kind OwnOf z g s) where
             (λ l. refl));
       }
 
-  raise-own : (p : ℕ) → p < publishers (s .words) → publisher s p .place ≡ 35 → eqb (publisher s p .walk .mark) 0 ≡ false → OwnOf g (raise versions s p .after)
-  raise-own p lt at35 some-mark = pick-split (λ (o : Outcome). OwnOf g (o .after)) (eqb (version (s .words)) (versions .beforeMark (publisher s p .walk .mark)))
+  raise-own : (p : ℕ) → p < publishers (s .words) → publisher s p .place ≡ 35 → OwnOf g (raise versions s p .after)
+  raise-own p lt at35 = pick-split (λ (o : Outcome). OwnOf g (o .after)) (eqb (version (s .words)) (versions .beforeMark (publisher s p .walk .mark)))
       (λ e. let m = moves-head (s .words) _ p _ _ _ _ (moves-publisher (s .words) p (atPlace (publisher s p) 37) (i .shared .fine .head .long) (p16 p lt)) (i .shared .fine .head .long) VERSION-AT (publisher s p .walk .mark) (omega arith) (omega arith) in
       rw (m .version-is, m .head READERS-AT (omega arith), m .readers-stay, m .publishers-are)
       (publisher-own _ _ _ _ _ (i .own) p _ _ _ (omega (arith, eqb-true (version (s .words)) (publisher s p .walk .mark - 1) e)) (λ q r d. refl) (i .own .behind p) (λ l. i .own .counted p (omega arith))))
@@ -247,14 +238,10 @@ module _ (z : Given) (g : Ghost) (s : State) (i : Good kind OwnOf z g s) where
 
   raise-kept : (p : ℕ) → p < publishers (s .words) → eqb (publisher s p .place) 35 ≡ true → Good kind OwnOf z g (raise versions s p .after)
   raise-kept p lt turn =
-      let at35 = eqb-true (publisher s p .place) 35 turn in
-      let pf = publisher-fine kind law z g s (i .shared) p lt in
-      let some-mark : eqb (publisher s p .walk .mark) 0 ≡ false = or-false (eqb (publisher s p .walk .mark) 0) (ltb LAST (publisher s p .walk .mark)) (pf .mark-fits (omega arith)) .0 in record {
+      let at35 = eqb-true (publisher s p .place) 35 turn in record {
         shared = raise-keeps kind law z g s (i .shared) p lt (omega arith) (omega arith)
-            (publisher-fits (readers (s .words)) (slots (s .words)) (atPlace (publisher s p) 37) (omega arith) (λ e. omega arith)
-            (λ a b. next-below _ _ (publisher s p) (i .shared .fine .publishers-fine p lt) (rw at35 refl))
-            (record { held-below = λ _. pf .held-below (omega arith); mark-fits = λ _. pf .mark-fits (omega arith); waits-low = λ _. pf .waits-low (omega arith) }));
-        own = raise-own p lt at35 some-mark;
+            (own-clear (readers (s .words)) (atPlace (publisher s p) 37) (omega arith) (λ e. omega arith) (λ a b. next-below _ _ (publisher s p) (i .shared .fine .publishers-fine p lt) (rw at35 refl)));
+        own = raise-own p lt at35;
       }
 
   -- A walk from the numbers of publisher p.
@@ -289,23 +276,22 @@ module _ (z : Given) (g : Ghost) (s : State) (i : Good kind OwnOf z g s) where
     returned-all Quiet nx lk wt e z = absurd e
     returned-all (Returned l u) nx lk wt e z = e .0
 
-    after-fits : (o : WalkReply) (nx lk wt : ℕ) → EndsHere nx lk wt o → wt ≤ lk → versions .wrongMark (looksOf s (publisher s p .walk) b .walk .mark) ≡ false
-        → kind .publisherDamaged (readers (s .words)) (slots (s .words)) (record { place = placeAfter 37 o; held = publisher s p .held; walk = record { mark = looksOf s (publisher s p .walk) b .walk .mark; next = nx; looks = lk; waits = wt } }) ≡ false
-    after-fits (Waiting r) nx lk wt e l mk = publisher-fits (readers (s .words)) (slots (s .words)) (record { place = 37; held = publisher s p .held; walk = record { mark = looksOf s (publisher s p .walk) b .walk .mark; next = nx; looks = lk; waits = wt } }) (omega arith) (λ z. omega arith) (λ c d. e .0) (record { held-below = λ _. publisher-fine kind law z g s (i .shared) p lt .held-below (omega arith); mark-fits = λ _. mk; waits-low = λ _. l })
-    after-fits Spent nx lk wt e l mk = publisher-fits (readers (s .words)) (slots (s .words)) (record { place = 37; held = publisher s p .held; walk = record { mark = looksOf s (publisher s p .walk) b .walk .mark; next = nx; looks = lk; waits = wt } }) (omega arith) (λ z. omega arith) (λ c d. e .0) (record { held-below = λ _. publisher-fine kind law z g s (i .shared) p lt .held-below (omega arith); mark-fits = λ _. mk; waits-low = λ _. l })
-    after-fits Quiet nx lk wt e l mk = absurd e
-    after-fits (Returned a c) nx lk wt e l mk = publisher-fits (readers (s .words)) (slots (s .words)) (record { place = 38; held = publisher s p .held; walk = record { mark = looksOf s (publisher s p .walk) b .walk .mark; next = nx; looks = lk; waits = wt } }) (omega arith) (λ z. omega arith) (λ c d. absurd (omega arith)) (record { held-below = λ _. publisher-fine kind law z g s (i .shared) p lt .held-below (omega arith); mark-fits = λ _. mk; waits-low = λ _. l })
+    after-clear : (o : WalkReply) (k : WalkNumbers) → EndsHere (k .next) (k .looks) (k .waits) o → anyTrue (ownRows (readers (s .words)) (record { place = placeAfter 37 o; held = publisher s p .held; walk = k })) ≡ false
+    after-clear (Waiting r) k e = own-clear (readers (s .words)) (record { place = 37; held = publisher s p .held; walk = k }) (omega arith) (λ z. omega arith) (λ c d. e .0)
+    after-clear Spent k e = own-clear (readers (s .words)) (record { place = 37; held = publisher s p .held; walk = k }) (omega arith) (λ z. omega arith) (λ c d. e .0)
+    after-clear Quiet k e = absurd e
+    after-clear (Returned a c) k e = own-clear (readers (s .words)) (record { place = 38; held = publisher s p .held; walk = k }) (omega arith) (λ z. omega arith) (λ c d. absurd (omega arith))
 
     walk-kept : Good kind OwnOf z (kept.advance g (Walk p b) (Walked (looksOf s (publisher s p .walk) b .reply))) (walk s p (looksOf s (publisher s p .walk) b) .after)
     walk-kept =
         let pf = publisher-fine kind law z g s (i .shared) p lt in
         let k = looksOf s (publisher s p .walk) b in
-        let wl : k .walk .waits ≤ k .walk .looks = omega (arith, came .counted, came .ahead, pf .waits-low (omega arith)) in
         let m = moves-publisher (s .words) p (walked (publisher s p) k) (i .shared .fine .head .long) (p16 p lt) in record {
           shared = walk-keeps kind law z g s (i .shared) p b lt (omega arith) (omega arith) k
               (λ e. none-pending (returned-all (k .reply) _ _ _ (came .ends) (rw at37 at e)))
               (came .waits-are)
-              (rw at37 (after-fits (k .reply) _ _ _ (came .ends) wl (rw (came .mark-same) (pf .mark-fits (omega arith)))));
+              (came .mark-same) (omega (arith, came .counted, came .ahead, pf .waits-low (omega arith)))
+              (rw at37 (after-clear (k .reply) (k .walk) (came .ends)));
           own = rw (m .version-is, m .head READERS-AT (omega arith), m .readers-stay, m .publishers-are)
               (publisher-own _ _ _ _ _ (i .own) p _ _ _ (omega arith) (λ q r e. refl) still-behind (λ _. omega (arith, came .counted, i .own .counted p (omega arith))));
         }
@@ -375,9 +361,7 @@ lawful = record {
   start-own = λ z s f. start-own z s;
   fresh-out = (refl, refl);
   fresh-reader-fits = λ ss. refl;
-  fresh-publisher-fits = λ rs ss. refl;
   no-further = λ z g s i. refl;
-  early-fits = early-fits;
   early-own = early-own;
   enter-moves = λ s f r l. moves-reader (s .words) r (entered s r) (f .head .long) (omega (arith, f .head .readers-high));
   leave-moves = λ s f r l. moves-reader (s .words) r (leaving (reader s r)) (f .head .long) (omega (arith, f .head .readers-high));

@@ -2,7 +2,7 @@
 -- Assumes nothing.
 use native.Mathlib.Omega.{arith}
 use Prim.Native.Nat.{ℕ, _+_, _*_, _-_, _%_, _<_, _≤_}
-use mathlib.Core.Path.{_≡_, refl, sym}
+use mathlib.Core.Path.{_≡_, refl, sym, _∙_}
 use mathlib.Core.Logic.{_≢_}
 use mathlib.Core.Bool.{Bool, true, false, not, _&&_, _||_}
 use mathlib.Core.List.{List}
@@ -12,6 +12,7 @@ use lib.ListN.{getD, set, length, replicate}
 use lib.Dec.{ltb, eqb}
 use borrow.Author.Tests.{eqb-true, eqb-false, eq-eqb, ne-eqb, lt-leb, lt-ltb, le-ltb, not-false}
 use Rattle.calls.specs.declared.Call.{Call}
+use Rattle.calls.specs.declared.Call.the-variants.{Enter, Leave, Raise, Walk}
 use Rattle.calls.specs.declared.Reply.the-variants.{Made, Pitch, Claimed, Written, Swapped, Synced, Raised, Shared, Walked, Freed, Refused}
 use Rattle.calls.specs.Numbers.{TABLE, FEATHERED, PITCH-LOW, PITCH-HIGH, MODULUS, NUMBER-MAX, DAMAGED}
 use Rattle.calls.specs.Rows.{firstOf, anyTrue}
@@ -20,12 +21,12 @@ use Rattle.layout.specs.declared.Reader.{Reader}
 use Rattle.layout.specs.declared.Publisher.{Publisher}
 use Rattle.layout.specs.declared.Progress.{Progress}
 use Rattle.layout.specs.Layout.{WORDS, readers, publishers, slots, current, version, releases, readerAt, publisherAt, withPublisher, withCurrent, withVersion, withReleases, entryAt, fresh}
-use Rattle.statement.specs.Machine.{State, state, outcome, given}
-use Rattle.publication_law.specs.Steps.{Versions, upTo, decide, atPlace, newWalk, anotherBusy, inUse, lookTests, look, claimTests, claim, writeTests, write, swapTests, swap, syncTests, sync, raise, placeAfter, walk, releaseTests, release, makingTests, made}
+use Rattle.statement.specs.Machine.{State, state, Outcome, outcome, given}
+use Rattle.publication_law.specs.Steps.{Versions, upTo, decide, reader, publisher, atPlace, newWalk, anotherBusy, inUse, lookTests, look, claimTests, claim, writeTests, write, swapTests, swap, syncTests, sync, raise, placeAfter, walk, releaseTests, release, makingTests, made}
 use Rattle.publication_law.specs.Damage.{headRows, sharedDamage, readersTest, publishersTest}
 use Rattle.publication_law.specs.DamageLaws.{Fine, fine-of, tests-shared, readers-test-fine, publishers-test-fine}
 use Rattle.publication_law.specs.Decide.{decide-accepts}
-use Rattle.publication_law.specs.Rules.{Rules, damaged, tests, act, rows, step}
+use Rattle.publication_law.specs.Rules.{Rules, damaged, tests, act, step}
 
 -- A call of a damaged store, and of one that is not.
 pub step-damaged : (R : Rules) (s : State) (c : Call) → damaged R s ≡ true → outcome (Refused DAMAGED) s ≡ step R s c
@@ -70,6 +71,24 @@ module _ (R : Rules) (s : State) where
 
   pub damaged-further : R .further s ≡ true → damaged R s ≡ true
   damaged-further = unless (R .further s) undamaged-further
+
+-- ENTER below 5 and LEAVE at 4 and 5.
+module _ (R : Rules) (s : State) (clean : damaged R s ≡ false) (r : ℕ) (x : Reader) (named : r < readers (s .words)) (is : x ≡ reader s r) where
+  pub enter-accepted : x .place < 5 → act R s (Enter r) ≡ step R s (Enter r)
+  enter-accepted turn = sym (decide-accepts (tests R s (Enter r)) (act R s (Enter r)) s (lt-leb _ _ named, (lt-leb 5 _ (rw is at turn), tt))) ∙ step-undamaged R s (Enter r) clean
+
+  pub leave-accepted : 4 ≤ x .place → act R s (Leave r) ≡ step R s (Leave r)
+  leave-accepted turn = sym (decide-accepts (tests R s (Leave r)) (act R s (Leave r)) s (lt-leb _ _ named, (le-ltb _ 4 (rw is at turn), tt))) ∙ step-undamaged R s (Leave r) clean
+
+-- RAISE and WALK, at a place that the kind allows.
+module _ (R : Rules) (s : State) (clean : damaged R s ≡ false) (o : Outcome) (p : ℕ) (y : Publisher) (named : p < publishers (s .words)) (is : y ≡ publisher s p) where
+  pub raise-is : R .raisesAt (y .place) ≡ true → o ≡ raise (R .kind .versions) s p → o ≡ step R s (Raise p)
+  raise-is turn e =
+      e ∙ sym (decide-accepts (tests R s (Raise p)) (act R s (Raise p)) s (lt-leb _ _ named, (negated _ (rw is at turn), tt))) ∙ step-undamaged R s (Raise p) clean
+
+  pub walk-is : (b : ℕ) (k : Progress) → R .walksAt (y .place) ≡ true → y .walk .looks + b ≤ NUMBER-MAX → k ≡ R .looks s p b → o ≡ walk s p k → o ≡ step R s (Walk p b)
+  walk-is b k turn room looks e =
+      e ∙ rw looks (sym (decide-accepts (tests R s (Walk p b)) (act R s (Walk p b)) s (lt-leb _ _ named, (negated _ (rw is at turn), (le-ltb _ _ (rw is at room), tt)))) ∙ step-undamaged R s (Walk p b) clean)
 
 -- Up to the version before the last a SYNC is allowed, and its mark does not run over.
 pub last-is : (last v : ℕ) → 1 ≤ last → v ≤ last → upTo last .isLast v ≡ ltb (last - 1) v

@@ -9,15 +9,14 @@ use mathlib.Core.Option.{some}
 use lib.IntN.{ℤ, pos}
 use lib.ListN.{getD, set, length, length-set, replicate, length-replicate}
 use lib.Dec.{ltb, eqb}
-use borrow.Author.Tests.{eqb-true, eqb-false, ne-eqb, leb-false, le-leb, ltb-false, lt-ltb, le-ltb, not-true, not-false}
+use borrow.Author.Tests.{eqb-true, eqb-false, leb-false, le-leb, ltb-false, lt-ltb, not-true, not-false}
 use Rattle.calls.specs.declared.Call.the-variants.{Claim, Write, Swap, Sync, Raise, Walk, Release}
 use Rattle.calls.specs.declared.Reply.the-variants.{Claimed, Written, Swapped, Synced, Walked, Freed}
 use Rattle.calls.specs.declared.WalkReply.{WalkReply}
 use Rattle.calls.specs.declared.WalkReply.the-variants.{Waiting, Spent, Quiet, Returned}
 use Rattle.calls.specs.Base.{pick, upd}
 use Rattle.calls.specs.Numbers.{READERS-MAX, PUBLISHERS-MAX, SLOTS-MIN, SLOTS-MAX, TABLE, FEATHERED}
-use Rattle.calls.specs.Rows.{anyTrue}
-use Rattle.calls.specs.RowLaws.{not-both, and-true, or-false, neither, within, none-below, no-below, pick-split, same, AllClear}
+use Rattle.calls.specs.RowLaws.{not-both, and-true, or-false, within, none-below, no-below, pick-split, same, AllClear}
 use Rattle.calls.specs.Model.{entry, firstTable}
 use Rattle.calls.specs.Told.{holds, Has}
 use Rattle.calls.specs.Told.Role.{free}
@@ -30,9 +29,10 @@ use Rattle.layout.specs.Laws.{fresh-long, fresh-head, fresh-reader, fresh-publi
 use Rattle.statement.specs.Machine.{State, Outcome, Given, heldSlot}
 use Rattle.statement.specs.Demand3.{Slots, Picks}
 use Rattle.statement.specs.Kept.{Ghost, ghost₀, advance}
-use Rattle.publication_law.specs.Steps.{Versions, upTo, reader, publisher, atPlace, lookTests, claimTests, claim, inUse, writeTests, write, swapTests, swap, syncTests, sync, newWalk, raise, placeAfter, walked, walk, releaseTests, release, oneMore, makingTests, made}
-use Rattle.publication_law.specs.Damage.{Kind, publisherRows}
-use Rattle.publication_law.specs.DamageLaws.{Fine, PublisherFine, publisher-of, publisher-below}
+use Rattle.publication_law.specs.Steps.{reader, publisher, atPlace, lookTests, claimTests, claim, inUse, writeTests, write, swapTests, swap, syncTests, sync, newWalk, raise, placeAfter, walked, walk, releaseTests, release, oneMore, makingTests, made}
+use Rattle.publication_law.specs.Damage.{Kind}
+use Rattle.publication_law.specs.DamageLaws.{Fine, PublisherFine, publisher-below}
+use Rattle.publication_law.specs.KindLaw.{KindLaw, fine-publisher, publisher-undamaged}
 use Rattle.publication_law.specs.Core.{Core, Hold, claim-core, late-core, swap-core, release-core, write-core, held-is, held-bound, role-core, safe-core, free-core, fresh-core}
 use Rattle.publication_law.specs.Grace.{Grace, early-grace, wait-grace, sync-grace, nobody, release-grace, fresh-grace}
 use Rattle.publication_law.specs.Single.{formerAt, former-early, former-same, former-swap, single, single-free}
@@ -40,27 +40,6 @@ use Rattle.publication_law.specs.Tallied.{Tallied, phase-writing, phase-
 use Rattle.publication_law.specs.Entries.{slotEntry, set-entry, entry-same, slot-same}
 use Rattle.publication_law.specs.Moves.{moves-publisher, moves-head}
 use Rattle.publication_law.specs.Invariant.{formers, Invariant, publisher-moved}
-
--- What the shared steps need of a kind's versions: one before a mark is the version that it was made at;
--- a SYNC that is not refused gives a mark that fits, and such a mark is a version that fits.
-pub record VersionsLaw (vs : Versions) : Type 0 where
-  pub before-mark : (v : ℕ) → vs .beforeMark (vs .markAt v) ≡ v
-  pub mark-fits : (v : ℕ) → vs .tooLarge v ≡ false → vs .isLast v ≡ false → vs .wrongMark (vs .markAt v) ≡ false
-  pub raised-fits : (m : ℕ) → vs .wrongMark m ≡ false → vs .tooLarge m ≡ false
-
-pub up-to-law : (last : ℕ) → VersionsLaw (upTo last)
-up-to-law last = record {
-  before-mark = λ v. omega arith;
-  mark-fits = λ v a b. let l = ltb-false last v a in let ne = eqb-false v last b in
-      neither (eqb (upTo last .markAt v) 0) (ltb last (upTo last .markAt v)) (ne-eqb (upTo last .markAt v) 0 (λ z. omega arith)) (le-ltb last (upTo last .markAt v) (omega arith));
-  raised-fits = λ m e. or-false (eqb m 0) (ltb last m) e .1;
-}
-
--- .. and of its test of a publisher: there is no place above 38, and it has the shared rows.
-pub record KindLaw (K : Kind) : Type 0 where
-  pub versions-law : VersionsLaw (K .versions)
-  pub places : (rs ss : ℕ) (y : Publisher) → K .publisherDamaged rs ss y ≡ false → y .place ≤ 38
-  pub shared-rows : (rs ss : ℕ) (y : Publisher) → K .publisherDamaged rs ss y ≡ false → anyTrue (publisherRows (K .versions) ss y) ≡ false
 
 -- The waits after a walk's answer.
 abbrev pub waitsAfter : ℕ → WalkReply → ℕ
@@ -77,7 +56,7 @@ module _ (K : Kind) (law : KindLaw K) (z : Given) (g : Ghost) (s : State) (i : I
   few = publisher-below K s (i .fine)
 
   pub publisher-fine : (p : ℕ) → p < publishers (s .words) → PublisherFine (K .versions) (slots (s .words)) (publisher s p)
-  publisher-fine p l = publisher-of (K .versions) (slots (s .words)) (publisher s p) (law .shared-rows _ _ _ (i .fine .publishers-fine p l))
+  publisher-fine p l = fine-publisher law (readers (s .words)) (slots (s .words)) (publisher s p) (i .fine .publishers-fine p l)
 
   -- A slot that is not in use is held by nobody.
   unheld : (x : ℕ) → inUse s x ≡ false → (q : ℕ) → Hold (publisher s q .place) (publisher s q .held) (formers (publisher s q)) x → ⊥
@@ -138,11 +117,16 @@ module _ (K : Kind) (law : KindLaw K) (z : Given) (g : Ghost) (s : State) (i : I
       (phase-tallied _ _ _ _ _ (i .tallied) p 34 _ swapped refl (omega arith))
 
   pub sync-keeps : (p : ℕ) → AllClear (syncTests (K .versions) s p)
-      → K .publisherDamaged (readers (s .words)) (slots (s .words)) (record { place = 35; held = publisher s p .held; walk = newWalk (K .versions .markAt (version (s .words))) }) ≡ false
+      → law .own (readers (s .words)) (record { place = 35; held = publisher s p .held; walk = newWalk (K .versions .markAt (version (s .words))) }) ≡ false
       → Invariant K z (advance g (Sync p) (Synced (K .versions .markAt (version (s .words))))) (sync (K .versions) s p .after)
-  sync-keeps p f ok =
+  sync-keeps p f clear =
       let lt = leb-false (publishers (s .words)) p (f .0) in
       let at34 = eqb-true (publisher s p .place) 34 (not-false _ (f .1 .0)) in
+      let ok = publisher-undamaged law (readers (s .words)) (slots (s .words)) (record { place = 35; held = publisher s p .held; walk = newWalk (K .versions .markAt (version (s .words))) }) clear (record {
+        held-below = λ _. publisher-fine p lt .held-below (omega arith);
+        mark-fits = λ _. law .versions-law .mark-fits (version (s .words)) (i .fine .head .version-fits) (f .1 .1 .0);
+        waits-low = λ _. omega arith;
+      }) in
       publisher-moved K z g s i _ _ _ p _ _ _ _ (moves-publisher (s .words) p _ long (few p lt)) refl (i .fine .head .current-below) (i .fine .head .version-fits) ok
       (late-core _ _ _ _ _ _ _ _ _ _ _ (i .core) p 35 _ _ (λ a b. omega arith) (λ a b. omega arith) (λ y. former-same (publisher s p .place) 35 (publisher s p .held) y (omega arith) (omega arith)))
       (sync-grace _ _ _ _ _ (i .grace) (g .told) p _ (λ r. i .core .readers r .inside-is))
@@ -160,16 +144,19 @@ module _ (K : Kind) (law : KindLaw K) (z : Given) (g : Ghost) (s : State) (i : I
     raise-tallied : Tallied (g .tally) (λ j. reader s j .place) (upd (λ q. publisher s q .place) p 37) (upd (λ q. publisher s q .walk .waits) p (publisher s p .walk .waits)) (releases (s .words))
     raise-tallied = stay-tallied _ _ _ _ _ (i .tallied) p 37 _ (phase-syncing 37 (omega arith) (omega arith) ∙ sym (phase-syncing (publisher s p .place) low (omega arith))) (λ _. low) (λ _. refl)
 
-    pub raise-keeps : K .publisherDamaged (readers (s .words)) (slots (s .words)) (atPlace (publisher s p) 37) ≡ false
+    pub raise-keeps : law .own (readers (s .words)) (atPlace (publisher s p) 37) ≡ false
         → Invariant K z (advance g (Raise p) (raise (K .versions) s p .reply)) (raise (K .versions) s p .after)
-    raise-keeps ok = pick-split (λ (o : Outcome). Invariant K z (advance g (Raise p) (o .reply)) (o .after)) (eqb (version (s .words)) (K .versions .beforeMark (publisher s p .walk .mark)))
+    raise-keeps clear =
+        let pf = publisher-fine p lt in
+        let ok = publisher-undamaged law (readers (s .words)) (slots (s .words)) (atPlace (publisher s p) 37) clear (record { held-below = λ _. pf .held-below (omega arith); mark-fits = λ _. pf .mark-fits low; waits-low = λ _. pf .waits-low low }) in
+        pick-split (λ (o : Outcome). Invariant K z (advance g (Raise p) (o .reply)) (o .after)) (eqb (version (s .words)) (K .versions .beforeMark (publisher s p .walk .mark)))
         (λ e. publisher-moved K z g s i _ _ _ p _ _ _ _
         (moves-head (s .words) _ p _ _ _ _ (moves-publisher (s .words) p _ long (few p lt)) long VERSION-AT (publisher s p .walk .mark) (omega arith) (omega arith)) refl
         (i .fine .head .current-below) (law .versions-law .raised-fits _ (publisher-fine p lt .mark-fits low)) ok raise-core raise-grace raise-tallied)
         (λ e. publisher-moved K z g s i _ _ _ p _ _ _ _ (moves-publisher (s .words) p _ long (few p lt)) refl
         (i .fine .head .current-below) (i .fine .head .version-fits) ok raise-core raise-grace raise-tallied)
 
-  -- WALK, at 35 to 37: what it came to keeps the waits, and where it returns nobody is waited for.
+  -- WALK, at 35 to 37: what it came to keeps the mark and the waits, and where it returns nobody is waited for.
   module _ (p b : ℕ) (lt : p < publishers (s .words)) (low : 35 ≤ publisher s p .place) (high : publisher s p .place ≤ 37) where
     walk-tallied : (o : WalkReply) (ws : ℕ) → ws ≡ waitsAfter (publisher s p .walk .waits) o
         → Tallied (advance g (Walk p b) (Walked o) .tally) (λ j. reader s j .place) (upd (λ q. publisher s q .place) p (placeAfter (publisher s p .place) o)) (upd (λ q. publisher s q .walk .waits) p ws) (releases (s .words))
@@ -191,9 +178,11 @@ module _ (K : Kind) (law : KindLaw K) (z : Given) (g : Ghost) (s : State) (i : I
     after-high (Returned l w) = omega arith
 
     pub walk-keeps : (k : Progress) → (placeAfter (publisher s p .place) (k .reply) ≡ 38 → (r : ℕ) → g .pend p r ≡ false) → k .walk .waits ≡ waitsAfter (publisher s p .walk .waits) (k .reply)
-        → K .publisherDamaged (readers (s .words)) (slots (s .words)) (walked (publisher s p) k) ≡ false
+        → k .walk .mark ≡ publisher s p .walk .mark → k .walk .waits ≤ k .walk .looks → law .own (readers (s .words)) (walked (publisher s p) k) ≡ false
         → Invariant K z (advance g (Walk p b) (Walked (k .reply))) (walk s p k .after)
-    walk-keeps k done ws ok =
+    walk-keeps k done ws same-mark enough clear =
+        let pf = publisher-fine p lt in
+        let ok = publisher-undamaged law (readers (s .words)) (slots (s .words)) (walked (publisher s p) k) clear (record { held-below = λ _. pf .held-below (omega (arith, low)); mark-fits = λ _. rw same-mark (pf .mark-fits low); waits-low = λ _. enough }) in
         let l : 35 ≤ placeAfter (publisher s p .place) (k .reply) = after-low (k .reply) in
         publisher-moved K z g s i _ _ _ p _ _ _ _ (moves-publisher (s .words) p _ long (few p lt)) refl (i .fine .head .current-below) (i .fine .head .version-fits) ok
         (late-core _ _ _ _ _ _ _ _ _ _ _ (i .core) p _ _ _ (λ c d. omega arith) (λ c d. omega arith) (λ y. former-same (publisher s p .place) (placeAfter (publisher s p .place) (k .reply)) (publisher s p .held) y (omega arith) (omega arith)))

@@ -42,7 +42,8 @@ use Rattle.publication_law.specs.DamageLaws.{Fine, fine-of, fine-to, pub
 use Rattle.publication_law.specs.Moves.{MovesPublisher, MovesReader, moves-publisher, moves-head}
 use Rattle.publication_law.specs.Tallied.{InPhase, in-phase}
 use Rattle.publication_law.specs.Invariant.{Invariant}
-use Rattle.publication_law.specs.Keeps.{KindLaw, publisher-fine, claim-keeps, claim-unpicked, write-keeps, swap-keeps, release-keeps, look-right, released-in-order, slots-right, picks-right, table-right, idle-told, busy-told, former-told, free-told, made-invariant}
+use Rattle.publication_law.specs.KindLaw.{KindLaw, places, early-fits}
+use Rattle.publication_law.specs.Keeps.{publisher-fine, claim-keeps, claim-unpicked, write-keeps, swap-keeps, release-keeps, look-right, released-in-order, slots-right, picks-right, table-right, idle-told, busy-told, former-told, free-told, made-invariant}
 use Rattle.publication_law.specs.Decide.{decided, decide-accepts, decide-leaves, decide-why}
 use Rattle.publication_law.specs.Frames.{same-framed, reader-framed, claim-framed, write-framed, swap-framed, sync-framed, raise-framed, walk-framed, release-framed}
 
@@ -60,10 +61,8 @@ pub record Lawful (R : Rules) (last : ℕ) (passes : Given → ℕ) (onward-plac
   pub start-own : (z : Given) (s : State) → AllClear (makingTests (R .kind .versions) z s) → Own (ghost₀ firstTable) (made (R .kind .number) (R .freshReader) z s)
   pub fresh-out : (R .freshReader .place ≡ 0) × (R .freshReader .picked ≡ 0)
   pub fresh-reader-fits : (ss : ℕ) → R .kind .readerDamaged ss (R .freshReader) ≡ false
-  pub fresh-publisher-fits : (rs ss : ℕ) → R .kind .publisherDamaged rs ss noPublisher ≡ false
   pub no-further : (z : Given) (g : Ghost) (s : State) → Good (R .kind) Own z g s → R .further s ≡ false
-  -- below 35 only the held slot is tested, and a publisher's move there does not touch the kind's own invariant
-  pub early-fits : (rs ss : ℕ) (y : Publisher) → y .place ≤ 34 → (1 ≤ y .place → y .held < ss) → R .kind .publisherDamaged rs ss y ≡ false
+  -- below 35 a publisher's move does not touch the kind's own invariant
   pub early-own : (g g′ : Ghost) (s : State) (w′ : List ℕ) (es′ : List ℤ) (p : ℕ) (y : Publisher) (cur rel : ℕ) → Own g s → g′ .pend ≡ g .pend
       → MovesPublisher (s .words) w′ p y cur (version (s .words)) rel → y .walk ≡ publisher s p .walk → y .place ≤ 34 → Own g′ (state w′ es′)
   pub enter-moves : (s : State) → Fine (R .kind) s → (r : ℕ) → r < readers (s .words) → MovesReader (s .words) (R .enterWords s r) r (R .entered s r)
@@ -136,7 +135,7 @@ module _ (R : Rules) (last : ℕ) (passes : Given → ℕ) (onward-place : ℕ �
     unfolding After
     claim-kept p x f =
         let y : Publisher = record { place = 1; held = x; walk = publisher s p .walk } in record {
-          shared = claim-keeps (R .kind) (L .kind-law) z g s (i .shared) (R .exclusive) p x f (L .early-fits (readers (s .words)) (slots (s .words)) y (omega arith) (λ _. leb-false _ _ (f .1 .0)));
+          shared = claim-keeps (R .kind) (L .kind-law) z g s (i .shared) (R .exclusive) p x f (early-fits (L .kind-law) (readers (s .words)) (slots (s .words)) y (omega arith) (λ _. leb-false _ _ (f .1 .0)));
           own = L .early-own g _ s _ _ p y _ _ (i .own) refl (moves-publisher (s .words) p y long (few p (leb-false _ _ (f .0)))) refl (omega arith);
         }
 
@@ -148,7 +147,7 @@ module _ (R : Rules) (last : ℕ) (passes : Given → ℕ) (onward-place : ℕ �
         let y : Publisher = atPlace (publisher s p) (publisher s p .place + 1) in
         let low-now : publisher s p .place + 1 ≤ 34 = omega (arith, range .1) in record {
           shared = write-keeps (R .kind) (L .kind-law) z g s (i .shared) p v f
-              (L .early-fits (readers (s .words)) (slots (s .words)) y low-now (λ _. publisher-fine (R .kind) (L .kind-law) z g s (i .shared) p lt .held-below (range .0)));
+              (early-fits (L .kind-law) (readers (s .words)) (slots (s .words)) y low-now (λ _. publisher-fine (R .kind) (L .kind-law) z g s (i .shared) p lt .held-below (range .0)));
           own = L .early-own g _ s _ _ p y _ _ (i .own) refl (moves-publisher (s .words) p y long (few p lt)) refl low-now;
         }
 
@@ -156,7 +155,7 @@ module _ (R : Rules) (last : ℕ) (passes : Given → ℕ) (onward-place : ℕ �
     unfolding After
     swap-kept p f =
         let y : Publisher = record { place = 34; held = current (s .words); walk = publisher s p .walk } in record {
-          shared = swap-keeps (R .kind) (L .kind-law) z g s (i .shared) p f (L .early-fits (readers (s .words)) (slots (s .words)) y (omega arith) (λ _. i .shared .fine .head .current-below));
+          shared = swap-keeps (R .kind) (L .kind-law) z g s (i .shared) p f (early-fits (L .kind-law) (readers (s .words)) (slots (s .words)) y (omega arith) (λ _. i .shared .fine .head .current-below));
           own = L .early-own g _ s _ _ p y _ _ (i .own) refl
               (moves-head (s .words) _ p y _ _ _ (moves-publisher (s .words) p y long (few p (leb-false _ _ (f .0)))) long CURRENT-AT (publisher s p .held) (omega arith) (omega arith)) refl (omega arith);
         }
@@ -165,7 +164,7 @@ module _ (R : Rules) (last : ℕ) (passes : Given → ℕ) (onward-place : ℕ �
     unfolding After
     release-kept p f =
         let y : Publisher = atPlace (publisher s p) 0 in record {
-          shared = release-keeps (R .kind) (L .kind-law) z g s (i .shared) p f (L .early-fits (readers (s .words)) (slots (s .words)) y (omega arith) (λ l. absurd (omega arith)));
+          shared = release-keeps (R .kind) (L .kind-law) z g s (i .shared) p f (early-fits (L .kind-law) (readers (s .words)) (slots (s .words)) y (omega arith) (λ l. absurd (omega arith)));
           own = L .early-own g _ s _ _ p y _ _ (i .own) refl
               (moves-head (s .words) _ p y _ _ _ (moves-publisher (s .words) p y long (few p (leb-false _ _ (f .0)))) long RELEASES-AT (oneMore s) (omega arith) (omega arith)) refl (omega arith);
         }
@@ -282,7 +281,7 @@ module _ (R : Rules) (last : ℕ) (passes : Given → ℕ) (onward-place : ℕ �
         → (x : ℕ) × (g .told .former p x ≡ true) × (step R s (Release p) .reply ≡ Freed x ((g .tally .releases + 1) % MODULUS))
     frees-on p pn ph =
         let at = placed p returned ph in
-        let top = L .kind-law .places _ _ (publisher s p) (i .shared .fine .publishers-fine p (leb-false _ _ (named-publisher p pn))) in
+        let top = places (L .kind-law) (readers (s .words)) (slots (s .words)) (publisher s p) (i .shared .fine .publishers-fine p (leb-false _ _ (named-publisher p pn))) in
         let turn : not (eqb (publisher s p .place) 38) ≡ false = negated _ (eq-eqb (publisher s p .place) 38 (omega arith)) in
         let n : oneMore s ≡ (g .tally .releases + 1) % MODULUS = omega (arith, i .shared .tallied .releases) in
         (publisher s p .held, former-told (R .kind) (L .kind-law) z g s (i .shared) p (omega arith), rw (accepts (Release p) (named-publisher p pn, (turn, tt)), n) refl)
@@ -317,7 +316,7 @@ module _ (R : Rules) (last : ℕ) (passes : Given → ℕ) (onward-place : ℕ �
   start s f = decided (λ (o : Outcome). o ≡ outcome Made s → Good (R .kind) (L .Own) (f .arguments) (ghost₀ firstTable) s) (makingTests (R .kind .versions) (f .arguments) (f .lent))
       (outcome Made (made (R .kind .number) (R .freshReader) (f .arguments) (f .lent))) (f .lent) refl
       (λ c e. subst (λ (u : State). Good (R .kind) (L .Own) (f .arguments) (ghost₀ firstTable) u) (outcome-parts _ _ _ e .1) (record {
-        shared = made-invariant (R .kind) (R .freshReader) (f .arguments) (f .lent) c (L .fresh-out .0) (L .fresh-out .1) (L .fresh-reader-fits _) (L .fresh-publisher-fits _ _);
+        shared = made-invariant (R .kind) (R .freshReader) (f .arguments) (f .lent) c (L .fresh-out .0) (L .fresh-out .1) (L .fresh-reader-fits _) (early-fits (L .kind-law) (f .arguments .readers) (f .arguments .slots) noPublisher (omega arith) (λ l. absurd (omega arith)));
         own = L .start-own (f .arguments) (f .lent) c;
       }))
       (λ e. absurd (let q = outcome-parts _ _ _ e .0 in let y : _≡_ {A = ℕ} 0 1 = cc in omega arith))

@@ -9,6 +9,7 @@ pub mod Entries
 pub mod Moves
 pub mod DamageLaws
 pub mod Invariant
+pub mod KindLaw
 pub mod Keeps
 pub mod Sound
 pub mod Calls

@@ -1,20 +1,20 @@
 -- What the code that the kinds share asks of a store's words, and that every undamaged store has it. Assumes nothing.
-use Prim.Native.Nat.{ℕ, _<_, _≤_}
-use mathlib.Core.Path.{_≡_}
+use Prim.Native.Nat.{ℕ, _*_, _<_, _≤_}
+use mathlib.Core.Path.{_≡_, sym, ap, _∙_}
 use mathlib.Core.Bool.{false}
 use mathlib.Core.List.{List}
 use lib.ListN.{length}
-use lib.Dec.{leb, eqb}
-use borrow.Author.Tests.{eq-eqb, leb-false}
-use Rattle.calls.specs.Numbers.{READERS-MAX, PUBLISHERS-MAX, SLOTS-MAX}
-use Rattle.calls.specs.RowLaws.{and-false}
-use Rattle.layout.specs.declared.Reader.{Reader}
-use Rattle.layout.specs.Layout.{WORDS, readers, publishers, slots, readerAt, publisherAt}
+use borrow.Author.Tests.{leb-false, ltb-false}
+use Rattle.calls.specs.Numbers.{READERS-MAX, PUBLISHERS-MAX, SLOTS-MAX, TABLE}
+use Rattle.layout.specs.declared.Publisher.{Publisher}
+use Rattle.layout.specs.Layout.{WORDS, readers, publishers, slots, version, readerAt, publisherAt}
 use Rattle.statement.specs.Machine.{State}
-use Rattle.publication_law.specs.Steps.{reader, publisher}
-use Rattle.publication_law.specs.Damage.{Kind, wrongPick}
-use Rattle.publication_law.specs.DamageLaws.{Fine, publisher-of}
-use Rattle.publication_law.specs.Keeps.{KindLaw}
+use Rattle.publication_law.specs.Steps.{Versions, upTo, reader, publisher}
+use Rattle.publication_law.specs.Damage.{Kind}
+use Rattle.publication_law.specs.DamageLaws.{Fine}
+use Rattle.publication_law.specs.KindLaw.{KindLaw, fine-publisher}
+use Rattle.publication_law.specs.Rules.{Rules, damaged}
+use Rattle.publication_law.specs.Calls.{undamaged-fine}
 
 pub record Sound (w : List ℕ) : Type 0 where
   pub long : length w ≡ WORDS
@@ -24,12 +24,32 @@ pub record Sound (w : List ℕ) : Type 0 where
   pub picked-below : (r : ℕ) → r < readers w → readerAt w r .place ≡ 5 → readerAt w r .picked < slots w
   pub held-below : (p : ℕ) → p < publishers w → 1 ≤ publisherAt w p .place → publisherAt w p .held < slots w
 
-pub sound : (K : Kind) → KindLaw K → ((ss : ℕ) (x : Reader) → K .readerDamaged ss x ≡ false → wrongPick ss x ≡ false) → (s : State) → Fine K s → Sound (s .words)
-sound K law picks s f = record {
+pub sound : (K : Kind) → KindLaw K → (s : State) → Fine K s → Sound (s .words)
+sound K law s f = record {
   long = f .head .long;
   readers-high = f .head .readers-high;
   publishers-high = f .head .publishers-high;
   slots-high = f .head .slots-high;
-  picked-below = λ r l e. leb-false _ _ (and-false (eqb (reader s r .place) 5) (leb (slots (s .words)) (reader s r .picked)) (picks (slots (s .words)) (reader s r) (f .readers-fine r l)) (eq-eqb _ _ e));
-  held-below = λ p l e. publisher-of (K .versions) (slots (s .words)) (publisher s p) (law .shared-rows (readers (s .words)) (slots (s .words)) (publisher s p) (f .publishers-fine p l)) .held-below e;
+  picked-below = λ r l e. leb-false _ _ (sym (law .reader-picked (slots (s .words)) (reader s r) e) ∙ f .readers-fine r l);
+  held-below = λ p l e. fine-publisher law (readers (s .words)) (slots (s .words)) (publisher s p) (f .publishers-fine p l) .held-below e;
 }
+
+-- From 35 to 38 a publisher's mark is not 0, and it waited at most as often as it looked.
+pub record Synchronising (y : Publisher) : Type 0 where
+  pub mark-low : 1 ≤ y .walk .mark
+  pub waits-low : y .walk .waits ≤ y .walk .looks
+
+module _ (R : Rules) (law : KindLaw (R .kind)) (s : State) (clean : damaged R s ≡ false) where
+  pub sound-of : Sound (s .words)
+  sound-of = sound (R .kind) law s (undamaged-fine R s clean)
+
+  pub entries-of : length (s .entries) ≡ slots (s .words) * TABLE
+  entries-of = undamaged-fine R s clean .head .entries-are
+
+  pub version-low : (last : ℕ) → R .kind .versions ≡ upTo last → version (s .words) ≤ last
+  version-low last up = ltb-false last (version (s .words)) (sym (ap (λ (vs : Versions). vs .tooLarge (version (s .words))) up) ∙ undamaged-fine R s clean .head .version-fits)
+
+  pub synchronising-of : (p : ℕ) → p < publishers (s .words) → 35 ≤ publisher s p .place → Synchronising (publisher s p)
+  synchronising-of p named late =
+      let f = fine-publisher law (readers (s .words)) (slots (s .words)) (publisher s p) (undamaged-fine R s clean .publishers-fine p named) in
+      record { mark-low = law .versions-law .mark-low _ (f .mark-fits late); waits-low = f .waits-low late }

@@ -1,34 +1,31 @@
 -- What the code of the old store asks of an undamaged store, and what its accepted calls come to. Assumes nothing.
-use Prim.Native.Nat.{ℕ, zero, suc, _+_, _-_, _*_, _%_, _<_, _≤_}
+use Prim.Native.Nat.{ℕ, zero, suc, _+_, _-_, _%_, _<_, _≤_}
 use native.Mathlib.Omega.{arith}
 use native.Mathlib.Numerals.{add-one}
 use mathlib.Core.Path.{_≡_, refl, sym, ap, _∙_}
 use mathlib.Core.Logic.{_≢_, _⊎_, inl, inr}
-use mathlib.Core.Bool.{Bool, true, false, not, _&&_, _||_}
+use mathlib.Core.Bool.{Bool, true, false, not, _||_}
 use mathlib.Core.List.{List, [], _∷_}
-use lib.ListN.{length, getD, set}
-use lib.Dec.{leb, ltb, eqb}
-use borrow.Author.Tests.{eqb-true, eqb-false, eq-eqb, ne-eqb, ltb-false, lt-leb, le-leb, lt-ltb, le-ltb, not-false}
-use Rattle.calls.specs.declared.Call.the-variants.{Enter, Leave, Raise, Walk}
+use lib.ListN.{getD, set}
+use lib.Dec.{eqb}
+use borrow.Author.Tests.{eqb-true, eq-eqb, ne-eqb, lt-leb, le-leb, lt-ltb, not-false}
+use Rattle.calls.specs.declared.Call.the-variants.{Enter, Leave}
 use Rattle.calls.specs.declared.Reply.the-variants.{At, Left}
 use Rattle.calls.specs.declared.WalkReply.the-variants.{Waiting, Spent, Quiet, Returned}
 use Rattle.calls.specs.Base.{pick}
-use Rattle.calls.specs.Numbers.{TABLE, NUMBER-MAX, READERS-MAX}
+use Rattle.calls.specs.Numbers.{READERS-MAX}
 use Rattle.calls.specs.Rows.{anyTrue, countBelow}
-use Rattle.calls.specs.RowLaws.{clash, pick-split, or-false, or-right, or-none, all-false, negated, count-zero}
+use Rattle.calls.specs.RowLaws.{clash, pick-split, or-false, count-zero}
 use Rattle.layout.specs.declared.Reader.{Reader}
 use Rattle.layout.specs.declared.Publisher.{Publisher}
-use Rattle.layout.specs.declared.Progress.{Progress}
-use Rattle.layout.specs.Layout.{readers, publishers, slots, current, version, indicator, readerAt, withReader, withIndicator}
-use Rattle.statement.specs.Machine.{State, state, Outcome, outcome}
-use Rattle.publication_law.specs.Steps.{reader, publisher, raise, walk}
-use Rattle.publication_law.specs.Damage.{headRows, publisherRows, readersTest, publishersTest, wrongPick}
-use Rattle.publication_law.specs.DamageLaws.{Fine, publisher-of}
-use Rattle.publication_law.specs.Decide.{decide-accepts}
-use Rattle.publication_law.specs.Rules.{damaged, tests, act, step}
-use Rattle.publication_law.specs.Sound.{Sound, sound}
-use Rattle.publication_law.specs.Calls.{step-undamaged, undamaged, undamaged-fine, undamaged-further, damaged-readers, damaged-further}
-use Rattle.two_phase_law.specs.Steps.{LAST, versions, kind, readerRows, addedTo, miscounted, onward, entered, leaving, watched, progress, lookAt, looksOf, rules}
+use Rattle.layout.specs.Layout.{readers, current, version, indicator, readerAt, withReader, withIndicator}
+use Rattle.statement.specs.Machine.{State, state, outcome}
+use Rattle.publication_law.specs.Steps.{reader}
+use Rattle.publication_law.specs.Damage.{headRows, readersTest, publishersTest}
+use Rattle.publication_law.specs.DamageLaws.{Fine}
+use Rattle.publication_law.specs.Rules.{damaged, act, step}
+use Rattle.publication_law.specs.Calls.{undamaged, undamaged-fine, undamaged-further, damaged-readers, damaged-further, enter-accepted, leave-accepted}
+use Rattle.two_phase_law.specs.Steps.{kind, readerRows, addedTo, miscounted, onward, entered, leaving, watched, progress, lookAt, rules}
 use Rattle.two_phase_law.specs.Safety.{law}
 
 -- An indicator unlike the number of the first n readers that added to it.
@@ -92,15 +89,6 @@ module _ (s : State) where
       go true d t = damaged-readers rules s d
       go false d t = damaged-further rules s t
 
-picks : (ss : ℕ) (x : Reader) → kind .readerDamaged ss x ≡ false → wrongPick ss x ≡ false
-picks ss x e = all-false (readerRows ss x) e .1 .1 .1 .0
-
-pub sound-of : (s : State) → damaged rules s ≡ false → Sound (s .words)
-sound-of s e = sound kind law picks s (fine s e)
-
-pub entries-of : (s : State) → damaged rules s ≡ false → length (s .entries) ≡ slots (s .words) * TABLE
-entries-of s e = fine s e .head .entries-are
-
 -- Each indicator is the number of readers that added to it.
 pub counted-of : (s : State) → damaged rules s ≡ false → (i : ℕ) → i < 2 → indicator (s .words) i ≡ countBelow (λ r. addedTo i (reader s r)) (readers (s .words))
 counted-of s e i l = let q = or-false (miscounted s 0) (miscounted s 1) (undamaged-further rules s e) in go i l (q .0) (q .1)
@@ -131,10 +119,10 @@ pub record InSection (ss : ℕ) (x : Reader) : Type 0 where
 
 module _ (ss : ℕ) (x : Reader) where
   pub picked-right : x .place ≡ 5 → x .picked < ss → InSection ss x
-  picked-right e l = record { fits = rw (e, lt-leb ss (x .picked) l) refl; arrived = omega arith }
+  picked-right e l = record { fits = law .reader-picked ss x e ∙ lt-leb ss (x .picked) l; arrived = omega arith }
 
   pub picked-wrong : x .place ≡ 5 → ss ≤ x .picked → anyTrue (readerRows ss x) ≡ true
-  picked-wrong e l = rw (e, le-leb ss (x .picked) l) refl
+  picked-wrong e l = law .reader-picked ss x e ∙ le-leb ss (x .picked) l
 
   pub not-picked : x .place ≡ 4 → InSection ss x
   not-picked e = record { fits = rw e refl; arrived = omega arith }
@@ -160,50 +148,6 @@ module _ (ss : ℕ) (x : Reader) where
       go (suc (suc (suc (suc (suc zero))))) e h = absurd (five e)
       go (suc (suc (suc (suc (suc (suc n)))))) e h = rw (lt-ltb 5 (x .place) (omega arith)) refl
 
--- The damage test of a publisher, by its place.
-module _ (rs ss : ℕ) (y : Publisher) where
-  pub publisher-idle : y .place ≡ 0 → kind .publisherDamaged rs ss y ≡ false
-  publisher-idle e = rw e refl
-
-  pub held-large : y .place ≢ 0 → ss ≤ y .held → kind .publisherDamaged rs ss y ≡ true
-  held-large ne l = or-right (ltb 38 (y .place)) (anyTrue (publisherRows versions ss y)) (rw (ne-eqb (y .place) 0 ne, le-leb ss (y .held) l) refl)
-
-  pub publisher-early : y .held < ss → y .place < 35 → kind .publisherDamaged rs ss y ≡ false
-  publisher-early l e = rw (le-ltb 38 (y .place) (omega arith), lt-leb ss (y .held) l, lt-leb 35 (y .place) e) (idle (not (eqb (y .place) 0)))
-    where
-      idle : (b : Bool) → (b && false || false) ≡ false
-      idle true = refl
-      idle false = refl
-
-  pub no-such-place : 38 < y .place → kind .publisherDamaged rs ss y ≡ true
-  no-such-place l = rw (lt-ltb 38 (y .place) l) refl
-
-  pub wrong-mark : 35 ≤ y .place → (eqb (y .walk .mark) 0 || ltb LAST (y .walk .mark)) ≡ true → kind .publisherDamaged rs ss y ≡ true
-  wrong-mark l e = or-right (ltb 38 (y .place)) (anyTrue (publisherRows versions ss y)) (or-right (not (eqb (y .place) 0) && leb ss (y .held)) _ (rw (le-leb 35 (y .place) l, e) refl))
-
-  pub waits-decide : y .held < ss → 35 ≤ y .place → y .place ≤ 38 → (eqb (y .walk .mark) 0 || ltb LAST (y .walk .mark)) ≡ false → kind .publisherDamaged rs ss y ≡ ltb (y .walk .looks) (y .walk .waits)
-  waits-decide held late high mark = rw (le-ltb 38 (y .place) high, lt-leb ss (y .held) held, le-leb 35 (y .place) late, mark) (last (not (eqb (y .place) 0)) (ltb (y .walk .looks) (y .walk .waits)))
-    where
-      last : (a b : Bool) → (a && false || (false || (b || false))) ≡ b
-      last true true = refl
-      last true false = refl
-      last false true = refl
-      last false false = refl
-
--- From 35 to 38 a publisher's mark is not 0, and it waited at most as often as it looked.
-pub record Synchronising (y : Publisher) : Type 0 where
-  pub mark-low : 1 ≤ y .walk .mark
-  pub waits-low : y .walk .waits ≤ y .walk .looks
-
-pub synchronising-of : (s : State) → damaged rules s ≡ false → (p : ℕ) → p < publishers (s .words) → 35 ≤ publisher s p .place → Synchronising (publisher s p)
-synchronising-of s e p named low =
-    let f = publisher-of versions (slots (s .words)) (publisher s p) (law .shared-rows (readers (s .words)) (slots (s .words)) (publisher s p) (fine s e .publishers-fine p named)) in
-    let m = or-false (eqb (publisher s p .walk .mark) 0) (ltb LAST (publisher s p .walk .mark)) (f .mark-fits low) in
-    record { mark-low = above-zero (publisher s p .walk .mark) (m .0); waits-low = f .waits-low low }
-  where
-    above-zero : (n : ℕ) → eqb n 0 ≡ false → 1 ≤ n
-    above-zero n z = let q = eqb-false n 0 z in omega arith
-
 -- A reader one place on, by its place.
 module _ (v cur : ℕ) (x : Reader) where
   pub onward-loads : x .place ≡ 0 → record { place = 1; first = v; second = x .second; published = x .published; picked = x .picked } ≡ onward v cur x
@@ -219,16 +163,13 @@ module _ (v cur : ℕ) (x : Reader) where
   onward-picks a b = rw (ne-eqb (x .place) 0 a, ne-eqb (x .place) 1 b) refl
 
 module _ (s : State) (clean : damaged rules s ≡ false) where
-  pub version-low : version (s .words) ≤ LAST
-  version-low = ltb-false LAST (version (s .words)) (fine s clean .head .version-fits)
-
   -- ENTER to 4 counts the reader, and to 1 and 5 leaves the indicators.
   pub arrive-is : (v : List ℕ) (r i count : ℕ) (x y : Reader) → r < readers (s .words) → x ≡ reader s r → x .place ≡ 1 → y ≡ onward (version (s .words)) (current (s .words)) x
       → i ≡ x .first % 2 → count ≡ indicator (s .words) i → v ≡ withIndicator (withReader (s .words) r y) i (count + 1)
       → outcome (At (y .place)) (state v (s .entries)) ≡ step rules s (Enter r)
   arrive-is v r i count x y named is turn moved index counted put =
       let t : reader s r .place ≡ 1 = rw is at turn in
-      rw (put, counted, index, moved, is) (words t ∙ sym (decide-accepts (tests rules s (Enter r)) (act rules s (Enter r)) s (lt-leb _ _ named, (lt-leb 5 (reader s r .place) (omega (arith, t)), tt))) ∙ step-undamaged rules s (Enter r) clean)
+      rw (put, counted, index, moved, is) (words t ∙ enter-accepted rules s clean r x named is (omega (arith, turn)))
     where
       words : reader s r .place ≡ 1
           → outcome (At (entered s r .place)) (state (withIndicator (withReader (s .words) r (entered s r)) (reader s r .first % 2) (indicator (s .words) (reader s r .first % 2) + 1)) (s .entries)) ≡ act rules s (Enter r)
@@ -237,7 +178,7 @@ module _ (s : State) (clean : damaged rules s ≡ false) where
   pub enter-is : (v : List ℕ) (r : ℕ) (x y : Reader) → r < readers (s .words) → x ≡ reader s r → x .place < 5 → x .place ≢ 1 → y ≡ onward (version (s .words)) (current (s .words)) x → v ≡ withReader (s .words) r y
       → outcome (At (y .place)) (state v (s .entries)) ≡ step rules s (Enter r)
   enter-is v r x y named is turn ne moved put =
-      rw (put, moved, is) (words (rw is at ne) ∙ sym (decide-accepts (tests rules s (Enter r)) (act rules s (Enter r)) s (lt-leb _ _ named, (lt-leb 5 _ (rw is at turn), tt))) ∙ step-undamaged rules s (Enter r) clean)
+      rw (put, moved, is) (words (rw is at ne) ∙ enter-accepted rules s clean r x named is turn)
     where
       words : reader s r .place ≢ 1 → outcome (At (entered s r .place)) (state (withReader (s .words) r (entered s r)) (s .entries)) ≡ act rules s (Enter r)
       words t = ap (λ (b : Bool). outcome (At (entered s r .place)) (state (pick b (withIndicator (withReader (s .words) r (entered s r)) (reader s r .first % 2) (indicator (s .words) (reader s r .first % 2) + 1)) (withReader (s .words) r (entered s r))) (s .entries))) (sym (ne-eqb (reader s r .place) 1 t))
@@ -245,16 +186,7 @@ module _ (s : State) (clean : damaged rules s ≡ false) where
   pub leave-is : (v : List ℕ) (r i count : ℕ) (x : Reader) → r < readers (s .words) → x ≡ reader s r → 4 ≤ x .place → i ≡ x .first % 2 → count ≡ indicator (s .words) i
       → v ≡ withIndicator (withReader (s .words) r (leaving x)) i (count - 1) → outcome Left (state v (s .entries)) ≡ step rules s (Leave r)
   leave-is v r i count x named is turn index counted put =
-      rw (put, counted, index, is) (sym (decide-accepts (tests rules s (Leave r)) (act rules s (Leave r)) s (lt-leb _ _ named, (le-ltb _ 4 (rw is at turn), tt))) ∙ step-undamaged rules s (Leave r) clean)
-
-  pub raise-is : (o : Outcome) (p : ℕ) (y : Publisher) → p < publishers (s .words) → y ≡ publisher s p → y .place ≡ 36 → o ≡ raise versions s p → o ≡ step rules s (Raise p)
-  raise-is o p y named is turn e =
-      e ∙ sym (decide-accepts (tests rules s (Raise p)) (act rules s (Raise p)) s (lt-leb _ _ named, (negated _ (eq-eqb _ 36 (rw is at turn)), tt))) ∙ step-undamaged rules s (Raise p) clean
-
-  pub walk-is : (o : Outcome) (p b : ℕ) (y : Publisher) (k : Progress) → p < publishers (s .words) → y ≡ publisher s p → (eqb (y .place) 35 || eqb (y .place) 37) ≡ true → y .walk .looks + b ≤ NUMBER-MAX → k ≡ looksOf s y b
-      → o ≡ walk s p k → o ≡ step rules s (Walk p b)
-  walk-is o p b y k named is turn room looks e =
-      e ∙ rw (looks, is) (sym (decide-accepts (tests rules s (Walk p b)) (act rules s (Walk p b)) s (lt-leb _ _ named, (negated _ (rw is at turn), (le-ltb _ _ (rw is at room), tt)))) ∙ step-undamaged rules s (Walk p b) clean)
+      rw (put, counted, index, is) (leave-accepted rules s clean r x named is turn)
 
 -- WALK's two places.
 pub walks-at : (n : ℕ) → (n ≡ 35) ⊎ (n ≡ 37) → (eqb n 35 || eqb n 37) ≡ true

@@ -9,7 +9,7 @@ use mathlib.Core.Bool.{Bool, true, false, _||_}
 use mathlib.Core.List.{List}
 use lib.IntN.{ℤ}
 use lib.ListN.{length}
-use lib.Dec.{ltb, eqb}
+use lib.Dec.{leb, ltb, eqb}
 use borrow.Author.Tests.{eqb-true, eqb-false, eq-eqb, ne-eqb, leb-false, le-leb, lt-leb, ltb-false, le-ltb, not-false}
 use Rattle.calls.specs.declared.Call.the-variants.{Enter, Leave, Sync, Walk}
 use Rattle.calls.specs.declared.Reply.the-variants.{At, Left, Synced, Walked}
@@ -17,8 +17,7 @@ use Rattle.calls.specs.declared.WalkReply.{WalkReply}
 use Rattle.calls.specs.declared.WalkReply.the-variants.{Waiting, Spent, Quiet, Returned}
 use Rattle.calls.specs.Base.{pick, upd}
 use Rattle.calls.specs.Numbers.{READERS-MAX, PUBLISHERS-MAX, KIND-OLD}
-use Rattle.calls.specs.Rows.{anyTrue}
-use Rattle.calls.specs.RowLaws.{clash, by-test, or-false, neither, all-false, none-true, count-none, pick-split, same, at-or, AllClear, AllFalse}
+use Rattle.calls.specs.RowLaws.{clash, by-test, or-none, all-false, none-true, count-none, pick-split, same, at-or, AllClear, AllFalse}
 use Rattle.calls.specs.Model.{shelve, firstTable}
 use Rattle.calls.specs.Told.{tell}
 use Rattle.layout.specs.declared.Reader.{Reader}
@@ -29,8 +28,7 @@ use Rattle.statement.specs.Machine.{State, state, Outcome, Given}
 use Rattle.statement.specs.Kept.{Pend, Ghost, ghost₀, Back}
 use Rattle.statement.specs.Kept as kept
 use Rattle.publication_law.specs.Steps.{reader, publisher, atPlace, enterTests, leaveTests, syncTests, sync, raise, walked, walk, newWalk, placeAfter, made}
-use Rattle.publication_law.specs.Damage.{publisherRows}
-use Rattle.publication_law.specs.DamageLaws.{Fine, PublisherFine, publisher-to, reader-below, publisher-below}
+use Rattle.publication_law.specs.DamageLaws.{Fine, reader-below, publisher-below}
 use Rattle.publication_law.specs.Core.{Core, enter-below, enter-open, enter-pick, leave-core}
 use Rattle.publication_law.specs.Core.Hold.{by-swap}
 use Rattle.publication_law.specs.Grace.{enter-grace, leave-grace}
@@ -38,17 +36,21 @@ use Rattle.publication_law.specs.Tallied.{place-tallied}
 use Rattle.publication_law.specs.Entries.{slotEntry}
 use Rattle.publication_law.specs.Moves.{MovesPublisher, MovesReader, moves-publisher, moves-head, moves-reader, moves-indicator}
 use Rattle.publication_law.specs.Invariant.{formers, CoreOf, reader-moved}
-use Rattle.publication_law.specs.Keeps.{KindLaw, up-to-law, publisher-fine, sync-keeps, raise-keeps, walk-keeps, syncing-in-order}
+use Rattle.publication_law.specs.KindLaw.{KindLaw, up-to-law}
+use Rattle.publication_law.specs.Keeps.{publisher-fine, sync-keeps, raise-keeps, walk-keeps, syncing-in-order}
 use Rattle.publication_law.specs.Rules.{traitsOf}
 use Rattle.publication_law.specs.Lawful.{Good, Lawful}
 use Rattle.two_phase_law.specs.Steps.{LAST, versions, kind, readerRows, parity, addedTo, onward, placeOn, entered, enterWords, leaving, leaveWords, watched, looksOf, lookAt, rules}
 use Rattle.two_phase_law.specs.Counts.{Counted, counted-to, none-added, stays-counted, arrives-counted, leaves-counted, passedAt, Looked, look-turn, looked}
 
-pub law : KindLaw kind
+abbrev pub law : KindLaw kind
 law = record {
-  shared-rows = λ rs ss y e. or-false (ltb 38 (y .place)) (anyTrue (publisherRows versions ss y)) e .1;
   versions-law = up-to-law LAST;
-  places = λ rs ss y e. ltb-false 38 (y .place) (or-false (ltb 38 (y .place)) (anyTrue (publisherRows versions ss y)) e .0);
+  reader-picked = λ ss x e. rw e (or-none (leb ss (x .picked)));
+  own = λ rs y. ltb 38 (y .place);
+  own-rows = λ rs ss y. refl;
+  own-early = λ rs y l. le-ltb 38 (y .place) (omega arith);
+  own-beyond = λ rs y e. ltb-false 38 (y .place) e;
 }
 
 -- The kind's own numbers: from 36 on a synchronise waits only for readers that added to the other indicator.
@@ -60,14 +62,6 @@ record Own (w : Pend) (n : ℕ) (ind : ℕ → ℕ) (R : ℕ → Reader) (P : �
 
 abbrev OwnOf : Ghost → State → Type 0
 OwnOf g s = Own (g .pend) (readers (s .words)) (indicator (s .words)) (readerAt (s .words)) (publisherAt (s .words))
-
--- The damage test of a publisher, from facts.
-publisher-fits : (rs ss : ℕ) (y : Publisher) → y .place ≤ 38 → PublisherFine versions ss y → kind .publisherDamaged rs ss y ≡ false
-publisher-fits rs ss y high f = neither (ltb 38 (y .place)) (anyTrue (publisherRows versions ss y)) (le-ltb 38 (y .place) high) (publisher-to versions ss y f)
-
-early-fits : (rs ss : ℕ) (y : Publisher) → y .place ≤ 34 → (1 ≤ y .place → y .held < ss) → kind .publisherDamaged rs ss y ≡ false
-early-fits rs ss y high held = publisher-fits rs ss y (omega arith)
-    (record { held-below = held; mark-fits = λ l. absurd (omega arith); waits-low = λ l. absurd (omega arith) })
 
 -- ENTER, by the place.
 module _ (ver cur : ℕ) where
@@ -236,26 +230,17 @@ module _ (z : Given) (g : Ghost) (s : State) (i : Good kind OwnOf z g s) where
       let at34 = eqb-true (publisher s p .place) 34 (not-false _ (f .1 .0)) in
       let h = i .shared .fine .head in
       let y : Publisher = record { place = 35; held = publisher s p .held; walk = newWalk (version (s .words) + 1) } in record {
-        shared = sync-keeps kind law z g s (i .shared) p f
-            (publisher-fits (readers (s .words)) (slots (s .words)) y (omega arith)
-            (record {
-              held-below = λ _. publisher-fine kind law z g s (i .shared) p lt .held-below (omega arith);
-              mark-fits = λ l. law .versions-law .mark-fits (version (s .words)) (h .version-fits) (f .1 .1 .0);
-              waits-low = λ l. omega arith;
-            }));
+        shared = sync-keeps kind law z g s (i .shared) p f refl;
         own = moved-own (kept.advance g (Sync p) (Synced (version (s .words) + 1))) _ (s .entries) p y _ _ _ (moves-publisher (s .words) p y (h .long) (p16 p lt)) (λ q r e. rw e refl) (λ r e l. absurd (omega arith)) (λ l. refl);
       }
 
   raise-kept : (p : ℕ) → p < publishers (s .words) → eqb (publisher s p .place) 36 ≡ true → Good kind OwnOf z g (raise versions s p .after)
   raise-kept p lt turn =
       let at36 = eqb-true (publisher s p .place) 36 turn in
-      let pf = publisher-fine kind law z g s (i .shared) p lt in
       let y : Publisher = atPlace (publisher s p) 37 in
       let m = moves-publisher (s .words) p y (i .shared .fine .head .long) (p16 p lt) in
       let counted : publisher s p .walk .looks ≡ 1 + publisher s p .walk .waits = rw at36 at (i .own .looks-counted p (omega arith)) in record {
-        shared = raise-keeps kind law z g s (i .shared) p lt (omega arith) (omega arith)
-            (publisher-fits (readers (s .words)) (slots (s .words)) y (omega arith)
-            (record { held-below = λ _. pf .held-below (omega arith); mark-fits = λ _. pf .mark-fits (omega arith); waits-low = λ _. pf .waits-low (omega arith) }));
+        shared = raise-keeps kind law z g s (i .shared) p lt (omega arith) (omega arith) refl;
         own = pick-split (λ (o : Outcome). OwnOf g (o .after)) (eqb (version (s .words)) (versions .beforeMark (publisher s p .walk .mark)))
             (λ e. moved-own g _ (s .entries) p y _ _ _ (moves-head (s .words) _ p y _ _ _ m (i .shared .fine .head .long) VERSION-AT (publisher s p .walk .mark) (omega arith) (omega arith))
             (λ q r d. refl) (λ r q _. i .own .behind p r q (omega arith)) (λ _. counted))
@@ -315,9 +300,7 @@ module _ (z : Given) (g : Ghost) (s : State) (i : Good kind OwnOf z g s) where
         let pf = publisher-fine kind law z g s (i .shared) p lt in
         let k = looksOf s (publisher s p) b in
         let y : Publisher = walked (publisher s p) k in record {
-          shared = walk-keeps kind law z g s (i .shared) p b lt low high k none-pending (came .waits-are)
-              (publisher-fits (readers (s .words)) (slots (s .words)) y (came .high)
-              (record { held-below = λ _. pf .held-below (omega (arith, low)); mark-fits = λ _. rw (came .mark-same) (pf .mark-fits low); waits-low = λ _. came .enough (pf .waits-low low) }));
+          shared = walk-keeps kind law z g s (i .shared) p b lt low high k none-pending (came .waits-are) (came .mark-same) (came .enough (pf .waits-low low)) (le-ltb 38 (y .place) (came .high));
           own = moved-own (kept.advance g (Walk p b) (Walked (k .reply))) _ (s .entries) p y _ _ _ (moves-publisher (s .words) p y (i .shared .fine .head .long) (p16 p lt)) (λ q r e. refl)
               (λ r q l. rw (came .mark-same) (after-behind r q l)) (λ _. omega (arith, came .counted, i .own .looks-counted p low));
         }
@@ -383,9 +366,7 @@ lawful = record {
   start-own = λ z s f. start-own z s;
   fresh-out = (refl, refl);
   fresh-reader-fits = λ ss. refl;
-  fresh-publisher-fits = λ rs ss. refl;
   no-further = λ z g s i. counted-to s (i .own .indicators);
-  early-fits = early-fits;
   early-own = early-own;
   enter-moves = enter-moves;
   leave-moves = leave-moves;

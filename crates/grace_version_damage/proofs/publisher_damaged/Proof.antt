@@ -1,8 +1,10 @@
 -- `publisher_damaged` meets its contract: by the place, each case a law about the publisher rows. Assumes nothing.
 use borrow.Author.Needs.{needs}
-use mathlib.Core.Path.{sym}
+use mathlib.Core.Path.{sym, _∙_}
 use Rattle.layout.specs.Layout.{publisherAt}
-use Rattle.grace_version_law.specs.Calls.{publisher-idle, held-large, publisher-early, no-such-place, wrong-mark, more-waits, publisher-returned, publisher-walking}
+use Rattle.publication_law.specs.KindLaw.{publisher-idle, publisher-early, own-spoils, held-large, wrong-mark, more-waits, own-decides}
+use Rattle.grace_version_law.specs.Safety.{law}
+use Rattle.grace_version_law.specs.Calls.{no-such-place, own-returned, own-walking}
 use Rattle.grace_version_damage.proofs.publisher_damaged.Statement.{statement}
 use Rattle.grace_version_damage.proofs.publisher_damaged.Tie as tie
 use Rattle.grace_version_damage.proofs.publisher_damaged.Reads as reads
@@ -14,31 +16,31 @@ publisher-place-requires : tie.Need-publisher-place-requires
 publisher-place-requires c κs = search needs
 
 returns : tie.Need-returns
-returns c = sym (publisher-idle (c .before .before .before .args .readers) (c .before .before .before .args .slots) (publisherAt (c .before .before .before .args .words .now) (c .before .before .before .args .p)) (rw (c .before .publisher-place .ensures) at (c .if1 .taken)))
+returns c = sym (publisher-idle law (c .before .before .before .args .readers) (c .before .before .before .args .slots) (publisherAt (c .before .before .before .args .words .now) (c .before .before .before .args .p)) (rw (c .before .publisher-place .ensures) at (c .if1 .taken)))
 
 publisher-at-requires : tie.Need-publisher-at-requires
 publisher-at-requires c κs = search needs
 
 returns-2 : tie.Need-returns-2
-returns-2 c = sym (held-large (c .before .before .before .before .before .before .args .readers) (c .before .before .before .before .before .before .args .slots) (publisherAt (c .before .before .before .before .before .before .args .words .now) (c .before .before .before .before .before .before .args .p)) (rw (c .before .before .before .before .publisher-place .ensures) at (c .before .before .before .if1 .left)) (rw (c .before .before .publisher-at .ensures) at (c .if2 .taken)))
+returns-2 c = sym (held-large law (c .before .before .before .before .before .before .args .readers) (c .before .before .before .before .before .before .args .slots) (publisherAt (c .before .before .before .before .before .before .args .words .now) (c .before .before .before .before .before .before .args .p)) (rw (c .before .before .before .before .publisher-place .ensures) at (c .before .before .before .if1 .left)) (rw (c .before .before .publisher-at .ensures) at (c .if2 .taken)))
 
 returns-3 : tie.Need-returns-3
-returns-3 c = sym (publisher-early (c .before .before .before .before .before .before .before .args .readers) (c .before .before .before .before .before .before .before .args .slots) (publisherAt (c .before .before .before .before .before .before .before .args .words .now) (c .before .before .before .before .before .before .before .args .p)) (rw (c .before .before .before .publisher-at .ensures) at (c .before .if2 .left)) (rw (c .before .before .before .before .before .publisher-place .ensures) at (c .if3 .taken)))
+returns-3 c = sym (publisher-early law (c .before .before .before .before .before .before .before .args .readers) (c .before .before .before .before .before .before .before .args .slots) (publisherAt (c .before .before .before .before .before .before .before .args .words .now) (c .before .before .before .before .before .before .before .args .p)) (rw (c .before .before .before .publisher-at .ensures) at (c .before .if2 .left)) (rw (c .before .before .before .before .before .publisher-place .ensures) at (c .if3 .taken)))
 
 returns-4 : tie.Need-returns-4
-returns-4 c = sym (no-such-place (c .before .before .before .before .before .before .before .before .args .readers) (c .before .before .before .before .before .before .before .before .args .slots) (publisherAt (c .before .before .before .before .before .before .before .before .args .words .now) (c .before .before .before .before .before .before .before .before .args .p)) (rw (c .before .before .before .before .before .before .publisher-place .ensures) at (c .if4 .taken)))
+returns-4 c = sym (own-spoils law (c .before .before .before .before .before .before .before .before .args .readers) (c .before .before .before .before .before .before .before .before .args .slots) (publisherAt (c .before .before .before .before .before .before .before .before .args .words .now) (c .before .before .before .before .before .before .before .before .args .p)) (no-such-place (c .before .before .before .before .before .before .before .before .args .readers) (publisherAt (c .before .before .before .before .before .before .before .before .args .words .now) (c .before .before .before .before .before .before .before .before .args .p)) (rw (c .before .before .before .before .before .before .publisher-place .ensures) at (c .if4 .taken))))
 
 returns-5 : tie.Need-returns-5
-returns-5 c = sym (wrong-mark (c .before .before .before .before .before .before .before .before .before .before .before .before .args .readers) (c .before .before .before .before .before .before .before .before .before .before .before .before .args .slots) (publisherAt (c .before .before .before .before .before .before .before .before .before .before .before .before .args .words .now) (c .before .before .before .before .before .before .before .before .before .before .before .before .args .p)) (rw (c .before .before .before .before .before .before .before .before .before .before .publisher-place .ensures) at (c .before .before .before .before .before .if3 .left)) (rw (c .before .before .before .before .before .before .before .before .publisher-at .ensures) at (c .if5 .taken)))
+returns-5 c = sym (wrong-mark law (c .before .before .before .before .before .before .before .before .before .before .before .before .args .readers) (c .before .before .before .before .before .before .before .before .before .before .before .before .args .slots) (publisherAt (c .before .before .before .before .before .before .before .before .before .before .before .before .args .words .now) (c .before .before .before .before .before .before .before .before .before .before .before .before .args .p)) (rw (c .before .before .before .before .before .before .before .before .before .before .publisher-place .ensures) at (c .before .before .before .before .before .if3 .left)) (rw (c .before .before .before .before .before .before .before .before .publisher-at .ensures) at (c .if5 .taken)))
 
 returns-6 : tie.Need-returns-6
-returns-6 c = sym (more-waits (c .before .before .before .before .before .before .before .before .before .before .before .before .before .before .args .readers) (c .before .before .before .before .before .before .before .before .before .before .before .before .before .before .args .slots) (publisherAt (c .before .before .before .before .before .before .before .before .before .before .before .before .before .before .args .words .now) (c .before .before .before .before .before .before .before .before .before .before .before .before .before .before .args .p)) (rw (c .before .before .before .before .before .before .before .before .before .before .before .before .publisher-place .ensures) at (c .before .before .before .before .before .before .before .if3 .left)) (rw (c .before .before .before .before .before .before .before .before .before .before .publisher-at .ensures) at (c .if6 .taken)))
+returns-6 c = sym (more-waits law (c .before .before .before .before .before .before .before .before .before .before .before .before .before .before .args .readers) (c .before .before .before .before .before .before .before .before .before .before .before .before .before .before .args .slots) (publisherAt (c .before .before .before .before .before .before .before .before .before .before .before .before .before .before .args .words .now) (c .before .before .before .before .before .before .before .before .before .before .before .before .before .before .args .p)) (rw (c .before .before .before .before .before .before .before .before .before .before .before .before .publisher-place .ensures) at (c .before .before .before .before .before .before .before .if3 .left)) (rw (c .before .before .before .before .before .before .before .before .before .before .publisher-at .ensures) at (c .if6 .taken)))
 
 returns-7 : tie.Need-returns-7
-returns-7 c = sym (publisher-returned (c .before .before .before .before .before .before .before .before .before .before .before .before .before .before .before .args .readers) (c .before .before .before .before .before .before .before .before .before .before .before .before .before .before .before .args .slots) (publisherAt (c .before .before .before .before .before .before .before .before .before .before .before .before .before .before .before .args .words .now) (c .before .before .before .before .before .before .before .before .before .before .before .before .before .before .before .args .p)) (rw (c .before .before .before .before .before .before .before .before .before .before .before .publisher-at .ensures) at (c .before .before .before .before .before .before .before .before .before .if2 .left)) (rw (c .before .before .before .before .before .before .before .before .before .before .before .before .before .publisher-place .ensures) at (c .before .before .before .before .before .before .before .before .if3 .left)) (rw (c .before .before .before .before .before .before .before .before .before .before .before .before .before .publisher-place .ensures) at (c .before .before .before .before .before .before .before .if4 .left)) (rw (c .before .before .before .before .before .before .before .before .before .before .before .publisher-at .ensures) at (c .before .before .before .if5 .left)) (rw (c .before .before .before .before .before .before .before .before .before .before .before .publisher-at .ensures) at (c .before .if6 .left)) (rw (c .before .before .before .before .before .before .before .before .before .before .before .before .before .publisher-place .ensures) at (c .if7 .taken)))
+returns-7 c = sym (own-decides law (c .before .before .before .before .before .before .before .before .before .before .before .before .before .before .before .args .readers) (c .before .before .before .before .before .before .before .before .before .before .before .before .before .before .before .args .slots) (publisherAt (c .before .before .before .before .before .before .before .before .before .before .before .before .before .before .before .args .words .now) (c .before .before .before .before .before .before .before .before .before .before .before .before .before .before .before .args .p)) (rw (c .before .before .before .before .before .before .before .before .before .before .before .publisher-at .ensures) at (c .before .before .before .before .before .before .before .before .before .if2 .left)) (rw (c .before .before .before .before .before .before .before .before .before .before .before .before .before .publisher-place .ensures) at (c .before .before .before .before .before .before .before .before .if3 .left)) (rw (c .before .before .before .before .before .before .before .before .before .before .before .publisher-at .ensures) at (c .before .before .before .if5 .left)) (rw (c .before .before .before .before .before .before .before .before .before .before .before .publisher-at .ensures) at (c .before .if6 .left)) ∙ own-returned (c .before .before .before .before .before .before .before .before .before .before .before .before .before .before .before .args .readers) (publisherAt (c .before .before .before .before .before .before .before .before .before .before .before .before .before .before .before .args .words .now) (c .before .before .before .before .before .before .before .before .before .before .before .before .before .before .before .args .p)) (rw (c .before .before .before .before .before .before .before .before .before .before .before .before .before .publisher-place .ensures) at (c .if7 .taken)))
 
 returns-8 : tie.Need-returns-8
-returns-8 c = rw (c .before .before .before .before .before .before .before .before .before .before .before .before .publisher-at .ensures) (sym (publisher-walking (c .before .before .before .before .before .before .before .before .before .before .before .before .before .before .before .before .args .readers) (c .before .before .before .before .before .before .before .before .before .before .before .before .before .before .before .before .args .slots) (publisherAt (c .before .before .before .before .before .before .before .before .before .before .before .before .before .before .before .before .args .words .now) (c .before .before .before .before .before .before .before .before .before .before .before .before .before .before .before .before .args .p)) (rw (c .before .before .before .before .before .before .before .before .before .before .before .before .publisher-at .ensures) at (c .before .before .before .before .before .before .before .before .before .before .if2 .left)) (rw (c .before .before .before .before .before .before .before .before .before .before .before .before .before .before .publisher-place .ensures) at (c .before .before .before .before .before .before .before .before .before .if3 .left)) (rw (c .before .before .before .before .before .before .before .before .before .before .before .before .before .before .publisher-place .ensures) at (c .before .before .before .before .before .before .before .before .if4 .left)) (rw (c .before .before .before .before .before .before .before .before .before .before .before .before .publisher-at .ensures) at (c .before .before .before .before .if5 .left)) (rw (c .before .before .before .before .before .before .before .before .before .before .before .before .publisher-at .ensures) at (c .before .before .if6 .left)) (rw (c .before .before .before .before .before .before .before .before .before .before .before .before .before .before .publisher-place .ensures) at (c .before .if7 .left))))
+returns-8 c = rw (c .before .before .before .before .before .before .before .before .before .before .before .before .publisher-at .ensures) (sym (own-decides law (c .before .before .before .before .before .before .before .before .before .before .before .before .before .before .before .before .args .readers) (c .before .before .before .before .before .before .before .before .before .before .before .before .before .before .before .before .args .slots) (publisherAt (c .before .before .before .before .before .before .before .before .before .before .before .before .before .before .before .before .args .words .now) (c .before .before .before .before .before .before .before .before .before .before .before .before .before .before .before .before .args .p)) (rw (c .before .before .before .before .before .before .before .before .before .before .before .before .publisher-at .ensures) at (c .before .before .before .before .before .before .before .before .before .before .if2 .left)) (rw (c .before .before .before .before .before .before .before .before .before .before .before .before .before .before .publisher-place .ensures) at (c .before .before .before .before .before .before .before .before .before .if3 .left)) (rw (c .before .before .before .before .before .before .before .before .before .before .before .before .publisher-at .ensures) at (c .before .before .before .before .if5 .left)) (rw (c .before .before .before .before .before .before .before .before .before .before .before .before .publisher-at .ensures) at (c .before .before .if6 .left)) ∙ own-walking (c .before .before .before .before .before .before .before .before .before .before .before .before .before .before .before .before .args .readers) (publisherAt (c .before .before .before .before .before .before .before .before .before .before .before .before .before .before .before .before .args .words .now) (c .before .before .before .before .before .before .before .before .before .before .before .before .before .before .before .before .args .p)) (rw (c .before .before .before .before .before .before .before .before .before .before .before .before .before .before .publisher-place .ensures) at (c .before .before .before .before .before .before .before .before .before .if3 .left)) (rw (c .before .before .before .before .before .before .before .before .before .before .before .before .before .before .publisher-place .ensures) at (c .before .before .before .before .before .before .before .before .if4 .left)) (rw (c .before .before .before .before .before .before .before .before .before .before .before .before .before .before .publisher-place .ensures) at (c .before .if7 .left))))
 
 pub publisher-damaged-spec : {M : Type 1} → statement M
 publisher-damaged-spec =

@@ -6,8 +6,9 @@ use mathlib.Core.Logic.{⊎-elim}
 use Rattle.statement.specs.Machine.{state}
 use Rattle.publication_law.specs.Rules.{damaged}
 use Rattle.publication_law.specs.Calls.{step-damaged, step-undamaged, undamaged, damaged-head, damaged-readers, damaged-publishers}
+use Rattle.publication_law.specs.Sound.{sound-of}
 use Rattle.grace_version_law.specs.Steps.{rules}
-use Rattle.grace_version_law.specs.Calls.{sound-of}
+use Rattle.grace_version_law.specs.Safety.{law}
 use Rattle.calls.specs.declared.Call.the-variants.{Claim}
 use Rattle.grace_version_publishers.proofs.claim.Statement.{statement}
 use Rattle.grace_version_publishers.proofs.claim.Tie as tie
@@ -42,7 +43,7 @@ returns : tie.Need-returns
 returns c = step-damaged rules _ (Claim _ _) (spoiled c)
 
 claim-slot-requires : tie.Need-claim-slot-requires
-claim-slot-requires c κs = sound-of _ (clean (c .before))
+claim-slot-requires c κs = sound-of rules law _ (clean (c .before))
 
 same-length-2 : tie.Need-same-length-2
 same-length-2 c = search needs

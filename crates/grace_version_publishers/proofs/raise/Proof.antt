@@ -4,14 +4,14 @@ use native.Mathlib.Omega.{arith}
 use mathlib.Core.Path.{_≡_, refl, sym, _∙_}
 use mathlib.Core.Bool.{true, false}
 use mathlib.Core.Logic.{⊎-elim}
-use borrow.Author.Tests.{le-leb, lt-leb, ne-eqb}
+use borrow.Author.Tests.{le-leb, lt-leb, eq-eqb, ne-eqb}
 use Rattle.statement.specs.Machine.{state}
 use Rattle.publication_law.specs.Rules.{damaged, step}
-use Rattle.publication_law.specs.Calls.{step-damaged, undamaged, damaged-head, damaged-readers, damaged-publishers}
+use Rattle.publication_law.specs.Calls.{step-damaged, undamaged, damaged-head, damaged-readers, damaged-publishers, raise-is}
+use Rattle.publication_law.specs.Sound.{sound-of, Synchronising, synchronising-of}
 use Rattle.grace_version_law.specs.Steps.{rules, versions}
-use Rattle.grace_version_law.specs.Calls.{sound-of, Walking, walking-of, raise-is}
+use Rattle.grace_version_law.specs.Safety.{law}
 use Rattle.calls.specs.declared.Call.the-variants.{Raise}
-use Rattle.layout.specs.Layout.{readers}
 use Rattle.grace_version_publishers.proofs.raise.Statement.{statement}
 use Rattle.grace_version_publishers.proofs.raise.Tie as tie
 use Rattle.grace_version_publishers.proofs.raise.Reads as reads
@@ -31,10 +31,10 @@ spoiled c = ⊎-elim (λ t. damaged-head rules (state (c .before .before .before
     (⊎-elim (λ a. damaged-readers rules (state (c .before .before .before .before .args .words .now) (c .before .before .before .before .args .entries .now)) (sym (a .2 .ensures (c .before .before .before .before .args .entries .now)) ∙ a .3 .taken)) (λ a. damaged-publishers rules (state (c .before .before .before .before .args .words .now) (c .before .before .before .before .args .entries .now)) (sym (a .5 .ensures (c .before .before .before .before .args .entries .now)) ∙ a .6 .taken)))
     (c .if1 .came)
 
-walker : (c : tie.At-match-keys1) → Walking (readers (c .before .before .before .before .before .before .before .before .before .before .before .before .before .before .before .before .args .words .now)) (c .before .publisher-at .result)
+walker : (c : tie.At-match-keys1) → Synchronising (c .before .publisher-at .result)
 walker c =
     let e = rw (c .before .publisher-at .ensures) at (c .match .keys1) in
-    rw (c .before .publisher-at .ensures) (walking-of _ (clean (c .before .before .before .before .before .before)) _ (rw (c .before .before .before .before .publishers-of .ensures) at (c .before .before .before .if4 .left)) (rw e refl))
+    rw (c .before .publisher-at .ensures) (synchronising-of rules law _ (clean (c .before .before .before .before .before .before)) _ (rw (c .before .before .before .before .publishers-of .ensures) at (c .before .before .before .if4 .left)) (omega (arith, e)))
 
 head-is-damaged-requires : tie.Need-head-is-damaged-requires
 head-is-damaged-requires c κs = search needs
@@ -52,7 +52,7 @@ returns : tie.Need-returns
 returns c = step-damaged rules _ (Raise _) (spoiled c)
 
 publishers-of-requires : tie.Need-publishers-of-requires
-publishers-of-requires c κs = sound-of _ (clean (c .before)) .long
+publishers-of-requires c κs = sound-of rules law _ (clean (c .before)) .long
 
 same-length-2 : tie.Need-same-length-2
 same-length-2 c = search needs
@@ -62,19 +62,19 @@ unfolding step
 returns-2 c = rw (clean (c .before .before .before), le-leb _ _ (rw (c .before .publishers-of .ensures) at (c .if4 .taken))) refl
 
 publisher-at-requires : tie.Need-publisher-at-requires
-publisher-at-requires c κs = omega (arith, sound-of _ (clean (c .before .before .before .before)), c .before .before .publishers-of .ensures)
+publisher-at-requires c κs = omega (arith, sound-of rules law _ (clean (c .before .before .before .before)), c .before .before .publishers-of .ensures)
 
 sub-raise-version : tie.Need-sub-raise-version
 sub-raise-version c = walker (c .before .before) .mark-low
 
 raise-version-requires : tie.Need-raise-version-requires
-raise-version-requires c κs = (sound-of _ (clean (c .before .before .before .before .before .before .before .before)), rw (c .before .before .before .before .before .before .publishers-of .ensures) at (c .before .before .before .before .before .if4 .left), c .before .before .before .publisher-at .ensures)
+raise-version-requires c κs = (sound-of rules law _ (clean (c .before .before .before .before .before .before .before .before)), rw (c .before .before .before .before .before .before .publishers-of .ensures) at (c .before .before .before .before .before .if4 .left), c .before .before .before .publisher-at .ensures)
 
 same-length-3 : tie.Need-same-length-3
 same-length-3 c = search needs
 
 returns-3 : tie.Need-returns-3
-returns-3 c = raise-is _ (clean (c .before .before .before .before .before .before .before .before .before .before .before)) _ _ _ (rw (c .before .before .before .before .before .before .before .before .before .publishers-of .ensures) at (c .before .before .before .before .before .before .before .before .if4 .left)) (c .before .before .before .before .before .before .publisher-at .ensures) (c .before .before .before .before .before .match .keys1) (c .before .before .raise-version .ensures versions (c .before .before .before .before .before .before .before .before .before .before .before .before .before .before .before .before .before .before .before .before .before .args .entries .now) refl)
+returns-3 c = raise-is rules _ (clean (c .before .before .before .before .before .before .before .before .before .before .before)) _ _ _ (rw (c .before .before .before .before .before .before .before .before .before .publishers-of .ensures) at (c .before .before .before .before .before .before .before .before .if4 .left)) (c .before .before .before .before .before .before .publisher-at .ensures) (eq-eqb _ 35 (c .before .before .before .before .before .match .keys1)) (c .before .before .raise-version .ensures versions (c .before .before .before .before .before .before .before .before .before .before .before .before .before .before .before .before .before .before .before .before .before .args .entries .now) refl)
 
 same-length-4 : tie.Need-same-length-4
 same-length-4 c = search needs

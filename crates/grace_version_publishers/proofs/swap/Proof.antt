@@ -6,8 +6,9 @@ use mathlib.Core.Logic.{⊎-elim}
 use Rattle.statement.specs.Machine.{state}
 use Rattle.publication_law.specs.Rules.{damaged}
 use Rattle.publication_law.specs.Calls.{step-damaged, step-undamaged, undamaged, damaged-head, damaged-readers, damaged-publishers}
+use Rattle.publication_law.specs.Sound.{sound-of}
 use Rattle.grace_version_law.specs.Steps.{rules}
-use Rattle.grace_version_law.specs.Calls.{sound-of}
+use Rattle.grace_version_law.specs.Safety.{law}
 use Rattle.calls.specs.declared.Call.the-variants.{Swap}
 use Rattle.grace_version_publishers.proofs.swap.Statement.{statement}
 use Rattle.grace_version_publishers.proofs.swap.Tie as tie
@@ -42,7 +43,7 @@ returns : tie.Need-returns
 returns c = step-damaged rules _ (Swap _) (spoiled c)
 
 swap-in-requires : tie.Need-swap-in-requires
-swap-in-requires c κs = sound-of _ (clean (c .before))
+swap-in-requires c κs = sound-of rules law _ (clean (c .before))
 
 same-length-2 : tie.Need-same-length-2
 same-length-2 c = search needs

@@ -7,8 +7,9 @@ use mathlib.Core.Logic.{⊎-elim}
 use Rattle.statement.specs.Machine.{state}
 use Rattle.publication_law.specs.Rules.{damaged}
 use Rattle.publication_law.specs.Calls.{step-damaged, step-undamaged, undamaged, damaged-head, damaged-readers, damaged-publishers, last-is, mark-is}
+use Rattle.publication_law.specs.Sound.{sound-of, version-low}
 use Rattle.grace_version_law.specs.Steps.{LAST, rules, versions}
-use Rattle.grace_version_law.specs.Calls.{sound-of, version-low}
+use Rattle.grace_version_law.specs.Safety.{law}
 use Rattle.calls.specs.declared.Call.the-variants.{Sync}
 use Rattle.grace_version_publishers.proofs.sync.Statement.{statement}
 use Rattle.grace_version_publishers.proofs.sync.Tie as tie
@@ -46,13 +47,13 @@ sub-start-sync : tie.Need-sub-start-sync
 sub-start-sync c = search needs
 
 start-sync-requires : tie.Need-start-sync-requires
-start-sync-requires c κs = sound-of _ (clean (c .before))
+start-sync-requires c κs = sound-of rules law _ (clean (c .before))
 
 same-length-2 : tie.Need-same-length-2
 same-length-2 c = search needs
 
 returns-2 : tie.Need-returns-2
-returns-2 c = c .before .before .start-sync .ensures versions (c .before .before .before .before .before .before .before .before .before .before .before .before .before .before .args .entries .now) (last-is LAST _ (omega arith) (version-low _ (clean (c .before .before .before .before)))) (mark-is LAST _ (omega arith) (version-low _ (clean (c .before .before .before .before)))) ∙ step-undamaged rules _ (Sync _) (clean (c .before .before .before .before))
+returns-2 c = c .before .before .start-sync .ensures versions (c .before .before .before .before .before .before .before .before .before .before .before .before .before .before .args .entries .now) (last-is LAST _ (omega arith) (version-low rules law _ (clean (c .before .before .before .before)) LAST refl)) (mark-is LAST _ (omega arith) (version-low rules law _ (clean (c .before .before .before .before)) LAST refl)) ∙ step-undamaged rules _ (Sync _) (clean (c .before .before .before .before))
 
 pub sync-spec : {M : Type 1} → statement M
 sync-spec =

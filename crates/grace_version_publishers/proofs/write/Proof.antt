@@ -7,8 +7,9 @@ use mathlib.Core.Logic.{⊎-elim}
 use Rattle.statement.specs.Machine.{state}
 use Rattle.publication_law.specs.Rules.{damaged}
 use Rattle.publication_law.specs.Calls.{step-damaged, step-undamaged, undamaged, damaged-head, damaged-readers, damaged-publishers}
+use Rattle.publication_law.specs.Sound.{sound-of, entries-of}
 use Rattle.grace_version_law.specs.Steps.{rules}
-use Rattle.grace_version_law.specs.Calls.{sound-of, entries-of}
+use Rattle.grace_version_law.specs.Safety.{law}
 use Rattle.calls.specs.declared.Call.the-variants.{Write}
 use Rattle.grace_version_publishers.proofs.write.Statement.{statement}
 use Rattle.grace_version_publishers.proofs.write.Tie as tie
@@ -43,7 +44,7 @@ returns : tie.Need-returns
 returns c = step-damaged rules _ (Write _ _) (spoiled c)
 
 write-entry-requires : tie.Need-write-entry-requires
-write-entry-requires c κs = (sound-of _ (clean (c .before .before)), entries-of _ (clean (c .before .before)))
+write-entry-requires c κs = (sound-of rules law _ (clean (c .before .before)), entries-of rules law _ (clean (c .before .before)))
 
 same-length-2 : tie.Need-same-length-2
 same-length-2 c = search needs

@@ -8,8 +8,10 @@ use borrow.Author.Tests.{le-leb, lt-leb}
 use Rattle.statement.specs.Machine.{state}
 use Rattle.publication_law.specs.Rules.{damaged, step}
 use Rattle.publication_law.specs.Calls.{step-damaged, undamaged, damaged-head, damaged-readers, damaged-publishers}
+use Rattle.publication_law.specs.Sound.{sound-of}
 use Rattle.grace_version_law.specs.Steps.{rules}
-use Rattle.grace_version_law.specs.Calls.{sound-of, published-of, enter-is}
+use Rattle.grace_version_law.specs.Safety.{law}
+use Rattle.grace_version_law.specs.Calls.{published-of, enter-is}
 use Rattle.calls.specs.declared.Call.the-variants.{Enter}
 use Rattle.grace_version_readers.proofs.enter.Statement.{statement}
 use Rattle.grace_version_readers.proofs.enter.Tie as tie
@@ -49,7 +51,7 @@ returns : tie.Need-returns
 returns c = step-damaged rules _ (Enter _) (spoiled c)
 
 readers-of-requires : tie.Need-readers-of-requires
-readers-of-requires c κs = sound-of _ (clean (c .before)) .long
+readers-of-requires c κs = sound-of rules law _ (clean (c .before)) .long
 
 same-length-2 : tie.Need-same-length-2
 same-length-2 c = search needs
@@ -59,7 +61,7 @@ unfolding step
 returns-2 c = rw (clean (c .before .before .before), le-leb _ _ (rw (c .before .readers-of .ensures) at (c .if4 .taken))) refl
 
 reader-at-requires : tie.Need-reader-at-requires
-reader-at-requires c κs = omega (arith, sound-of _ (clean (c .before .before .before .before)), c .before .before .readers-of .ensures)
+reader-at-requires c κs = omega (arith, sound-of rules law _ (clean (c .before .before .before .before)), c .before .before .readers-of .ensures)
 
 same-length-3 : tie.Need-same-length-3
 same-length-3 c = search needs
@@ -69,16 +71,16 @@ unfolding step
 returns-3 c = rw (clean (c .before .before .before .before .before .before .before), lt-leb _ _ (rw (c .before .before .before .before .before .readers-of .ensures) at (c .before .before .before .before .if4 .left)), le-leb 5 _ (rw (c .before .before .reader-at .ensures) at (c .if5 .taken))) refl
 
 version-of-requires : tie.Need-version-of-requires
-version-of-requires c κs = sound-of _ (clean (c .before .before .before .before .before .before .before .before)) .long
+version-of-requires c κs = sound-of rules law _ (clean (c .before .before .before .before .before .before .before .before)) .long
 
 current-of-requires : tie.Need-current-of-requires
-current-of-requires c κs = sound-of _ (clean (c .before .before .before .before .before .before .before .before .before .before)) .long
+current-of-requires c κs = sound-of rules law _ (clean (c .before .before .before .before .before .before .before .before .before .before)) .long
 
 advanced-requires : tie.Need-advanced-requires
 advanced-requires c κs = (c .before .before .before .before .if5 .left, λ e. rw (c .before .before .before .before .before .before .reader-at .ensures) (published-of _ (clean (c .before .before .before .before .before .before .before .before .before .before .before)) _ (rw (c .before .before .before .before .before .before .before .before .before .readers-of .ensures) at (c .before .before .before .before .before .before .before .before .if4 .left)) (rw (c .before .before .before .before .before .before .reader-at .ensures) at e)))
 
 put-reader-requires : tie.Need-put-reader-requires
-put-reader-requires c κs = omega (arith, sound-of _ (clean (c .before .before .before .before .before .before .before .before .before .before .before .before .before)), c .before .before .before .before .before .before .before .before .before .before .before .readers-of .ensures)
+put-reader-requires c κs = omega (arith, sound-of rules law _ (clean (c .before .before .before .before .before .before .before .before .before .before .before .before .before)), c .before .before .before .before .before .before .before .before .before .before .before .readers-of .ensures)
 
 same-length-4 : tie.Need-same-length-4
 same-length-4 c = search needs

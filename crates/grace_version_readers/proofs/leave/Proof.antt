@@ -8,8 +8,10 @@ use borrow.Author.Tests.{le-leb, lt-leb, lt-ltb}
 use Rattle.statement.specs.Machine.{state}
 use Rattle.publication_law.specs.Rules.{damaged, step}
 use Rattle.publication_law.specs.Calls.{step-damaged, undamaged, damaged-head, damaged-readers, damaged-publishers}
+use Rattle.publication_law.specs.Sound.{sound-of}
 use Rattle.grace_version_law.specs.Steps.{rules}
-use Rattle.grace_version_law.specs.Calls.{sound-of, leave-is}
+use Rattle.grace_version_law.specs.Safety.{law}
+use Rattle.grace_version_law.specs.Calls.{leave-is}
 use Rattle.calls.specs.declared.Call.the-variants.{Leave}
 use Rattle.grace_version_readers.proofs.leave.Statement.{statement}
 use Rattle.grace_version_readers.proofs.leave.Tie as tie
@@ -46,7 +48,7 @@ returns : tie.Need-returns
 returns c = step-damaged rules _ (Leave _) (spoiled c)
 
 readers-of-requires : tie.Need-readers-of-requires
-readers-of-requires c κs = sound-of _ (clean (c .before)) .long
+readers-of-requires c κs = sound-of rules law _ (clean (c .before)) .long
 
 same-length-2 : tie.Need-same-length-2
 same-length-2 c = search needs
@@ -56,7 +58,7 @@ unfolding step
 returns-2 c = rw (clean (c .before .before .before), le-leb _ _ (rw (c .before .readers-of .ensures) at (c .if4 .taken))) refl
 
 reader-at-requires : tie.Need-reader-at-requires
-reader-at-requires c κs = omega (arith, sound-of _ (clean (c .before .before .before .before)), c .before .before .readers-of .ensures)
+reader-at-requires c κs = omega (arith, sound-of rules law _ (clean (c .before .before .before .before)), c .before .before .readers-of .ensures)
 
 same-length-3 : tie.Need-same-length-3
 same-length-3 c = search needs
@@ -66,7 +68,7 @@ unfolding step
 returns-3 c = rw (clean (c .before .before .before .before .before .before .before), lt-leb _ _ (rw (c .before .before .before .before .before .readers-of .ensures) at (c .before .before .before .before .if4 .left)), lt-ltb _ 4 (rw (c .before .before .reader-at .ensures) at (c .if5 .taken))) refl
 
 put-reader-requires : tie.Need-put-reader-requires
-put-reader-requires c κs = omega (arith, sound-of _ (clean (c .before .before .before .before .before .before .before .before)), c .before .before .before .before .before .before .readers-of .ensures)
+put-reader-requires c κs = omega (arith, sound-of rules law _ (clean (c .before .before .before .before .before .before .before .before)), c .before .before .before .before .before .before .readers-of .ensures)
 
 same-length-4 : tie.Need-same-length-4
 same-length-4 c = search needs

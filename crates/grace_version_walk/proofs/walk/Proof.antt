@@ -4,12 +4,14 @@ use native.Mathlib.Omega.{arith}
 use mathlib.Core.Path.{_≡_, refl, sym, _∙_}
 use mathlib.Core.Bool.{true, false}
 use mathlib.Core.Logic.{⊎-elim}
-use borrow.Author.Tests.{le-leb, lt-leb, lt-ltb, ne-eqb}
+use borrow.Author.Tests.{le-leb, lt-leb, lt-ltb, eq-eqb, ne-eqb}
 use Rattle.statement.specs.Machine.{state}
 use Rattle.publication_law.specs.Rules.{damaged, step}
-use Rattle.publication_law.specs.Calls.{step-damaged, undamaged, damaged-head, damaged-readers, damaged-publishers}
+use Rattle.publication_law.specs.Calls.{step-damaged, undamaged, damaged-head, damaged-readers, damaged-publishers, walk-is}
+use Rattle.publication_law.specs.Sound.{sound-of, Synchronising, synchronising-of}
 use Rattle.grace_version_law.specs.Steps.{rules}
-use Rattle.grace_version_law.specs.Calls.{sound-of, Walking, walking-of, walk-is}
+use Rattle.grace_version_law.specs.Safety.{law}
+use Rattle.grace_version_law.specs.Calls.{next-low}
 use Rattle.calls.specs.declared.Call.the-variants.{Walk}
 use Prim.Native.Nat.{_+_, _<_, _≤_}
 use Rattle.calls.specs.Numbers.{NUMBER-MAX}
@@ -35,10 +37,15 @@ spoiled c = ⊎-elim (λ t. damaged-head rules (state (c .before .before .before
     (⊎-elim (λ a. damaged-readers rules (state (c .before .before .before .before .args .words .now) (c .before .before .before .before .args .entries .now)) (sym (a .2 .ensures (c .before .before .before .before .args .entries .now)) ∙ a .3 .taken)) (λ a. damaged-publishers rules (state (c .before .before .before .before .args .words .now) (c .before .before .before .before .args .entries .now)) (sym (a .5 .ensures (c .before .before .before .before .args .entries .now)) ∙ a .6 .taken)))
     (c .if1 .came)
 
-walker : (c : tie.At-match-keys1) → Walking (readers (c .before .before .before .before .before .before .before .before .before .before .before .before .before .before .before .before .args .words .now)) (c .before .publisher-at .result)
+walker : (c : tie.At-match-keys1) → Synchronising (c .before .publisher-at .result)
 walker c =
     let e = rw (c .before .publisher-at .ensures) at (c .match .keys1) in
-    rw (c .before .publisher-at .ensures) (walking-of _ (clean (c .before .before .before .before .before .before)) _ (rw (c .before .before .before .before .publishers-of .ensures) at (c .before .before .before .if4 .left)) (rw e refl))
+    rw (c .before .publisher-at .ensures) (synchronising-of rules law _ (clean (c .before .before .before .before .before .before)) _ (rw (c .before .before .before .before .publishers-of .ensures) at (c .before .before .before .if4 .left)) (omega (arith, e)))
+
+left-to-pass : (c : tie.At-match-keys1) → c .before .publisher-at .result .walk .next < readers (c .before .before .before .before .before .before .before .before .before .before .before .before .before .before .before .before .args .words .now)
+left-to-pass c =
+    let e = rw (c .before .publisher-at .ensures) at (c .match .keys1) in
+    rw (c .before .publisher-at .ensures) (next-low _ (clean (c .before .before .before .before .before .before)) _ (rw (c .before .before .before .before .publishers-of .ensures) at (c .before .before .before .if4 .left)) (rw e refl))
 
 room : (c : tie.Else5) → c .before .before .before .before .publisher-at .result .walk .looks + c .before .before .before .before .before .before .before .before .before .before .before .before .before .before .before .before .before .before .before .args .b ≤ NUMBER-MAX
 room c = omega (arith, c .if5 .left, c .before .before .before .before .before .before .before .before .before .before .before .before .before .before .before .before .before .before .before .fits .b)
@@ -62,7 +69,7 @@ returns : tie.Need-returns
 returns c = step-damaged rules _ (Walk _ _) (spoiled c)
 
 publishers-of-requires : tie.Need-publishers-of-requires
-publishers-of-requires c κs = sound-of _ (clean (c .before)) .long
+publishers-of-requires c κs = sound-of rules law _ (clean (c .before)) .long
 
 same-length-2 : tie.Need-same-length-2
 same-length-2 c = search needs
@@ -72,7 +79,7 @@ unfolding step
 returns-2 c = rw (clean (c .before .before .before), le-leb _ _ (rw (c .before .publishers-of .ensures) at (c .if4 .taken))) refl
 
 publisher-at-requires : tie.Need-publisher-at-requires
-publisher-at-requires c κs = omega (arith, sound-of _ (clean (c .before .before .before .before)), c .before .before .publishers-of .ensures)
+publisher-at-requires c κs = omega (arith, sound-of rules law _ (clean (c .before .before .before .before)), c .before .before .publishers-of .ensures)
 
 sub-if5 : tie.Need-sub-if5
 sub-if5 c = search needs
@@ -85,19 +92,19 @@ unfolding step
 returns-3 c = rw (clean (c .before .before .before .before .before .before .before .before .before), lt-leb _ _ (rw (c .before .before .before .before .before .before .before .publishers-of .ensures) at (c .before .before .before .before .before .before .if4 .left)), rw (c .before .before .before .before .publisher-at .ensures) at (c .before .before .before .match .keys1), lt-ltb _ _ (full c)) refl
 
 readers-of-requires : tie.Need-readers-of-requires
-readers-of-requires c κs = sound-of _ (clean (c .before .before .before .before .before .before .before .before .before .before)) .long
+readers-of-requires c κs = sound-of rules law _ (clean (c .before .before .before .before .before .before .before .before .before .before)) .long
 
 looks-requires : tie.Need-looks-requires
-looks-requires c κs = (sound-of _ (clean (c .before .before .before .before .before .before .before .before .before .before .before)) .long, rw (c .readers-of .ensures) (sound-of _ (clean (c .before .before .before .before .before .before .before .before .before .before .before)) .readers-high), rw (c .readers-of .ensures) (walker (c .before .before .before .before .before) .next-low), room (c .before .before), walker (c .before .before .before .before .before) .waits-low)
+looks-requires c κs = (sound-of rules law _ (clean (c .before .before .before .before .before .before .before .before .before .before .before)) .long, rw (c .readers-of .ensures) (sound-of rules law _ (clean (c .before .before .before .before .before .before .before .before .before .before .before)) .readers-high), rw (c .readers-of .ensures) (left-to-pass (c .before .before .before .before .before)), room (c .before .before), walker (c .before .before .before .before .before) .waits-low)
 
 end-walk-requires : tie.Need-end-walk-requires
-end-walk-requires c κs = (sound-of _ (clean (c .before .before .before .before .before .before .before .before .before .before .before .before .before)), rw (c .before .before .before .before .before .before .before .before .before .before .before .publishers-of .ensures) at (c .before .before .before .before .before .before .before .before .before .before .if4 .left), c .before .before .before .before .before .before .before .before .publisher-at .ensures)
+end-walk-requires c κs = (sound-of rules law _ (clean (c .before .before .before .before .before .before .before .before .before .before .before .before .before)), rw (c .before .before .before .before .before .before .before .before .before .before .before .publishers-of .ensures) at (c .before .before .before .before .before .before .before .before .before .before .if4 .left), c .before .before .before .before .before .before .before .before .publisher-at .ensures)
 
 same-length-4 : tie.Need-same-length-4
 same-length-4 c = search needs
 
 returns-4 : tie.Need-returns-4
-returns-4 c = walk-is _ (clean (c .before .before .before .before .before .before .before .before .before .before .before .before .before .before .before .before)) _ _ _ _ _ (rw (c .before .before .before .before .before .before .before .before .before .before .before .before .before .before .publishers-of .ensures) at (c .before .before .before .before .before .before .before .before .before .before .before .before .before .if4 .left)) (c .before .before .before .before .before .before .before .before .before .before .before .publisher-at .ensures) (c .before .before .before .before .before .before .before .before .before .before .match .keys1) (room (c .before .before .before .before .before .before .before)) (rw (c .before .before .before .before .before .readers-of .ensures) at (c .before .before .before .before .looks .ensures)) (c .before .before .end-walk .ensures (c .before .before .before .before .before .before .before .before .before .before .before .before .before .before .before .before .before .before .before .before .before .before .before .before .before .before .args .entries .now))
+returns-4 c = walk-is rules _ (clean (c .before .before .before .before .before .before .before .before .before .before .before .before .before .before .before .before)) _ _ _ (rw (c .before .before .before .before .before .before .before .before .before .before .before .before .before .before .publishers-of .ensures) at (c .before .before .before .before .before .before .before .before .before .before .before .before .before .if4 .left)) (c .before .before .before .before .before .before .before .before .before .before .before .publisher-at .ensures) _ _ (eq-eqb _ 37 (c .before .before .before .before .before .before .before .before .before .before .match .keys1)) (room (c .before .before .before .before .before .before .before)) (rw (c .before .before .before .before .before .readers-of .ensures, c .before .before .before .before .before .before .before .before .before .before .before .publisher-at .ensures) at (c .before .before .before .before .looks .ensures)) (c .before .before .end-walk .ensures (c .before .before .before .before .before .before .before .before .before .before .before .before .before .before .before .before .before .before .before .before .before .before .before .before .before .before .args .entries .now))
 
 same-length-5 : tie.Need-same-length-5
 same-length-5 c = search needs

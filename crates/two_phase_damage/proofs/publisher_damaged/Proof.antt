@@ -2,7 +2,9 @@
 use borrow.Author.Needs.{needs}
 use mathlib.Core.Path.{sym}
 use Rattle.layout.specs.Layout.{publisherAt}
-use Rattle.two_phase_law.specs.Calls.{publisher-idle, held-large, publisher-early, no-such-place, wrong-mark, waits-decide}
+use borrow.Author.Tests.{lt-ltb, le-ltb}
+use Rattle.publication_law.specs.KindLaw.{publisher-idle, publisher-early, own-spoils, held-large, wrong-mark, waits-decide}
+use Rattle.two_phase_law.specs.Safety.{law}
 use Rattle.two_phase_damage.proofs.publisher_damaged.Statement.{statement}
 use Rattle.two_phase_damage.proofs.publisher_damaged.Tie as tie
 use Rattle.two_phase_damage.proofs.publisher_damaged.Reads as reads
@@ -14,25 +16,25 @@ publisher-place-requires : tie.Need-publisher-place-requires
 publisher-place-requires c κs = search needs
 
 returns : tie.Need-returns
-returns c = λ rs. sym (publisher-idle rs (c .before .before .before .args .slots) (publisherAt (c .before .before .before .args .words .now) (c .before .before .before .args .p)) (rw (c .before .publisher-place .ensures) at (c .if1 .taken)))
+returns c = λ rs. sym (publisher-idle law rs (c .before .before .before .args .slots) (publisherAt (c .before .before .before .args .words .now) (c .before .before .before .args .p)) (rw (c .before .publisher-place .ensures) at (c .if1 .taken)))
 
 publisher-at-requires : tie.Need-publisher-at-requires
 publisher-at-requires c κs = search needs
 
 returns-2 : tie.Need-returns-2
-returns-2 c = λ rs. sym (held-large rs (c .before .before .before .before .before .before .args .slots) (publisherAt (c .before .before .before .before .before .before .args .words .now) (c .before .before .before .before .before .before .args .p)) (rw (c .before .before .before .before .publisher-place .ensures) at (c .before .before .before .if1 .left)) (rw (c .before .before .publisher-at .ensures) at (c .if2 .taken)))
+returns-2 c = λ rs. sym (held-large law rs (c .before .before .before .before .before .before .args .slots) (publisherAt (c .before .before .before .before .before .before .args .words .now) (c .before .before .before .before .before .before .args .p)) (rw (c .before .before .before .before .publisher-place .ensures) at (c .before .before .before .if1 .left)) (rw (c .before .before .publisher-at .ensures) at (c .if2 .taken)))
 
 returns-3 : tie.Need-returns-3
-returns-3 c = λ rs. sym (publisher-early rs (c .before .before .before .before .before .before .before .args .slots) (publisherAt (c .before .before .before .before .before .before .before .args .words .now) (c .before .before .before .before .before .before .before .args .p)) (rw (c .before .before .before .publisher-at .ensures) at (c .before .if2 .left)) (rw (c .before .before .before .before .before .publisher-place .ensures) at (c .if3 .taken)))
+returns-3 c = λ rs. sym (publisher-early law rs (c .before .before .before .before .before .before .before .args .slots) (publisherAt (c .before .before .before .before .before .before .before .args .words .now) (c .before .before .before .before .before .before .before .args .p)) (rw (c .before .before .before .publisher-at .ensures) at (c .before .if2 .left)) (rw (c .before .before .before .before .before .publisher-place .ensures) at (c .if3 .taken)))
 
 returns-4 : tie.Need-returns-4
-returns-4 c = λ rs. sym (no-such-place rs (c .before .before .before .before .before .before .before .before .args .slots) (publisherAt (c .before .before .before .before .before .before .before .before .args .words .now) (c .before .before .before .before .before .before .before .before .args .p)) (rw (c .before .before .before .before .before .before .publisher-place .ensures) at (c .if4 .taken)))
+returns-4 c = λ rs. sym (own-spoils law rs (c .before .before .before .before .before .before .before .before .args .slots) (publisherAt (c .before .before .before .before .before .before .before .before .args .words .now) (c .before .before .before .before .before .before .before .before .args .p)) (lt-ltb 38 ((publisherAt (c .before .before .before .before .before .before .before .before .args .words .now) (c .before .before .before .before .before .before .before .before .args .p)) .place) (rw (c .before .before .before .before .before .before .publisher-place .ensures) at (c .if4 .taken))))
 
 returns-5 : tie.Need-returns-5
-returns-5 c = λ rs. sym (wrong-mark rs (c .before .before .before .before .before .before .before .before .before .before .before .before .args .slots) (publisherAt (c .before .before .before .before .before .before .before .before .before .before .before .before .args .words .now) (c .before .before .before .before .before .before .before .before .before .before .before .before .args .p)) (rw (c .before .before .before .before .before .before .before .before .before .before .publisher-place .ensures) at (c .before .before .before .before .before .if3 .left)) (rw (c .before .before .before .before .before .before .before .before .publisher-at .ensures) at (c .if5 .taken)))
+returns-5 c = λ rs. sym (wrong-mark law rs (c .before .before .before .before .before .before .before .before .before .before .before .before .args .slots) (publisherAt (c .before .before .before .before .before .before .before .before .before .before .before .before .args .words .now) (c .before .before .before .before .before .before .before .before .before .before .before .before .args .p)) (rw (c .before .before .before .before .before .before .before .before .before .before .publisher-place .ensures) at (c .before .before .before .before .before .if3 .left)) (rw (c .before .before .before .before .before .before .before .before .publisher-at .ensures) at (c .if5 .taken)))
 
 returns-6 : tie.Need-returns-6
-returns-6 c = λ rs. rw (c .before .before .before .before .before .before .before .before .before .publisher-at .ensures) (sym (waits-decide rs (c .before .before .before .before .before .before .before .before .before .before .before .before .before .args .slots) (publisherAt (c .before .before .before .before .before .before .before .before .before .before .before .before .before .args .words .now) (c .before .before .before .before .before .before .before .before .before .before .before .before .before .args .p)) (rw (c .before .before .before .before .before .before .before .before .before .publisher-at .ensures) at (c .before .before .before .before .before .before .before .if2 .left)) (rw (c .before .before .before .before .before .before .before .before .before .before .before .publisher-place .ensures) at (c .before .before .before .before .before .before .if3 .left)) (rw (c .before .before .before .before .before .before .before .before .before .before .before .publisher-place .ensures) at (c .before .before .before .before .before .if4 .left)) (rw (c .before .before .before .before .before .before .before .before .before .publisher-at .ensures) at (c .before .if5 .left))))
+returns-6 c = λ rs. rw (c .before .before .before .before .before .before .before .before .before .publisher-at .ensures) (sym (waits-decide law rs (c .before .before .before .before .before .before .before .before .before .before .before .before .before .args .slots) (publisherAt (c .before .before .before .before .before .before .before .before .before .before .before .before .before .args .words .now) (c .before .before .before .before .before .before .before .before .before .before .before .before .before .args .p)) (rw (c .before .before .before .before .before .before .before .before .before .publisher-at .ensures) at (c .before .before .before .before .before .before .before .if2 .left)) (rw (c .before .before .before .before .before .before .before .before .before .before .before .publisher-place .ensures) at (c .before .before .before .before .before .before .if3 .left)) (rw (c .before .before .before .before .before .before .before .before .before .publisher-at .ensures) at (c .before .if5 .left)) (le-ltb 38 ((publisherAt (c .before .before .before .before .before .before .before .before .before .before .before .before .before .args .words .now) (c .before .before .before .before .before .before .before .before .before .before .before .before .before .args .p)) .place) (rw (c .before .before .before .before .before .before .before .before .before .before .before .publisher-place .ensures) at (c .before .before .before .before .before .if4 .left)))))
 
 pub publisher-damaged-spec : {M : Type 1} → statement M
 publisher-damaged-spec =

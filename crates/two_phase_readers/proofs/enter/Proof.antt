@@ -10,8 +10,10 @@ use borrow.Author.Tests.{le-leb, lt-leb}
 use Rattle.statement.specs.Machine.{state}
 use Rattle.publication_law.specs.Rules.{damaged, step}
 use Rattle.publication_law.specs.Calls.{step-damaged, damaged-head, damaged-publishers}
+use Rattle.publication_law.specs.Sound.{sound-of}
 use Rattle.two_phase_law.specs.Steps.{rules}
-use Rattle.two_phase_law.specs.Calls.{scan-damaged, scan-undamaged, sound-of, indicator-low, arrive-is, enter-is}
+use Rattle.two_phase_law.specs.Safety.{law}
+use Rattle.two_phase_law.specs.Calls.{scan-damaged, scan-undamaged, indicator-low, arrive-is, enter-is}
 use Rattle.calls.specs.declared.Call.the-variants.{Enter}
 use Rattle.two_phase_readers.proofs.enter.Statement.{statement}
 use Rattle.two_phase_readers.proofs.enter.Tie as tie
@@ -53,7 +55,7 @@ returns : tie.Need-returns
 returns c = step-damaged rules _ (Enter _) (spoiled c)
 
 readers-of-requires : tie.Need-readers-of-requires
-readers-of-requires c κs = sound-of _ (clean (c .before)) .long
+readers-of-requires c κs = sound-of rules law _ (clean (c .before)) .long
 
 same-length-2 : tie.Need-same-length-2
 same-length-2 c = search needs
@@ -63,7 +65,7 @@ unfolding step
 returns-2 c = rw (clean (c .before .before .before), le-leb _ _ (rw (c .before .readers-of .ensures) at (c .if4 .taken))) refl
 
 reader-at-requires : tie.Need-reader-at-requires
-reader-at-requires c κs = omega (arith, sound-of _ (clean (c .before .before .before .before)), c .before .before .readers-of .ensures)
+reader-at-requires c κs = omega (arith, sound-of rules law _ (clean (c .before .before .before .before)), c .before .before .readers-of .ensures)
 
 same-length-3 : tie.Need-same-length-3
 same-length-3 c = search needs
@@ -73,25 +75,25 @@ unfolding step
 returns-3 c = rw (clean (c .before .before .before .before .before .before .before), lt-leb _ _ (rw (c .before .before .before .before .before .readers-of .ensures) at (c .before .before .before .before .if4 .left)), le-leb 5 _ (rw (c .before .before .reader-at .ensures) at (c .if5 .taken))) refl
 
 indicator-of-requires : tie.Need-indicator-of-requires
-indicator-of-requires c κs = (sound-of _ (clean (c .before .before .before .before .before .before .before .before .before)) .long, omega arith)
+indicator-of-requires c κs = (sound-of rules law _ (clean (c .before .before .before .before .before .before .before .before .before)) .long, omega arith)
 
 version-of-requires : tie.Need-version-of-requires
-version-of-requires c κs = sound-of _ (clean (c .before .before .before .before .before .before .before .before .before .before .before)) .long
+version-of-requires c κs = sound-of rules law _ (clean (c .before .before .before .before .before .before .before .before .before .before .before)) .long
 
 current-of-requires : tie.Need-current-of-requires
-current-of-requires c κs = sound-of _ (clean (c .before .before .before .before .before .before .before .before .before .before .before .before .before)) .long
+current-of-requires c κs = sound-of rules law _ (clean (c .before .before .before .before .before .before .before .before .before .before .before .before .before)) .long
 
 advanced-requires : tie.Need-advanced-requires
 advanced-requires c κs = c .before .before .before .before .before .before .before .if5 .left
 
 put-reader-requires : tie.Need-put-reader-requires
-put-reader-requires c κs = omega (arith, sound-of _ (clean (c .before .before .before .before .before .before .before .before .before .before .before .before .before .before .before .before)), c .before .before .before .before .before .before .before .before .before .before .before .before .before .before .readers-of .ensures)
+put-reader-requires c κs = omega (arith, sound-of rules law _ (clean (c .before .before .before .before .before .before .before .before .before .before .before .before .before .before .before .before)), c .before .before .before .before .before .before .before .before .before .before .before .before .before .before .readers-of .ensures)
 
 add-put-indicator : tie.Need-add-put-indicator
 add-put-indicator c = let low : c .before .before .before .before .before .before .before .before .before .before .before .before .indicator-of .result ≤ READERS-MAX = rw (c .before .before .before .before .before .before .before .before .before .before .before .before .indicator-of .ensures) (indicator-low (state (c .before .before .before .before .before .before .before .before .before .before .before .before .before .before .before .before .before .before .before .before .before .before .before .before .before .before .before .before .before .before .before .before .args .words .now) (c .before .before .before .before .before .before .before .before .before .before .before .before .before .before .before .before .before .before .before .before .before .before .before .before .before .before .before .before .before .before .before .before .args .entries .now)) (clean (c .before .before .before .before .before .before .before .before .before .before .before .before .before .before .before .before .before .before .before .before .before .before)) (c .before .before .before .before .before .before .before .before .before .before .before .before .before .before .before .before .before .reader-at .result .first % 2) (omega arith)) in omega arith
 
 put-indicator-requires : tie.Need-put-indicator-requires
-put-indicator-requires c κs = omega (arith, sound-of _ (clean (c .before .before .before .before .before .before .before .before .before .before .before .before .before .before .before .before .before .before .before .before .before .before)))
+put-indicator-requires c κs = omega (arith, sound-of rules law _ (clean (c .before .before .before .before .before .before .before .before .before .before .before .before .before .before .before .before .before .before .before .before .before .before)))
 
 same-length-4 : tie.Need-same-length-4
 same-length-4 c = search needs

@@ -8,8 +8,10 @@ use borrow.Author.Tests.{le-leb, lt-leb, lt-ltb}
 use Rattle.statement.specs.Machine.{state}
 use Rattle.publication_law.specs.Rules.{damaged, step}
 use Rattle.publication_law.specs.Calls.{step-damaged, damaged-head, damaged-publishers}
+use Rattle.publication_law.specs.Sound.{sound-of}
 use Rattle.two_phase_law.specs.Steps.{rules}
-use Rattle.two_phase_law.specs.Calls.{scan-damaged, scan-undamaged, sound-of, indicator-some, leave-is}
+use Rattle.two_phase_law.specs.Safety.{law}
+use Rattle.two_phase_law.specs.Calls.{scan-damaged, scan-undamaged, indicator-some, leave-is}
 use Rattle.calls.specs.declared.Call.the-variants.{Leave}
 use Rattle.two_phase_readers.proofs.leave.Statement.{statement}
 use Rattle.two_phase_readers.proofs.leave.Tie as tie
@@ -48,7 +50,7 @@ returns : tie.Need-returns
 returns c = step-damaged rules _ (Leave _) (spoiled c)
 
 readers-of-requires : tie.Need-readers-of-requires
-readers-of-requires c κs = sound-of _ (clean (c .before)) .long
+readers-of-requires c κs = sound-of rules law _ (clean (c .before)) .long
 
 same-length-2 : tie.Need-same-length-2
 same-length-2 c = search needs
@@ -58,7 +60,7 @@ unfolding step
 returns-2 c = rw (clean (c .before .before .before), le-leb _ _ (rw (c .before .readers-of .ensures) at (c .if4 .taken))) refl
 
 reader-at-requires : tie.Need-reader-at-requires
-reader-at-requires c κs = omega (arith, sound-of _ (clean (c .before .before .before .before)), c .before .before .readers-of .ensures)
+reader-at-requires c κs = omega (arith, sound-of rules law _ (clean (c .before .before .before .before)), c .before .before .readers-of .ensures)
 
 same-length-3 : tie.Need-same-length-3
 same-length-3 c = search needs
@@ -68,16 +70,16 @@ unfolding step
 returns-3 c = rw (clean (c .before .before .before .before .before .before .before), lt-leb _ _ (rw (c .before .before .before .before .before .readers-of .ensures) at (c .before .before .before .before .if4 .left)), lt-ltb _ 4 (rw (c .before .before .reader-at .ensures) at (c .if5 .taken))) refl
 
 indicator-of-requires : tie.Need-indicator-of-requires
-indicator-of-requires c κs = (sound-of _ (clean (c .before .before .before .before .before .before .before .before .before)) .long, omega arith)
+indicator-of-requires c κs = (sound-of rules law _ (clean (c .before .before .before .before .before .before .before .before .before)) .long, omega arith)
 
 put-reader-requires : tie.Need-put-reader-requires
-put-reader-requires c κs = omega (arith, sound-of _ (clean (c .before .before .before .before .before .before .before .before .before .before .before)), c .before .before .before .before .before .before .before .before .before .readers-of .ensures)
+put-reader-requires c κs = omega (arith, sound-of rules law _ (clean (c .before .before .before .before .before .before .before .before .before .before .before)), c .before .before .before .before .before .before .before .before .before .readers-of .ensures)
 
 sub-put-indicator : tie.Need-sub-put-indicator
 sub-put-indicator c = rw (c .before .before .before .before .before .indicator-of .ensures, c .before .before .before .before .before .before .before .before .before .before .reader-at .ensures) (indicator-some (state (c .before .before .before .before .before .before .before .before .before .before .before .before .before .before .before .before .before .before .before .before .before .before .before .before .before .args .words .now) (c .before .before .before .before .before .before .before .before .before .before .before .before .before .before .before .before .before .before .before .before .before .before .before .before .before .args .entries .now)) (clean (c .before .before .before .before .before .before .before .before .before .before .before .before .before .before .before)) (c .before .before .before .before .before .before .before .before .before .before .before .before .before .before .before .before .before .before .before .before .before .before .before .before .before .args .r) (rw (c .before .before .before .before .before .before .before .before .before .before .before .before .before .readers-of .ensures) at (c .before .before .before .before .before .before .before .before .before .before .before .before .if4 .left)) (rw (c .before .before .before .before .before .before .before .before .before .before .reader-at .ensures) at (c .before .before .before .before .before .before .before .before .if5 .left)))
 
 put-indicator-requires : tie.Need-put-indicator-requires
-put-indicator-requires c κs = omega (arith, sound-of _ (clean (c .before .before .before .before .before .before .before .before .before .before .before .before .before .before .before)))
+put-indicator-requires c κs = omega (arith, sound-of rules law _ (clean (c .before .before .before .before .before .before .before .before .before .before .before .before .before .before .before)))
 
 same-length-4 : tie.Need-same-length-4
 same-length-4 c = search needs

@@ -6,8 +6,10 @@ use mathlib.Core.Logic.{⊎-elim}
 use Rattle.statement.specs.Machine.{state}
 use Rattle.publication_law.specs.Rules.{damaged}
 use Rattle.publication_law.specs.Calls.{step-damaged, step-undamaged, damaged-head, damaged-publishers}
+use Rattle.publication_law.specs.Sound.{sound-of, entries-of}
 use Rattle.two_phase_law.specs.Steps.{rules}
-use Rattle.two_phase_law.specs.Calls.{scan-damaged, scan-undamaged, sound-of, entries-of}
+use Rattle.two_phase_law.specs.Safety.{law}
+use Rattle.two_phase_law.specs.Calls.{scan-damaged, scan-undamaged}
 use Rattle.calls.specs.declared.Call.the-variants.{Look}
 use Rattle.two_phase_readers.proofs.look.Statement.{statement}
 use Rattle.two_phase_readers.proofs.look.Tie as tie
@@ -39,7 +41,7 @@ returns : tie.Need-returns
 returns c = step-damaged rules _ (Look _ _) (spoiled c)
 
 look-up-requires : tie.Need-look-up-requires
-look-up-requires c κs = (sound-of _ (clean c), entries-of _ (clean c))
+look-up-requires c κs = (sound-of rules law _ (clean c), entries-of rules law _ (clean c))
 
 returns-2 : tie.Need-returns-2
 returns-2 c = c .look-up .ensures ∙ step-undamaged rules _ (Look _ _) (clean (c .before))

@@ -7,9 +7,11 @@ use mathlib.Core.Logic.{⊎-elim}
 use borrow.Author.Tests.{le-leb, lt-leb, lt-ltb}
 use Rattle.statement.specs.Machine.{state}
 use Rattle.publication_law.specs.Rules.{damaged, step}
-use Rattle.publication_law.specs.Calls.{step-damaged, damaged-head, damaged-publishers}
+use Rattle.publication_law.specs.Calls.{step-damaged, damaged-head, damaged-publishers, walk-is}
+use Rattle.publication_law.specs.Sound.{sound-of, Synchronising, synchronising-of}
 use Rattle.two_phase_law.specs.Steps.{rules}
-use Rattle.two_phase_law.specs.Calls.{scan-damaged, scan-undamaged, sound-of, Synchronising, synchronising-of, walks-at, walks-not, walks-late, watched-low, walk-is}
+use Rattle.two_phase_law.specs.Safety.{law}
+use Rattle.two_phase_law.specs.Calls.{scan-damaged, scan-undamaged, walks-at, walks-not, walks-late, watched-low}
 use Rattle.calls.specs.declared.Call.the-variants.{Walk}
 use Prim.Native.Nat.{_+_, _<_, _≤_}
 use Rattle.calls.specs.Numbers.{NUMBER-MAX}
@@ -37,7 +39,7 @@ spoiled c = ⊎-elim (λ t. damaged-head rules (state (c .before .before .before
     (c .if1 .came)
 
 walker : (c : tie.At-match-keys1) → Synchronising (c .before .publisher-at .result)
-walker c = rw (c .before .publisher-at .ensures) (synchronising-of _ (clean (c .before .before .before .before .before .before)) _ (rw (c .before .before .before .before .publishers-of .ensures) at (c .before .before .before .if4 .left)) (walks-late _ (rw (c .before .publisher-at .ensures) at (c .match .keys1))))
+walker c = rw (c .before .publisher-at .ensures) (synchronising-of rules law _ (clean (c .before .before .before .before .before .before)) _ (rw (c .before .before .before .before .publishers-of .ensures) at (c .before .before .before .if4 .left)) (walks-late _ (rw (c .before .publisher-at .ensures) at (c .match .keys1))))
 
 room : (c : tie.Else5) → c .before .before .before .before .publisher-at .result .walk .looks + c .before .before .before .before .before .before .before .before .before .before .before .before .before .before .before .before .before .before .before .args .b ≤ NUMBER-MAX
 room c = omega (arith, c .if5 .left, c .before .before .before .before .before .before .before .before .before .before .before .before .before .before .before .before .before .before .before .fits .b)
@@ -61,7 +63,7 @@ returns : tie.Need-returns
 returns c = step-damaged rules _ (Walk _ _) (spoiled c)
 
 publishers-of-requires : tie.Need-publishers-of-requires
-publishers-of-requires c κs = sound-of _ (clean (c .before)) .long
+publishers-of-requires c κs = sound-of rules law _ (clean (c .before)) .long
 
 same-length-2 : tie.Need-same-length-2
 same-length-2 c = search needs
@@ -71,7 +73,7 @@ unfolding step
 returns-2 c = rw (clean (c .before .before .before), le-leb _ _ (rw (c .before .publishers-of .ensures) at (c .if4 .taken))) refl
 
 publisher-at-requires : tie.Need-publisher-at-requires
-publisher-at-requires c κs = omega (arith, sound-of _ (clean (c .before .before .before .before)), c .before .before .publishers-of .ensures)
+publisher-at-requires c κs = omega (arith, sound-of rules law _ (clean (c .before .before .before .before)), c .before .before .publishers-of .ensures)
 
 sub-if5 : tie.Need-sub-if5
 sub-if5 c = search needs
@@ -87,19 +89,19 @@ looked-at-requires : tie.Need-looked-at-requires
 looked-at-requires c κs = search needs
 
 indicator-of-requires : tie.Need-indicator-of-requires
-indicator-of-requires c κs = (sound-of _ (clean (c .before .before .before .before .before .before .before .before .before .before .before)) .long, rw (c .before .looked-at .ensures) (watched-low (c .before .before .before .before .before .before .publisher-at .result)))
+indicator-of-requires c κs = (sound-of rules law _ (clean (c .before .before .before .before .before .before .before .before .before .before .before)) .long, rw (c .before .looked-at .ensures) (watched-low (c .before .before .before .before .before .before .publisher-at .result)))
 
 look-requires : tie.Need-look-requires
 look-requires c κs = (room (c .before .before .before), walker (c .before .before .before .before .before .before) .waits-low)
 
 end-walk-requires : tie.Need-end-walk-requires
-end-walk-requires c κs = (sound-of _ (clean (c .before .before .before .before .before .before .before .before .before .before .before .before .before .before)), rw (c .before .before .before .before .before .before .before .before .before .before .before .before .publishers-of .ensures) at (c .before .before .before .before .before .before .before .before .before .before .before .if4 .left), c .before .before .before .before .before .before .before .before .before .publisher-at .ensures)
+end-walk-requires c κs = (sound-of rules law _ (clean (c .before .before .before .before .before .before .before .before .before .before .before .before .before .before)), rw (c .before .before .before .before .before .before .before .before .before .before .before .before .publishers-of .ensures) at (c .before .before .before .before .before .before .before .before .before .before .before .if4 .left), c .before .before .before .before .before .before .before .before .before .publisher-at .ensures)
 
 same-length-4 : tie.Need-same-length-4
 same-length-4 c = search needs
 
 returns-4 : tie.Need-returns-4
-returns-4 c = walk-is _ (clean (c .before .before .before .before .before .before .before .before .before .before .before .before .before .before .before .before .before)) _ _ _ _ _ (rw (c .before .before .before .before .before .before .before .before .before .before .before .before .before .before .before .publishers-of .ensures) at (c .before .before .before .before .before .before .before .before .before .before .before .before .before .before .if4 .left)) (c .before .before .before .before .before .before .before .before .before .before .before .before .publisher-at .ensures) (walks-at _ (c .before .before .before .before .before .before .before .before .before .before .before .match .keys1)) (room (c .before .before .before .before .before .before .before .before)) (rw (c .before .before .before .before .before .indicator-of .ensures, c .before .before .before .before .before .before .before .looked-at .ensures) at (c .before .before .before .before .look .ensures)) (c .before .before .end-walk .ensures (c .before .before .before .before .before .before .before .before .before .before .before .before .before .before .before .before .before .before .before .before .before .before .before .before .before .before .before .args .entries .now))
+returns-4 c = walk-is rules _ (clean (c .before .before .before .before .before .before .before .before .before .before .before .before .before .before .before .before .before)) _ _ _ (rw (c .before .before .before .before .before .before .before .before .before .before .before .before .before .before .before .publishers-of .ensures) at (c .before .before .before .before .before .before .before .before .before .before .before .before .before .before .if4 .left)) (c .before .before .before .before .before .before .before .before .before .before .before .before .publisher-at .ensures) _ _ (walks-at _ (c .before .before .before .before .before .before .before .before .before .before .before .match .keys1)) (room (c .before .before .before .before .before .before .before .before)) (rw (c .before .before .before .before .before .indicator-of .ensures, c .before .before .before .before .before .before .before .looked-at .ensures, c .before .before .before .before .before .before .before .before .before .before .before .before .publisher-at .ensures) at (c .before .before .before .before .look .ensures)) (c .before .before .end-walk .ensures (c .before .before .before .before .before .before .before .before .before .before .before .before .before .before .before .before .before .before .before .before .before .before .before .before .before .before .before .args .entries .now))
 
 same-length-5 : tie.Need-same-length-5
 same-length-5 c = search needs
