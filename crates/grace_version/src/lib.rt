@@ -10,15 +10,15 @@ ghost use Rattle.grace_version_law.specs.Steps.{rules};
 use calls::Pitch;
 use calls::Reply;
 use grace_version_publishers::claim;
-use grace_version_publishers::make;
-use grace_version_publishers::raise;
 use grace_version_publishers::release;
 use grace_version_publishers::swap;
-use grace_version_publishers::sync;
 use grace_version_publishers::write;
 use grace_version_readers::enter;
 use grace_version_readers::leave;
 use grace_version_readers::look;
+use grace_version_versions::make;
+use grace_version_versions::raise;
+use grace_version_versions::sync;
 use grace_version_walk::walk;
 use layout::WORDS;
 

@@ -29,10 +29,10 @@ pub fn make(
     let number = kind as u64;
     match number {
         KIND_NEW => {
-            grace_version_publishers::make(words, entries, readers, publishers, slots, version)
+            grace_version_versions::make(words, entries, readers, publishers, slots, version)
         }
         KIND_OLD => {
-            two_phase_publishers::make(words, entries, readers, publishers, slots, version)
+            two_phase_versions::make(words, entries, readers, publishers, slots, version)
         }
         _ => Reply::Refused(DAMAGED),
     }
@@ -137,8 +137,8 @@ pub fn sync(words: &mut [u64], entries: &[Pitch], p: u16) -> Reply
     }
     let kind = kind_of(words);
     match kind {
-        KIND_NEW => grace_version_publishers::sync(words, entries, p),
-        KIND_OLD => two_phase_publishers::sync(words, entries, p),
+        KIND_NEW => grace_version_versions::sync(words, entries, p),
+        KIND_OLD => two_phase_versions::sync(words, entries, p),
         _ => Reply::Refused(DAMAGED),
     }
 }
@@ -152,8 +152,8 @@ pub fn raise(words: &mut [u64], entries: &[Pitch], p: u16) -> Reply
     }
     let kind = kind_of(words);
     match kind {
-        KIND_NEW => grace_version_publishers::raise(words, entries, p),
-        KIND_OLD => two_phase_publishers::raise(words, entries, p),
+        KIND_NEW => grace_version_versions::raise(words, entries, p),
+        KIND_OLD => two_phase_versions::raise(words, entries, p),
         _ => Reply::Refused(DAMAGED),
     }
 }

@@ -11,15 +11,15 @@ use calls::Pitch;
 use calls::Reply;
 use layout::WORDS;
 use two_phase_publishers::claim;
-use two_phase_publishers::make;
-use two_phase_publishers::raise;
 use two_phase_publishers::release;
 use two_phase_publishers::swap;
-use two_phase_publishers::sync;
 use two_phase_publishers::write;
 use two_phase_readers::enter;
 use two_phase_readers::leave;
 use two_phase_readers::look;
+use two_phase_versions::make;
+use two_phase_versions::raise;
+use two_phase_versions::sync;
 use two_phase_walk::walk;
 
 // A store's control state.

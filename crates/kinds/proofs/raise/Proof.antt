@@ -7,7 +7,7 @@ use Rattle.kinds.proofs.raise.Statement.{statement}
 use Rattle.kinds.proofs.raise.Tie as tie
 use Rattle.kinds.proofs.raise.Reads as reads
 use Rattle.kinds.proofs.raise.Lts as lts
-use Rattle.grace_version_publishers.proofs.raise.Reads as raise-reads
+use Rattle.grace_version_versions.proofs.raise.Reads as raise-reads
 use Rattle.layout.proofs.kind_of.Reads as kind-of-reads
 
 returns : tie.Need-returns

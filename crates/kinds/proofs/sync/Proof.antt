@@ -7,7 +7,7 @@ use Rattle.kinds.proofs.sync.Statement.{statement}
 use Rattle.kinds.proofs.sync.Tie as tie
 use Rattle.kinds.proofs.sync.Reads as reads
 use Rattle.kinds.proofs.sync.Lts as lts
-use Rattle.grace_version_publishers.proofs.sync.Reads as sync-reads
+use Rattle.grace_version_versions.proofs.sync.Reads as sync-reads
 use Rattle.layout.proofs.kind_of.Reads as kind-of-reads
 
 returns : tie.Need-returns

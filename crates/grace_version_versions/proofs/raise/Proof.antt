@@ -1,4 +1,4 @@
--- `raise` meets its contract: the refusals are rows of the step; at 36 the shared raise is the step. The mark of an undamaged store is not 0, so there is one before it. Assumes nothing.
+-- `raise` meets its contract: the refusals are rows of the step; at 35 the shared raise is the step. The mark of an undamaged store is not 0, so there is one before it. Assumes nothing.
 use borrow.Author.Needs.{needs}
 use native.Mathlib.Omega.{arith}
 use mathlib.Core.Path.{_≡_, refl, sym, _∙_}
@@ -7,29 +7,28 @@ use mathlib.Core.Logic.{⊎-elim}
 use borrow.Author.Tests.{le-leb, lt-leb, eq-eqb, ne-eqb}
 use Rattle.statement.specs.Machine.{state}
 use Rattle.publication_law.specs.Rules.{damaged, step}
-use Rattle.publication_law.specs.Calls.{step-damaged, damaged-head, damaged-publishers, raise-is}
+use Rattle.publication_law.specs.Calls.{step-damaged, undamaged, damaged-head, damaged-readers, damaged-publishers, raise-is}
 use Rattle.publication_law.specs.Sound.{sound-of, Synchronising, synchronising-of}
-use Rattle.two_phase_law.specs.Steps.{rules, versions}
-use Rattle.two_phase_law.specs.Safety.{law}
-use Rattle.two_phase_law.specs.Calls.{scan-damaged, scan-undamaged}
+use Rattle.grace_version_law.specs.Steps.{rules, versions}
+use Rattle.grace_version_law.specs.Safety.{law}
 use Rattle.calls.specs.declared.Call.the-variants.{Raise}
-use Rattle.two_phase_publishers.proofs.raise.Statement.{statement}
-use Rattle.two_phase_publishers.proofs.raise.Tie as tie
-use Rattle.two_phase_publishers.proofs.raise.Reads as reads
-use Rattle.two_phase_publishers.proofs.raise.Lts as lts
+use Rattle.grace_version_versions.proofs.raise.Statement.{statement}
+use Rattle.grace_version_versions.proofs.raise.Tie as tie
+use Rattle.grace_version_versions.proofs.raise.Reads as reads
+use Rattle.grace_version_versions.proofs.raise.Lts as lts
+use Rattle.grace_version_damage.proofs.head_is_damaged.Reads as head-is-damaged-reads
+use Rattle.grace_version_damage.proofs.publishers_are_damaged.Reads as publishers-are-damaged-reads
+use Rattle.grace_version_damage.proofs.readers_are_damaged.Reads as readers-are-damaged-reads
 use Rattle.layout.proofs.publisher_at.Reads as publisher-at-reads
 use Rattle.layout.proofs.publishers_of.Reads as publishers-of-reads
 use Rattle.publication_grace.proofs.raise_version.Reads as raise-version-reads
-use Rattle.two_phase_damage.proofs.head_is_damaged.Reads as head-is-damaged-reads
-use Rattle.two_phase_damage.proofs.publishers_are_damaged.Reads as publishers-are-damaged-reads
-use Rattle.two_phase_damage.proofs.readers_are_damaged.Reads as readers-are-damaged-reads
 
 clean : (c : tie.Else3) → damaged rules (state (c .before .before .before .before .before .before .before .before .before .before .args .words .now) (c .before .before .before .before .before .before .before .before .before .before .args .entries .now)) ≡ false
-clean c = scan-undamaged (state (c .before .before .before .before .before .before .before .before .before .before .args .words .now) (c .before .before .before .before .before .before .before .before .before .before .args .entries .now)) (sym (c .before .before .before .before .before .before .before .head-is-damaged .ensures (c .before .before .before .before .before .before .before .before .before .before .args .entries .now) refl) ∙ c .before .before .before .before .before .before .if1 .left) (sym (c .before .before .before .before .readers-are-damaged .ensures (c .before .before .before .before .before .before .before .before .before .before .args .entries .now)) ∙ c .before .before .before .if2 .left) (sym (c .before .publishers-are-damaged .ensures (c .before .before .before .before .before .before .before .before .before .before .args .entries .now)) ∙ c .if3 .left)
+clean c = undamaged rules (state (c .before .before .before .before .before .before .before .before .before .before .args .words .now) (c .before .before .before .before .before .before .before .before .before .before .args .entries .now)) (sym (c .before .before .before .before .before .before .before .head-is-damaged .ensures (c .before .before .before .before .before .before .before .before .before .before .args .entries .now) refl) ∙ c .before .before .before .before .before .before .if1 .left) (sym (c .before .before .before .before .readers-are-damaged .ensures (c .before .before .before .before .before .before .before .before .before .before .args .entries .now)) ∙ c .before .before .before .if2 .left) refl (sym (c .before .publishers-are-damaged .ensures (c .before .before .before .before .before .before .before .before .before .before .args .entries .now)) ∙ c .if3 .left)
 
 spoiled : (c : tie.Joined1) → damaged rules (state (c .before .before .before .before .args .words .now) (c .before .before .before .before .args .entries .now)) ≡ true
 spoiled c = ⊎-elim (λ t. damaged-head rules (state (c .before .before .before .before .args .words .now) (c .before .before .before .before .args .entries .now)) (sym (c .before .head-is-damaged .ensures (c .before .before .before .before .args .entries .now) refl) ∙ t .taken))
-    (⊎-elim (λ a. scan-damaged (state (c .before .before .before .before .args .words .now) (c .before .before .before .before .args .entries .now)) (sym (a .2 .ensures (c .before .before .before .before .args .entries .now)) ∙ a .3 .taken)) (λ a. damaged-publishers rules (state (c .before .before .before .before .args .words .now) (c .before .before .before .before .args .entries .now)) (sym (a .5 .ensures (c .before .before .before .before .args .entries .now)) ∙ a .6 .taken)))
+    (⊎-elim (λ a. damaged-readers rules (state (c .before .before .before .before .args .words .now) (c .before .before .before .before .args .entries .now)) (sym (a .2 .ensures (c .before .before .before .before .args .entries .now)) ∙ a .3 .taken)) (λ a. damaged-publishers rules (state (c .before .before .before .before .args .words .now) (c .before .before .before .before .args .entries .now)) (sym (a .5 .ensures (c .before .before .before .before .args .entries .now)) ∙ a .6 .taken)))
     (c .if1 .came)
 
 walker : (c : tie.At-match-keys1) → Synchronising (c .before .publisher-at .result)
@@ -75,14 +74,14 @@ same-length-3 : tie.Need-same-length-3
 same-length-3 c = search needs
 
 returns-3 : tie.Need-returns-3
-returns-3 c = raise-is rules _ (clean (c .before .before .before .before .before .before .before .before .before .before .before)) _ _ _ (rw (c .before .before .before .before .before .before .before .before .before .publishers-of .ensures) at (c .before .before .before .before .before .before .before .before .if4 .left)) (c .before .before .before .before .before .before .publisher-at .ensures) (eq-eqb _ 36 (c .before .before .before .before .before .match .keys1)) (c .before .before .raise-version .ensures versions (c .before .before .before .before .before .before .before .before .before .before .before .before .before .before .before .before .before .before .before .before .before .args .entries .now) refl)
+returns-3 c = raise-is rules _ (clean (c .before .before .before .before .before .before .before .before .before .before .before)) _ _ _ (rw (c .before .before .before .before .before .before .before .before .before .publishers-of .ensures) at (c .before .before .before .before .before .before .before .before .if4 .left)) (c .before .before .before .before .before .before .publisher-at .ensures) (eq-eqb _ 35 (c .before .before .before .before .before .match .keys1)) (c .before .before .raise-version .ensures versions (c .before .before .before .before .before .before .before .before .before .before .before .before .before .before .before .before .before .before .before .before .before .args .entries .now) refl)
 
 same-length-4 : tie.Need-same-length-4
 same-length-4 c = search needs
 
 returns-4 : tie.Need-returns-4
 unfolding step
-returns-4 c = rw (clean (c .before .before .before .before .before .before), lt-leb _ _ (rw (c .before .before .before .before .publishers-of .ensures) at (c .before .before .before .if4 .left)), ne-eqb _ 36 (rw (c .before .publisher-at .ensures) at (c .match .rest .1))) refl
+returns-4 c = rw (clean (c .before .before .before .before .before .before), lt-leb _ _ (rw (c .before .before .before .before .publishers-of .ensures) at (c .before .before .before .if4 .left)), ne-eqb _ 35 (rw (c .before .publisher-at .ensures) at (c .match .rest .1))) refl
 
 pub raise-spec : {M : Type 1} → statement M
 raise-spec =

@@ -6,27 +6,26 @@ use mathlib.Core.Bool.{true, false}
 use mathlib.Core.Logic.{⊎-elim}
 use Rattle.statement.specs.Machine.{state}
 use Rattle.publication_law.specs.Rules.{damaged}
-use Rattle.publication_law.specs.Calls.{step-damaged, step-undamaged, damaged-head, damaged-publishers, last-is, mark-is}
+use Rattle.publication_law.specs.Calls.{step-damaged, step-undamaged, undamaged, damaged-head, damaged-readers, damaged-publishers, last-is, mark-is}
 use Rattle.publication_law.specs.Sound.{sound-of, version-low}
-use Rattle.two_phase_law.specs.Steps.{LAST, rules, versions}
-use Rattle.two_phase_law.specs.Safety.{law}
-use Rattle.two_phase_law.specs.Calls.{scan-damaged, scan-undamaged}
+use Rattle.grace_version_law.specs.Steps.{LAST, rules, versions}
+use Rattle.grace_version_law.specs.Safety.{law}
 use Rattle.calls.specs.declared.Call.the-variants.{Sync}
-use Rattle.two_phase_publishers.proofs.sync.Statement.{statement}
-use Rattle.two_phase_publishers.proofs.sync.Tie as tie
-use Rattle.two_phase_publishers.proofs.sync.Reads as reads
-use Rattle.two_phase_publishers.proofs.sync.Lts as lts
+use Rattle.grace_version_versions.proofs.sync.Statement.{statement}
+use Rattle.grace_version_versions.proofs.sync.Tie as tie
+use Rattle.grace_version_versions.proofs.sync.Reads as reads
+use Rattle.grace_version_versions.proofs.sync.Lts as lts
+use Rattle.grace_version_damage.proofs.head_is_damaged.Reads as head-is-damaged-reads
+use Rattle.grace_version_damage.proofs.publishers_are_damaged.Reads as publishers-are-damaged-reads
+use Rattle.grace_version_damage.proofs.readers_are_damaged.Reads as readers-are-damaged-reads
 use Rattle.publication_grace.proofs.start_sync.Reads as start-sync-reads
-use Rattle.two_phase_damage.proofs.head_is_damaged.Reads as head-is-damaged-reads
-use Rattle.two_phase_damage.proofs.publishers_are_damaged.Reads as publishers-are-damaged-reads
-use Rattle.two_phase_damage.proofs.readers_are_damaged.Reads as readers-are-damaged-reads
 
 clean : (c : tie.Else3) → damaged rules (state (c .before .before .before .before .before .before .before .before .before .before .args .words .now) (c .before .before .before .before .before .before .before .before .before .before .args .entries .now)) ≡ false
-clean c = scan-undamaged (state (c .before .before .before .before .before .before .before .before .before .before .args .words .now) (c .before .before .before .before .before .before .before .before .before .before .args .entries .now)) (sym (c .before .before .before .before .before .before .before .head-is-damaged .ensures (c .before .before .before .before .before .before .before .before .before .before .args .entries .now) refl) ∙ c .before .before .before .before .before .before .if1 .left) (sym (c .before .before .before .before .readers-are-damaged .ensures (c .before .before .before .before .before .before .before .before .before .before .args .entries .now)) ∙ c .before .before .before .if2 .left) (sym (c .before .publishers-are-damaged .ensures (c .before .before .before .before .before .before .before .before .before .before .args .entries .now)) ∙ c .if3 .left)
+clean c = undamaged rules (state (c .before .before .before .before .before .before .before .before .before .before .args .words .now) (c .before .before .before .before .before .before .before .before .before .before .args .entries .now)) (sym (c .before .before .before .before .before .before .before .head-is-damaged .ensures (c .before .before .before .before .before .before .before .before .before .before .args .entries .now) refl) ∙ c .before .before .before .before .before .before .if1 .left) (sym (c .before .before .before .before .readers-are-damaged .ensures (c .before .before .before .before .before .before .before .before .before .before .args .entries .now)) ∙ c .before .before .before .if2 .left) refl (sym (c .before .publishers-are-damaged .ensures (c .before .before .before .before .before .before .before .before .before .before .args .entries .now)) ∙ c .if3 .left)
 
 spoiled : (c : tie.Joined1) → damaged rules (state (c .before .before .before .before .args .words .now) (c .before .before .before .before .args .entries .now)) ≡ true
 spoiled c = ⊎-elim (λ t. damaged-head rules (state (c .before .before .before .before .args .words .now) (c .before .before .before .before .args .entries .now)) (sym (c .before .head-is-damaged .ensures (c .before .before .before .before .args .entries .now) refl) ∙ t .taken))
-    (⊎-elim (λ a. scan-damaged (state (c .before .before .before .before .args .words .now) (c .before .before .before .before .args .entries .now)) (sym (a .2 .ensures (c .before .before .before .before .args .entries .now)) ∙ a .3 .taken)) (λ a. damaged-publishers rules (state (c .before .before .before .before .args .words .now) (c .before .before .before .before .args .entries .now)) (sym (a .5 .ensures (c .before .before .before .before .args .entries .now)) ∙ a .6 .taken)))
+    (⊎-elim (λ a. damaged-readers rules (state (c .before .before .before .before .args .words .now) (c .before .before .before .before .args .entries .now)) (sym (a .2 .ensures (c .before .before .before .before .args .entries .now)) ∙ a .3 .taken)) (λ a. damaged-publishers rules (state (c .before .before .before .before .args .words .now) (c .before .before .before .before .args .entries .now)) (sym (a .5 .ensures (c .before .before .before .before .args .entries .now)) ∙ a .6 .taken)))
     (c .if1 .came)
 
 head-is-damaged-requires : tie.Need-head-is-damaged-requires
