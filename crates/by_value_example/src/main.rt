@@ -232,10 +232,12 @@ fn wait_old(store: TwoPhase, entries: &[Pitch]) {
 fn main() {
     let mut two_slots = [0; 2 * TABLE];
     let mut three_slots = [0; 3 * TABLE];
+    say_one(b"new store: the last version is", GraceVersion::LAST);
     say(b"new store: a publication, and a reader of the old table");
     publish_new(&mut two_slots);
     say(b"new store: two publishers share a wait");
     publish_side_by_side(&mut three_slots);
+    say_one(b"old store: the last version is", TwoPhase::LAST);
     say(b"old store: a publication, a reader of the old table, a second publisher");
     publish_old(&mut three_slots);
 }

@@ -15,20 +15,19 @@ use Rattle.calls.specs.declared.WalkReply.the-variants.{Spent}
 use Rattle.calls.specs.Numbers.{NO-SUCH-PUBLISHER, NO-SUCH-SLOT, PUBLISHER-TURN, BUSY, SLOT-IN-USE}
 use Rattle.calls.specs.Rows.{firstOf}
 use Rattle.calls.specs.Rows.Test.{_gives_}
-use Rattle.calls.specs.RowLaws.{clash, same}
+use Rattle.calls.specs.RowLaws.{clash}
 use Rattle.calls.specs.AnswerLaws.{NarrowPitch, Proper}
 use Rattle.calls.specs.Events.{accepted}
 use Rattle.calls.specs.Model.{firstTable}
 use Rattle.layout.specs.declared.Publisher.{Publisher}
 use Rattle.layout.specs.declared.Progress.{Progress}
 use Rattle.layout.specs.Layout.{readers, publishers, slots}
-use Rattle.layout.specs.Laws.{publisher-put}
 use Rattle.statement.specs.Machine.{State, Outcome, Given, Fresh, afterAll}
 use Rattle.statement.specs.Demand3.{Demand3}
 use Rattle.statement.specs.Companions.{Traits, MakingAccepts, RefusedLeaves, Frame, Companions}
 use Rattle.publication_law.specs.Steps.{reader, publisher, inUse, walked}
 use Rattle.publication_law.specs.Rules.{damaged, act, rows, step, making}
-use Rattle.publication_law.specs.DamageLaws.{publisher-below}
+use Rattle.publication_law.specs.Frames.{walk-record}
 use Rattle.publication_law.specs.Decide.{decided, decide-why}
 use Rattle.publication_law.specs.Lawful.{fine-undamaged, demand3-of, companions-of, never-damaged-of, making-accepts-of, refused-leaves-of, frame-of, proper-of, proper-making-of, walk-zero-of}
 use Rattle.grace_version_law.specs.Steps.{LAST, kind, lookedAt, looksOf, rules, GraceVersion}
@@ -84,7 +83,7 @@ new-walk-facts s p b = decided (λ (o : Outcome). accepted (o .reply) ≡ true �
     let lt : p < publishers (s .words) = leb-false _ _ (f .1 .0) in
     let low = next-below _ _ (publisher s p) (fine .publishers-fine p lt) (rw (eqb-true (publisher s p .place) 37 (not-false _ (f .1 .1 .0))) refl) in record {
       reply-is = refl;
-      record-is = ap (λ (g : ℕ → Publisher). g p) (publisher-put (λ (y : Publisher). y) (s .words) p (walked (publisher s p) (looksOf s (publisher s p .walk) b)) (fine .head .long) (publisher-below kind s fine p lt)) ∙ rw (same p) refl;
+      record-is = walk-record kind s fine p lt (looksOf s (publisher s p .walk) b);
       looks-are = looked (s .words) (readers (s .words)) (publisher s p .walk .mark) (publisher s p .walk .waits) b (publisher s p .walk .next) (publisher s p .walk .looks) low;
       spent-exactly = λ l all. spent-if (s .words) (readers (s .words)) (publisher s p .walk .mark) (publisher s p .walk .waits) b (publisher s p .walk .next) (publisher s p .walk .looks) l all;
     })

@@ -14,14 +14,15 @@ use Rattle.calls.specs.declared.Call.{Call}
 use Rattle.calls.specs.declared.Call.the-variants.{Claim, Write, Swap, Sync, Raise, Walk, Release}
 use Rattle.calls.specs.Base.{upd}
 use Rattle.calls.specs.Numbers.{PUBLISHERS-MAX}
-use Rattle.calls.specs.RowLaws.{AllClear, pick-split}
+use Rattle.calls.specs.RowLaws.{AllClear, pick-split, same}
 use Rattle.layout.specs.declared.Reader.{Reader}
 use Rattle.layout.specs.declared.Publisher.{Publisher}
 use Rattle.layout.specs.declared.Progress.{Progress}
 use Rattle.layout.specs.Layout.{CURRENT-AT, VERSION-AT, RELEASES-AT, WORDS, publishers, version, readerAt, publisherAt}
+use Rattle.layout.specs.Laws.{publisher-put}
 use Rattle.statement.specs.Machine.{State, Outcome}
 use Rattle.statement.specs.Companions.{readerNamed, publisherNamed, Framed}
-use Rattle.publication_law.specs.Steps.{Versions, publisher, claim, claimTests, write, writeTests, swap, swapTests, sync, syncTests, raise, walk, release, releaseTests, oneMore}
+use Rattle.publication_law.specs.Steps.{Versions, publisher, claim, claimTests, write, writeTests, swap, swapTests, sync, syncTests, raise, walk, walked, release, releaseTests, oneMore}
 use Rattle.publication_law.specs.Damage.{Kind}
 use Rattle.publication_law.specs.DamageLaws.{Fine, publisher-below}
 use Rattle.publication_law.specs.Moves.{MovesPublisher, MovesReader, moves-publisher, moves-head}
@@ -69,6 +70,10 @@ module _ (K : Kind) (s : State) (f : Fine K s) where
       (λ e. publisher-framed (Raise p) _ _ p _ _ _ _
       (moves-head (s .words) _ p _ _ _ _ (moves-publisher (s .words) p _ long (few p lt)) long VERSION-AT (publisher s p .walk .mark) (omega arith) (omega arith)) refl)
       (λ e. publisher-framed (Raise p) _ _ p _ _ _ _ (moves-publisher (s .words) p _ long (few p lt)) refl)
+
+  -- A WALK leaves its publisher's record with what its looks came to.
+  pub walk-record : (p : ℕ) → p < publishers (s .words) → (k : Progress) → publisher (walk s p k .after) p ≡ walked (publisher s p) k
+  walk-record p lt k = ap (λ (g : ℕ → Publisher). g p) (publisher-put (λ (y : Publisher). y) (s .words) p (walked (publisher s p) k) long (few p lt)) ∙ rw (same p) refl
 
   pub walk-framed : (p b : ℕ) (k : Progress) → p < publishers (s .words) → Framed (Walk p b) (s .words) (walk s p k .after .words)
   walk-framed p b k lt = publisher-framed (Walk p b) _ _ p _ _ _ _ (moves-publisher (s .words) p _ long (few p lt)) refl

@@ -7,14 +7,12 @@ ghost use mathlib.Core.List.{List};
 ghost use Prim.Native.Nat.{ℕ, _<_, _≤_};
 ghost use lib.IntN.{ℤ};
 ghost use lib.ListN.{length};
-ghost use Rattle.calls.specs.Base.{pick};
 ghost use Rattle.calls.specs.Numbers.{READERS-MAX, PUBLISHERS-MAX};
 ghost use Rattle.calls.specs.Rows.{anyTrue, anyBelow};
 ghost use Rattle.layout.specs.Layout.{WORDS, readerAt, publisherAt};
 ghost use Rattle.statement.specs.Machine.{state};
 ghost use Rattle.publication_law.specs.Damage.{headRows, readersTest, publishersTest};
-ghost use Rattle.two_phase_law.specs.Calls.{miscountedAt};
-ghost use Rattle.two_phase_law.specs.Steps.{kind, addedTo, rules};
+ghost use Rattle.two_phase_law.specs.Steps.{kind, miscountedAt, rules};
 use calls::KIND_OLD;
 use calls::PUBLISHERS_MAX;
 use calls::READERS_MAX;
@@ -49,6 +47,7 @@ fn readers_damaged(words: &[u64], n: u64, slots: u64) -> bool
             if place < 2 {
                 continue;
             }
+            // 2 and 3 are the new store's
             if place != 4 {
                 return true;
             }

@@ -4,7 +4,7 @@ use native.Mathlib.Omega.{arith}
 use native.Mathlib.Numerals.{add-one}
 use mathlib.Core.Path.{_≡_, refl, sym, ap, _∙_}
 use mathlib.Core.Logic.{_≢_, _⊎_, inl, inr}
-use mathlib.Core.Bool.{Bool, true, false, not, _||_}
+use mathlib.Core.Bool.{Bool, true, false, _||_}
 use mathlib.Core.List.{List, [], _∷_}
 use lib.ListN.{getD, set}
 use lib.Dec.{eqb}
@@ -26,11 +26,8 @@ use Rattle.publication_law.specs.DamageLaws.{Fine}
 use Rattle.publication_law.specs.Rules.{damaged, act, step}
 use Rattle.publication_law.specs.Calls.{undamaged, undamaged-fine, undamaged-further, damaged-readers, damaged-further, enter-accepted, leave-accepted}
 use Rattle.two_phase_law.specs.Steps.{kind, readerRows, addedTo, miscounted, onward, entered, leaving, watched, progress, lookAt, rules}
+use Rattle.two_phase_law.specs.Counts.{Counted}
 use Rattle.two_phase_law.specs.Safety.{law}
-
--- An indicator unlike the number of the first n readers that added to it.
-abbrev pub miscountedAt : List ℕ → ℕ → ℕ → Bool
-miscountedAt w n i = not (eqb (indicator w i) (countBelow (λ r. addedTo i (readerAt w r)) n))
 
 -- How many of the first n readers added to each indicator, as the pass over the readers counts them.
 abbrev pub addedCounts : List ℕ → ℕ → List ℕ
@@ -89,8 +86,8 @@ module _ (s : State) where
       go true d t = damaged-readers rules s d
       go false d t = damaged-further rules s t
 
--- Each indicator is the number of readers that added to it.
-pub counted-of : (s : State) → damaged rules s ≡ false → (i : ℕ) → i < 2 → indicator (s .words) i ≡ countBelow (λ r. addedTo i (reader s r)) (readers (s .words))
+-- The indicators are right, since the damage test counts the readers.
+pub counted-of : (s : State) → damaged rules s ≡ false → Counted (readers (s .words)) (indicator (s .words)) (readerAt (s .words))
 counted-of s e i l = let q = or-false (miscounted s 0) (miscounted s 1) (undamaged-further rules s e) in go i l (q .0) (q .1)
   where
     go : (i : ℕ) → i < 2 → miscounted s 0 ≡ false → miscounted s 1 ≡ false → indicator (s .words) i ≡ countBelow (λ r. addedTo i (reader s r)) (readers (s .words))

@@ -1,15 +1,15 @@
 -- The indicators count the readers that added to them, and one look at an indicator. Assumes nothing.
-use Prim.Native.Nat.{ℕ, zero, suc, _+_, _-_, _<_, _≤_}
+use Prim.Native.Nat.{ℕ, _+_, _-_, _<_, _≤_}
 use native.Mathlib.Omega.{arith}
 use mathlib.Core.Path.{_≡_, refl, sym, _∙_}
 use mathlib.Core.Logic.{_≢_, _⊎_, inl, inr}
 use mathlib.Core.Bool.{Bool, true, false, _||_}
 use lib.Dec.{leb, eqb}
-use borrow.Author.Tests.{eqb-true, eqb-false, eq-eqb, le-leb, lt-leb, not-false}
+use borrow.Author.Tests.{eqb-true, eqb-false, eq-eqb, le-leb, lt-leb}
 use Rattle.calls.specs.declared.WalkReply.the-variants.{Quiet, Waiting, Spent, Returned}
 use Rattle.calls.specs.Base.{pick, upd}
 use Rattle.calls.specs.Rows.{countBelow}
-use Rattle.calls.specs.RowLaws.{and-false, negated, neither, or-false, pick-split, same, count-zero, count-upd}
+use Rattle.calls.specs.RowLaws.{and-false, negated, neither, pick-split, same, count-zero, count-upd}
 use Rattle.layout.specs.declared.Reader.{Reader}
 use Rattle.layout.specs.declared.Publisher.{Publisher}
 use Rattle.layout.specs.declared.Progress.{Progress}

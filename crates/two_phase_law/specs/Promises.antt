@@ -10,20 +10,19 @@ use Rattle.calls.specs.declared.Call.{Call}
 use Rattle.calls.specs.declared.Call.the-variants.{Walk}
 use Rattle.calls.specs.declared.Reply.the-variants.{Walked}
 use Rattle.calls.specs.declared.WalkReply.the-variants.{Spent}
-use Rattle.calls.specs.RowLaws.{clash, same}
+use Rattle.calls.specs.RowLaws.{clash}
 use Rattle.calls.specs.AnswerLaws.{NarrowPitch, Proper}
 use Rattle.calls.specs.Events.{accepted}
 use Rattle.calls.specs.Model.{firstTable}
 use Rattle.layout.specs.declared.Publisher.{Publisher}
 use Rattle.layout.specs.declared.Progress.{Progress}
 use Rattle.layout.specs.Layout.{indicator}
-use Rattle.layout.specs.Laws.{publisher-put}
 use Rattle.statement.specs.Machine.{State, Outcome, Given, Fresh, afterAll}
 use Rattle.statement.specs.Demand3.{Demand3}
 use Rattle.statement.specs.Companions.{Traits, MakingAccepts, RefusedLeaves, Frame, Companions}
 use Rattle.publication_law.specs.Steps.{publisher, walked}
 use Rattle.publication_law.specs.Rules.{damaged, act, rows, step, making}
-use Rattle.publication_law.specs.DamageLaws.{publisher-below}
+use Rattle.publication_law.specs.Frames.{walk-record}
 use Rattle.publication_law.specs.Decide.{decided}
 use Rattle.publication_law.specs.Lawful.{fine-undamaged, demand3-of, companions-of, never-damaged-of, making-accepts-of, refused-leaves-of, frame-of, proper-of, proper-making-of, walk-zero-of}
 use Rattle.two_phase_law.specs.Steps.{LAST, kind, placeOn, watched, looksOf, rules, TwoPhase}
@@ -74,7 +73,7 @@ old-walk-facts s p b = decided (λ (o : Outcome). accepted (o .reply) ≡ true �
     (λ f _.
     let fine = fine-undamaged rules LAST (λ z. 2) placeOn lawful s (f .0) in record {
       reply-is = refl;
-      record-is = ap (λ (g : ℕ → Publisher). g p) (publisher-put (λ (y : Publisher). y) (s .words) p (walked (publisher s p) (looksOf s (publisher s p) b)) (fine .head .long) (publisher-below kind s fine p (leb-false _ _ (f .1 .0)))) ∙ rw (same p) refl;
+      record-is = walk-record kind s fine p (leb-false _ _ (f .1 .0)) (looksOf s (publisher s p) b);
       look-is = looked (indicator (s .words) (watched (publisher s p))) (publisher s p) b (look-turn (publisher s p .place) (not-false _ (f .1 .1 .0)));
     })
     (λ ok. clash (sym ok))

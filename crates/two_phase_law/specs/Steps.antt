@@ -12,7 +12,7 @@ use Rattle.calls.specs.Rows.{anyTrue, countBelow}
 use Rattle.layout.specs.declared.Reader.{Reader}
 use Rattle.layout.specs.declared.Publisher.{Publisher}
 use Rattle.layout.specs.declared.Progress.{Progress}
-use Rattle.layout.specs.Layout.{readers, current, version, indicator, withIndicator, withReader, noReader}
+use Rattle.layout.specs.Layout.{readers, current, version, indicator, readerAt, withIndicator, withReader, noReader}
 use Rattle.statement.specs.Machine.{State, Machine}
 use Rattle.publication_law.specs.Steps.{Versions, upTo, reader, publisher}
 use Rattle.publication_law.specs.Damage.{Kind, wrongPick, publisherRows}
@@ -46,9 +46,12 @@ parity n = n % 2
 abbrev pub addedTo : ℕ → Reader → Bool
 addedTo i x = leb 4 (x .place) && eqb (parity (x .first)) i
 
--- An indicator unlike the number of readers at 4 or 5 that added to it.
+-- An indicator unlike the number of readers at 4 or 5 that added to it; n is how many readers there are.
+abbrev pub miscountedAt : List ℕ → ℕ → ℕ → Bool
+miscountedAt w n i = not (eqb (indicator w i) (countBelow (λ r. addedTo i (readerAt w r)) n))
+
 abbrev pub miscounted : State → ℕ → Bool
-miscounted s i = not (eqb (indicator (s .words) i) (countBelow (λ r. addedTo i (reader s r)) (readers (s .words))))
+miscounted s i = miscountedAt (s .words) (readers (s .words)) i
 
 -- ENTER r: 0 to 1 loads the version; 1 to 4 adds one to the indicator of its parity; 4 to 5 picks.
 unfoldable pub onward : ℕ → ℕ → Reader → Reader
