@@ -1,0 +1,257 @@
+/* Rahuvyte: a store for the pitch tables of a wind turbine.
+
+   A table has 32 pitches. PUBLISHERS (tower door, supervisor, ice detector) write a new table and swap it in;
+   READERS (the blade loops) look pitches up. A reader never waits, and never sees parts of two tables.
+
+   You lend the store two arrays and keep them for as long as you use it:
+     uint64_t store[RAHUVYTE_WORDS]                          its numbers (docs/LAYOUT.md); no need to look inside
+     rahuvyte_pitch entries[RAHUVYTE_ENTRIES(slots)]         its tables, one for each slot
+   The library keeps nothing of its own: no allocation, no global data. Stores in different arrays know nothing of each other.
+
+   A reader, again and again:    ENTER until the reply is 'at 5' .. LOOK, as often as it likes .. LEAVE
+   A publisher, new store:       CLAIM a slot .. WRITE 32 pitches .. SWAP .. SYNC .. RAISE .. WALK until 'returned' .. RELEASE
+   A publisher, old store:       CLAIM a slot .. WRITE 32 pitches .. SWAP .. SYNC .. WALK until 'quiet' .. RAISE .. WALK until 'returned' .. RELEASE
+   Each of these is one short call. Between any two calls the executive may run any other task.
+
+   A call that cannot be done now, or makes no sense, is REFUSED: the reply says why by a number below 100,
+   and store and entries stay as they were. No call needs you to have looked first.
+
+   One core: calls run one after another. They must not overlap on one store (no second thread, no call from an
+   interrupt that came in the middle of another call). Every pointer must be good for the length given with it,
+   store and entries must not overlap, and a null pointer is allowed only with length 0. docs/C-INTERFACE.md has an example and tables.
+
+   C99 or later, and C++11 or later. The archive is for x86-64 Linux. */
+#ifndef RAHUVYTE_H
+#define RAHUVYTE_H
+
+#include <stddef.h>
+#include <stdint.h>
+
+#define RAHUVYTE_VERSION_MAJOR 0
+#define RAHUVYTE_VERSION_MINOR 1
+#define RAHUVYTE_VERSION_PATCH 0
+#define RAHUVYTE_VERSION "0.1.0"
+
+#ifdef __cplusplus
+extern "C" {
+#endif
+
+/* ---- Numbers ---- */
+
+/* A pitch, in hundredths of a degree: 9000 is 90 degrees. */
+typedef int16_t rahuvyte_pitch;
+
+#define RAHUVYTE_PITCH_LOW (-500)
+#define RAHUVYTE_PITCH_HIGH 9500
+/* Every entry of a fresh store: blades feathered. */
+#define RAHUVYTE_FEATHERED 9000
+
+/* Words of a store, of either kind and any size. */
+#define RAHUVYTE_WORDS 425
+/* Pitches of one table, and of all tables of a store. */
+#define RAHUVYTE_TABLE 32
+#define RAHUVYTE_ENTRIES(slots) ((size_t)(slots) * RAHUVYTE_TABLE)
+
+/* The sizes that a store can be made with. */
+#define RAHUVYTE_READERS_MIN 1
+#define RAHUVYTE_READERS_MAX 64
+#define RAHUVYTE_PUBLISHERS_MIN 1
+#define RAHUVYTE_PUBLISHERS_MAX 16
+#define RAHUVYTE_SLOTS_MIN 2
+#define RAHUVYTE_SLOTS_MAX 32
+
+/* The kinds of store. New: publishers publish side by side. Old: one at a time, any other is refused as busy. */
+#define RAHUVYTE_KIND_NEW 1
+#define RAHUVYTE_KIND_OLD 2
+
+/* The last version of each kind: the greatest first version at making, and the one at which SYNC is refused. */
+#define RAHUVYTE_LAST_NEW (UINT64_MAX - 1)
+#define RAHUVYTE_LAST_OLD (UINT64_MAX / 2)
+
+/* What a reader of the new store has published while it is out: a number among the store's words. */
+#define RAHUVYTE_NOT_READING UINT64_MAX
+
+/* ---- Replies ---- */
+
+/* Every call's reply. code says which; first and second are its values, 0 where it has none. */
+struct rahuvyte_reply {
+    uint64_t code;
+    uint64_t first;
+    uint64_t second;
+};
+
+/* The codes of accepted calls, from 100. In brackets: first, second. */
+enum {
+    RAHUVYTE_MADE = 100,
+    RAHUVYTE_AT = 101,       /* (place) */
+    RAHUVYTE_PITCH = 102,    /* (pitch) a negative pitch v is 2^64 + v: take it by rahuvyte_pitch_of */
+    RAHUVYTE_LEFT = 103,
+    RAHUVYTE_CLAIMED = 104,  /* (slot) */
+    RAHUVYTE_WRITTEN = 105,  /* (pitches written so far) */
+    RAHUVYTE_SWAPPED = 106,  /* (the slot that was current until now) */
+    RAHUVYTE_SYNCED = 107,   /* (mark: the version that this wait is about) */
+    RAHUVYTE_RAISED = 108,
+    RAHUVYTE_SHARED = 109,
+    RAHUVYTE_WAITING = 110,  /* (new: the reader waited for; old: the indicator, 0 or 1) */
+    RAHUVYTE_SPENT = 111,
+    RAHUVYTE_QUIET = 112,
+    RAHUVYTE_RETURNED = 113, /* (looks, waits) */
+    RAHUVYTE_FREED = 114     /* (slot, releases so far) */
+};
+
+/* The numbers of refusals, below 100. A refused call has changed nothing. */
+enum {
+    RAHUVYTE_DAMAGED = 1,            /* no store: wrong length, unknown kind, or numbers out of range */
+    RAHUVYTE_BAD_READERS = 2,        /* making: readers not 1 to 64 */
+    RAHUVYTE_BAD_PUBLISHERS = 3,     /* making: publishers not 1 to 16 */
+    RAHUVYTE_BAD_SLOTS = 4,          /* making: slots not 2 to 32 */
+    RAHUVYTE_BAD_ENTRIES = 5,        /* making: entries not slots x 32 */
+    RAHUVYTE_BAD_VERSION = 6,        /* making: first version above the last */
+    RAHUVYTE_NO_SUCH_READER = 10,
+    RAHUVYTE_NO_SUCH_PUBLISHER = 11,
+    RAHUVYTE_NO_SUCH_SLOT = 12,
+    RAHUVYTE_NO_SUCH_ENTRY = 13,     /* entry above 31 */
+    RAHUVYTE_BAD_PITCH = 14,         /* pitch not -500 to 9500 */
+    RAHUVYTE_READER_TURN = 20,       /* not this reader's turn for this call */
+    RAHUVYTE_PUBLISHER_TURN = 21,    /* not this publisher's turn for this call */
+    RAHUVYTE_SLOT_IN_USE = 30,       /* CLAIM: the slot is current, or a publisher holds it */
+    RAHUVYTE_BUSY = 31,              /* CLAIM, old store: another publisher is publishing */
+    RAHUVYTE_VERSION_IS_LAST = 32,   /* SYNC: no version is left */
+    RAHUVYTE_TOO_MANY_LOOKS = 33     /* WALK: looks + b would pass 2^64 - 1 */
+};
+
+/* 1 if the call was accepted, 0 if it was refused. */
+static inline int rahuvyte_accepted(struct rahuvyte_reply reply)
+{
+    return reply.code >= RAHUVYTE_MADE;
+}
+
+/* The pitch of a reply RAHUVYTE_PITCH, its sign restored. Means nothing for other replies. */
+static inline int rahuvyte_pitch_of(struct rahuvyte_reply reply)
+{
+    const int low = reply.first & 0xffff;
+    return low < 0x8000 ? low : low - 0x10000;
+}
+
+/* A code in words, accepted or refused. Never null; a fixed text that nobody has to free. */
+static inline const char *rahuvyte_meaning(uint64_t code)
+{
+    switch (code) {
+    case RAHUVYTE_DAMAGED: return "damaged store, wrong length or unknown kind";
+    case RAHUVYTE_BAD_READERS: return "readers out of range";
+    case RAHUVYTE_BAD_PUBLISHERS: return "publishers out of range";
+    case RAHUVYTE_BAD_SLOTS: return "slots out of range";
+    case RAHUVYTE_BAD_ENTRIES: return "wrong number of entries";
+    case RAHUVYTE_BAD_VERSION: return "first version above the last";
+    case RAHUVYTE_NO_SUCH_READER: return "no such reader";
+    case RAHUVYTE_NO_SUCH_PUBLISHER: return "no such publisher";
+    case RAHUVYTE_NO_SUCH_SLOT: return "no such slot";
+    case RAHUVYTE_NO_SUCH_ENTRY: return "no such entry";
+    case RAHUVYTE_BAD_PITCH: return "pitch out of range";
+    case RAHUVYTE_READER_TURN: return "not this reader's turn";
+    case RAHUVYTE_PUBLISHER_TURN: return "not this publisher's turn";
+    case RAHUVYTE_SLOT_IN_USE: return "slot in use";
+    case RAHUVYTE_BUSY: return "another publisher is busy";
+    case RAHUVYTE_VERSION_IS_LAST: return "version is the last";
+    case RAHUVYTE_TOO_MANY_LOOKS: return "too many looks";
+    case RAHUVYTE_MADE: return "made";
+    case RAHUVYTE_AT: return "at a place";
+    case RAHUVYTE_PITCH: return "pitch";
+    case RAHUVYTE_LEFT: return "left";
+    case RAHUVYTE_CLAIMED: return "slot claimed";
+    case RAHUVYTE_WRITTEN: return "pitch written";
+    case RAHUVYTE_SWAPPED: return "table swapped in";
+    case RAHUVYTE_SYNCED: return "synchronising";
+    case RAHUVYTE_RAISED: return "version raised";
+    case RAHUVYTE_SHARED: return "version raised by another";
+    case RAHUVYTE_WAITING: return "waiting for a reader";
+    case RAHUVYTE_SPENT: return "looks spent";
+    case RAHUVYTE_QUIET: return "indicator quiet";
+    case RAHUVYTE_RETURNED: return "all waited for have left";
+    case RAHUVYTE_FREED: return "slot freed";
+    default: return "no code of this library";
+    }
+}
+
+/* ---- Making ---- */
+
+/* Makes a fresh store in the lent arrays, whatever they held: every entry 9000, slot 0 current, everyone out.
+   kind is RAHUVYTE_KIND_NEW or RAHUVYTE_KIND_OLD; version is the first version, 0 unless you have a reason.
+   For publishers that publish side by side take slots >= publishers + 1, so that there is always one to claim.
+   Reply: MADE. Refused, tested in this order: DAMAGED (store_len is not RAHUVYTE_WORDS, or no such kind), BAD_READERS,
+   BAD_PUBLISHERS, BAD_SLOTS, BAD_ENTRIES (entries_len is not slots x 32), BAD_VERSION.
+   It does not ask whether a store was there before: tables and sections of that one are gone. */
+struct rahuvyte_reply rahuvyte_make(uint64_t *store, size_t store_len, rahuvyte_pitch *entries, size_t entries_len,
+                                    uint16_t kind, uint16_t readers, uint16_t publishers, uint16_t slots, uint64_t version);
+
+/* All calls below take the store and entries as the call before left them, with the lengths that the store was made with.
+   Each is refused with DAMAGED before anything else is tested if these are not a store: a store_len other than RAHUVYTE_WORDS,
+   an unknown kind, an entries_len other than slots x 32, or numbers out of their range (docs/LAYOUT.md). */
+
+/* ---- Calls of a reader; r is its number, from 0 ---- */
+
+/* ENTER: one step on the way into a section. Repeat it until the reply is AT with place 5.
+   Reply: AT with the place: 1, 2, 3, 4, 5 in the new store, 1, 4, 5 in the old. The step to 5 picks the table that is current
+   at that moment; the section keeps it until LEAVE, whatever publishers do. Never waits for a publisher.
+   Refused: DAMAGED, NO_SUCH_READER, READER_TURN (already at 5). */
+struct rahuvyte_reply rahuvyte_enter(uint64_t *store, size_t store_len, const rahuvyte_pitch *entries, size_t entries_len, uint16_t r);
+
+/* LOOK: entry k, 0 to 31, of the table that reader r picked. Changes nothing; allowed any number of times at place 5.
+   Reply: PITCH with the pitch; rahuvyte_pitch_of(reply) has it as an int.
+   Refused: DAMAGED, NO_SUCH_READER, NO_SUCH_ENTRY, READER_TURN (not at 5). */
+struct rahuvyte_reply rahuvyte_look(const uint64_t *store, size_t store_len, const rahuvyte_pitch *entries, size_t entries_len, uint16_t r,
+                                    uint16_t k);
+
+/* LEAVE: ends the section. Leave soon: publishers wait, by asking again, for the sections that were open when they synchronised.
+   Reply: LEFT. Refused: DAMAGED, NO_SUCH_READER, READER_TURN (not at 4 or 5; on the way in, ENTER first). */
+struct rahuvyte_reply rahuvyte_leave(uint64_t *store, size_t store_len, const rahuvyte_pitch *entries, size_t entries_len, uint16_t r);
+
+/* ---- Calls of a publisher; p is its number, from 0 ---- */
+
+/* CLAIM: takes a free slot to write a table into. A slot is free if it is not current and no publisher holds it.
+   You need not know which is free: on SLOT_IN_USE try another.
+   Reply: CLAIMED with the slot. Refused: DAMAGED, NO_SUCH_PUBLISHER, NO_SUCH_SLOT, PUBLISHER_TURN (publishing already),
+   BUSY (old store only: another publisher is between its CLAIM and its RELEASE; try again later), SLOT_IN_USE. */
+struct rahuvyte_reply rahuvyte_claim(uint64_t *store, size_t store_len, const rahuvyte_pitch *entries, size_t entries_len, uint16_t p,
+                                     uint16_t slot);
+
+/* WRITE: the next pitch of the new table, entry 0 first; 32 of them make it whole. No reader sees it before SWAP.
+   Reply: WRITTEN with how many are written. Refused: DAMAGED, NO_SUCH_PUBLISHER, BAD_PITCH,
+   PUBLISHER_TURN (nothing claimed, or all 32 written). A refused pitch is not written: write another in its place. */
+struct rahuvyte_reply rahuvyte_write(uint64_t *store, size_t store_len, rahuvyte_pitch *entries, size_t entries_len, uint16_t p,
+                                     rahuvyte_pitch v);
+
+/* SWAP: the table just written becomes current; readers pick it from now on. The publisher now holds the slot that was current,
+   in which readers may still be looking.
+   Reply: SWAPPED with that slot. Refused: DAMAGED, NO_SUCH_PUBLISHER, PUBLISHER_TURN (not all 32 written). */
+struct rahuvyte_reply rahuvyte_swap(uint64_t *store, size_t store_len, const rahuvyte_pitch *entries, size_t entries_len, uint16_t p);
+
+/* SYNC: begins the wait for the sections that are open now. It does not wait itself: no call does.
+   Reply: SYNCED with the mark. Refused: DAMAGED, NO_SUCH_PUBLISHER, PUBLISHER_TURN (not just swapped),
+   VERSION_IS_LAST (this store can publish no more; make a new one. From version 0 that is never reached in practice). */
+struct rahuvyte_reply rahuvyte_sync(uint64_t *store, size_t store_len, const rahuvyte_pitch *entries, size_t entries_len, uint16_t p);
+
+/* RAISE: moves the version up to the mark. New store: next after SYNC. Old store: next after a WALK replied QUIET.
+   Reply: RAISED, or SHARED if another publisher has raised it already, which is as good.
+   Refused: DAMAGED, NO_SUCH_PUBLISHER, PUBLISHER_TURN. */
+struct rahuvyte_reply rahuvyte_raise(uint64_t *store, size_t store_len, const rahuvyte_pitch *entries, size_t entries_len, uint16_t p);
+
+/* WALK: looks whether readers of the former table are still there, by at most b looks (the old store: at most one). b bounds
+   the time of this one call. Allowed after RAISE, in the old store also after SYNC.
+   Reply: WAITING with the reader (old: the indicator) that is not past yet: call again later; SPENT: all b looks passed, readers are left,
+   call again (with b = 0 nothing changes); QUIET (old store, before RAISE): go on with RAISE; RETURNED with looks and waits: every section that was
+   open at SYNC has been left, go on with RELEASE.
+   Refused: DAMAGED, NO_SUCH_PUBLISHER, PUBLISHER_TURN, TOO_MANY_LOOKS (not reached in practice). */
+struct rahuvyte_reply rahuvyte_walk(uint64_t *store, size_t store_len, const rahuvyte_pitch *entries, size_t entries_len, uint16_t p,
+                                    uint16_t b);
+
+/* RELEASE: ends the publication; the former slot is free again.
+   Reply: FREED with the slot and the number of releases of the store so far (modulo 2^64).
+   Refused: DAMAGED, NO_SUCH_PUBLISHER, PUBLISHER_TURN (its WALK has not returned). */
+struct rahuvyte_reply rahuvyte_release(uint64_t *store, size_t store_len, const rahuvyte_pitch *entries, size_t entries_len, uint16_t p);
+
+#ifdef __cplusplus
+}
+#endif
+
+#endif

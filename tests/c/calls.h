@@ -1,0 +1,96 @@
+/* What the C tests share: lent arrays that end where memory ends, and the ten calls by number. */
+#ifndef CALLS_H
+#define CALLS_H
+
+#include "rahuvyte.h"
+
+#include <stdio.h>
+#include <stdlib.h>
+#include <string.h>
+#include <sys/mman.h>
+#include <unistd.h>
+
+enum word { ENTER, LOOK, LEAVE, CLAIM, WRITE, SWAP, SYNC, RAISE, WALK, RELEASE, TEN_CALLS };
+
+static const char *const names[TEN_CALLS] = { "enter", "look", "leave", "claim", "write", "swap", "sync", "raise", "walk", "release" };
+
+/* The arrays lent to a call, with their lengths. */
+struct lent {
+    uint64_t *store;
+    size_t store_len;
+    rahuvyte_pitch *entries;
+    size_t entries_len;
+};
+
+#define LENT(l) (l).store, (l).store_len, (l).entries, (l).entries_len
+
+/* size bytes right before a page that cannot be touched: one byte too far ends the program. Null for none. */
+static void *bytes_lent(size_t size)
+{
+    if (size == 0)
+        return NULL;
+    const size_t page = (size_t)sysconf(_SC_PAGESIZE), room = (size + page - 1) / page * page;
+    unsigned char *start = (unsigned char *)mmap(NULL, room + page, PROT_READ | PROT_WRITE, MAP_PRIVATE | MAP_ANONYMOUS, -1, 0);
+    if (start == MAP_FAILED || mprotect(start + room, page, PROT_NONE) != 0)
+        abort();
+    return start + room - size;
+}
+
+static struct lent arrays_lent(size_t store_len, size_t entries_len)
+{
+    const struct lent l = { (uint64_t *)bytes_lent(store_len * sizeof(uint64_t)), store_len,
+                            (rahuvyte_pitch *)bytes_lent(entries_len * sizeof(rahuvyte_pitch)), entries_len };
+    return l;
+}
+
+/* One of the ten calls; second is the entry, slot, pitch or b, if it has one. */
+static struct rahuvyte_reply called(struct lent l, enum word word, uint16_t first, int second)
+{
+    switch (word) {
+    case ENTER: return rahuvyte_enter(LENT(l), first);
+    case LOOK: return rahuvyte_look(LENT(l), first, (uint16_t)second);
+    case LEAVE: return rahuvyte_leave(LENT(l), first);
+    case CLAIM: return rahuvyte_claim(LENT(l), first, (uint16_t)second);
+    case WRITE: return rahuvyte_write(LENT(l), first, (rahuvyte_pitch)second);
+    case SWAP: return rahuvyte_swap(LENT(l), first);
+    case SYNC: return rahuvyte_sync(LENT(l), first);
+    case RAISE: return rahuvyte_raise(LENT(l), first);
+    case WALK: return rahuvyte_walk(LENT(l), first, (uint16_t)second);
+    case RELEASE: return rahuvyte_release(LENT(l), first);
+    default: abort();
+    }
+}
+
+static int same_reply(struct rahuvyte_reply reply, uint64_t code, uint64_t first, uint64_t second)
+{
+    return reply.code == code && reply.first == first && reply.second == second;
+}
+
+static void failed(const char *test, const char *call, struct rahuvyte_reply reply, uint64_t code, const char *what)
+{
+    fprintf(stderr, "%s: %s replies %llu %llu %llu; expected %llu%s\n", test, call, (unsigned long long)reply.code, (unsigned long long)reply.first,
+            (unsigned long long)reply.second, (unsigned long long)code, what);
+    exit(1);
+}
+
+/* Copies of lent arrays, to see whether a call changed them. */
+struct copies {
+    uint64_t store[2 * RAHUVYTE_WORDS];
+    rahuvyte_pitch entries[RAHUVYTE_SLOTS_MAX * RAHUVYTE_TABLE + 1];
+};
+
+static void copied(struct copies *to, struct lent l)
+{
+    if (l.store_len > 0)
+        memcpy(to->store, l.store, l.store_len * sizeof(uint64_t));
+    if (l.entries_len > 0)
+        memcpy(to->entries, l.entries, l.entries_len * sizeof(rahuvyte_pitch));
+}
+
+static int unchanged(const struct copies *before, struct lent l)
+{
+    return (l.store_len == 0 || memcmp(before->store, l.store, l.store_len * sizeof(uint64_t)) == 0)
+        && (l.entries_len == 0 || memcmp(before->entries, l.entries, l.entries_len * sizeof(rahuvyte_pitch)) == 0);
+}
+
+#endif

@@ -1,0 +1,101 @@
+/* The header's constants are the library's own: each is compared with what the archive says by rahuvyte_number.
+   The order of the numbers is that of the table below. Past its end the archive says 0, which is none of them. */
+#include "rahuvyte.h"
+
+#include <stdio.h>
+#include <string.h>
+
+/* For this test alone, and so not in the header. */
+uint64_t rahuvyte_number(uint16_t which);
+
+struct constant {
+    const char *name;
+    uint64_t value;
+};
+
+#define NUMBER(name) { #name, (uint64_t)(RAHUVYTE_##name) }
+
+static const struct constant constants[] = {
+    /* 0 */ NUMBER(WORDS),
+    /* 1 */ NUMBER(KIND_NEW),
+    /* 2 */ NUMBER(KIND_OLD),
+    /* 3 */ NUMBER(READERS_MAX),
+    /* 4 */ NUMBER(PUBLISHERS_MAX),
+    /* 5 */ NUMBER(SLOTS_MIN),
+    /* 6 */ NUMBER(SLOTS_MAX),
+    /* 7 */ NUMBER(TABLE),
+    /* 8 */ NUMBER(PITCH_LOW), /* 2^64 - 500, as in a reply */
+    /* 9 */ NUMBER(PITCH_HIGH),
+    /* 10 */ NUMBER(FEATHERED),
+    /* 11 */ NUMBER(NOT_READING),
+    /* 12 */ NUMBER(LAST_NEW),
+    /* 13 */ NUMBER(LAST_OLD),
+    /* 14 */ NUMBER(DAMAGED),
+    /* 15 */ NUMBER(BAD_READERS),
+    /* 16 */ NUMBER(BAD_PUBLISHERS),
+    /* 17 */ NUMBER(BAD_SLOTS),
+    /* 18 */ NUMBER(BAD_ENTRIES),
+    /* 19 */ NUMBER(BAD_VERSION),
+    /* 20 */ NUMBER(NO_SUCH_READER),
+    /* 21 */ NUMBER(NO_SUCH_PUBLISHER),
+    /* 22 */ NUMBER(NO_SUCH_SLOT),
+    /* 23 */ NUMBER(NO_SUCH_ENTRY),
+    /* 24 */ NUMBER(BAD_PITCH),
+    /* 25 */ NUMBER(READER_TURN),
+    /* 26 */ NUMBER(PUBLISHER_TURN),
+    /* 27 */ NUMBER(SLOT_IN_USE),
+    /* 28 */ NUMBER(BUSY),
+    /* 29 */ NUMBER(VERSION_IS_LAST),
+    /* 30 */ NUMBER(TOO_MANY_LOOKS),
+    /* 31 */ NUMBER(MADE),
+    /* 32 */ NUMBER(AT),
+    /* 33 */ NUMBER(PITCH),
+    /* 34 */ NUMBER(LEFT),
+    /* 35 */ NUMBER(CLAIMED),
+    /* 36 */ NUMBER(WRITTEN),
+    /* 37 */ NUMBER(SWAPPED),
+    /* 38 */ NUMBER(SYNCED),
+    /* 39 */ NUMBER(RAISED),
+    /* 40 */ NUMBER(SHARED),
+    /* 41 */ NUMBER(WAITING),
+    /* 42 */ NUMBER(SPENT),
+    /* 43 */ NUMBER(QUIET),
+    /* 44 */ NUMBER(RETURNED),
+    /* 45 */ NUMBER(FREED),
+};
+
+enum { COUNT = sizeof constants / sizeof constants[0] };
+
+/* Whether the library's number is value; says so if not. */
+static int agrees(uint16_t which, const char *name, uint64_t value)
+{
+    const uint64_t number = rahuvyte_number(which);
+    if (number == value)
+        return 1;
+    fprintf(stderr, "constants: %s (%u) is %llu in the header, %llu in the library\n", name, which, (unsigned long long)value, (unsigned long long)number);
+    return 0;
+}
+
+/* Whether the header's version is one, as a text and as three numbers. */
+static int one_version(void)
+{
+    char text[32];
+    sprintf(text, "%d.%d.%d", RAHUVYTE_VERSION_MAJOR, RAHUVYTE_VERSION_MINOR, RAHUVYTE_VERSION_PATCH);
+    if (strcmp(text, RAHUVYTE_VERSION) == 0)
+        return 1;
+    fprintf(stderr, "constants: the header says version %s and %s\n", text, RAHUVYTE_VERSION);
+    return 0;
+}
+
+int main(void)
+{
+    int good = one_version();
+    for (uint16_t i = 0; i < COUNT; i++)
+        good &= agrees(i, constants[i].name, constants[i].value);
+    good &= agrees(COUNT, "past the end", 0);
+    good &= agrees(UINT16_MAX, "far past the end", 0);
+    if (!good)
+        return 1;
+    printf("constants: %d agree\n", COUNT);
+    return 0;
+}

@@ -1,0 +1,105 @@
+/* Wrong lengths and unknown kinds: 1 before all else (5 for the entries at making), nothing changed, and no byte touched beyond what is lent. */
+#define _DEFAULT_SOURCE
+
+#include "calls.h"
+
+static struct copies before;
+static unsigned tried;
+
+static void expect_refused(const char *call, struct rahuvyte_reply reply, uint64_t code, struct lent l)
+{
+    if (!same_reply(reply, code, 0, 0))
+        failed("lengths", call, reply, code, "");
+    if (!unchanged(&before, l))
+        failed("lengths", call, reply, code, ", and nothing changed");
+    tried++;
+}
+
+/* The ten calls with arguments that would be good and with bad ones: all give 1. */
+static void ten_damaged(struct lent l)
+{
+    copied(&before, l);
+    for (int w = ENTER; w < TEN_CALLS; w++) {
+        expect_refused(names[w], called(l, (enum word)w, 0, 1), RAHUVYTE_DAMAGED, l);
+        expect_refused(names[w], called(l, (enum word)w, UINT16_MAX, INT16_MAX), RAHUVYTE_DAMAGED, l);
+    }
+}
+
+/* Makings with these lengths and this kind give code; and, if it is 1, also with every size wrong. */
+static void making_refused(struct lent l, uint16_t kind, uint64_t code)
+{
+    copied(&before, l);
+    expect_refused("make", rahuvyte_make(LENT(l), kind, 2, 2, 3, 0), code, l);
+    if (code == RAHUVYTE_DAMAGED)
+        expect_refused("make", rahuvyte_make(LENT(l), kind, 0, 0, 0, UINT64_MAX), code, l);
+}
+
+/* A good store in its first words, of a kind with 2 readers, 2 publishers and 3 slots; lent with another length. */
+static struct lent store_made(uint16_t kind, size_t store_len, size_t entries_len)
+{
+    struct lent good = arrays_lent(RAHUVYTE_WORDS, RAHUVYTE_ENTRIES(3)), l = arrays_lent(store_len, entries_len);
+    if (rahuvyte_make(LENT(good), kind, 2, 2, 3, 0).code != RAHUVYTE_MADE)
+        abort();
+    if (store_len > 0)
+        memcpy(l.store, good.store, (store_len < RAHUVYTE_WORDS ? store_len : RAHUVYTE_WORDS) * sizeof(uint64_t));
+    return l;
+}
+
+static void store_lengths(uint16_t kind)
+{
+    static const size_t lengths[] = { 0, 1, 4, 9, RAHUVYTE_WORDS - 1, RAHUVYTE_WORDS + 1, 2 * RAHUVYTE_WORDS };
+    for (size_t i = 0; i < sizeof lengths / sizeof lengths[0]; i++) {
+        const struct lent l = store_made(kind, lengths[i], RAHUVYTE_ENTRIES(3));
+        ten_damaged(l);
+        making_refused(l, kind, RAHUVYTE_DAMAGED);
+    }
+    const struct lent nothing = store_made(kind, 0, 0);
+    ten_damaged(nothing);
+    making_refused(nothing, kind, RAHUVYTE_DAMAGED);
+}
+
+static void entries_lengths(uint16_t kind)
+{
+    static const size_t lengths[] = { 0, 1, 64, 95, 97, 128, 1024 };
+    for (size_t i = 0; i < sizeof lengths / sizeof lengths[0]; i++) {
+        const struct lent l = store_made(kind, RAHUVYTE_WORDS, lengths[i]);
+        ten_damaged(l);
+        making_refused(l, kind, RAHUVYTE_BAD_ENTRIES);
+    }
+}
+
+/* Words that are no kind, among them some whose low bits are one. */
+static void unknown_kinds(uint16_t kind)
+{
+    static const uint64_t kinds[] = { 0, 3, 255, 257, 258, 65537, 65538, 4294967297u, 4294967298u, UINT64_MAX };
+    for (size_t i = 0; i < sizeof kinds / sizeof kinds[0]; i++) {
+        const struct lent l = store_made(kind, RAHUVYTE_WORDS, RAHUVYTE_ENTRIES(3));
+        l.store[0] = kinds[i];
+        ten_damaged(l);
+        if (kinds[i] <= UINT16_MAX)
+            making_refused(l, (uint16_t)kinds[i], RAHUVYTE_DAMAGED);
+    }
+}
+
+/* A store that is damaged in its last record, its first and its head. */
+static void damaged_words(uint16_t kind)
+{
+    static const size_t words[] = { 1, 2, 3, 4, 9, 14, 329, 335 };
+    for (size_t i = 0; i < sizeof words / sizeof words[0]; i++) {
+        const struct lent l = store_made(kind, RAHUVYTE_WORDS, RAHUVYTE_ENTRIES(3));
+        l.store[words[i]] = UINT64_MAX;
+        ten_damaged(l);
+    }
+}
+
+int main(void)
+{
+    for (uint16_t kind = RAHUVYTE_KIND_NEW; kind <= RAHUVYTE_KIND_OLD; kind++) {
+        store_lengths(kind);
+        entries_lengths(kind);
+        unknown_kinds(kind);
+        damaged_words(kind);
+    }
+    printf("lengths: %u calls refused, nothing changed\n", tried);
+    return 0;
+}
