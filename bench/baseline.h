@@ -1,34 +1,20 @@
-/* The stores by hand in C: the measure that the proved ones are held to. Same words, same entries, same refusals, same replies. */
+/* The stores by hand in C, behind one door as the proved ones are: c_enter is to rahuvyte_enter what the rest is to the rest.
+   Same words, same entries, same refusals, same replies. */
 #ifndef BASELINE_H
 #define BASELINE_H
 
-#include <stddef.h>
-#include <stdint.h>
+#include "../include/rahuvyte.h"
 
-/* A reply as three numbers: `answerOf` in crates/calls/specs/Answer.antt. */
-struct reply {
-    uint64_t code;
-    uint64_t first;
-    uint64_t second;
-};
-
-/* The new store's calls by hand are c_new_make and so on, the old store's c_old_make; through the proved library rv_new_make and rv_old_make. */
-#define DECLARE(side) \
-    struct reply side##_make(uint64_t *words, size_t words_len, int16_t *entries, size_t entries_len, uint16_t readers, uint16_t publishers, uint16_t slots, uint64_t version); \
-    struct reply side##_enter(uint64_t *words, size_t words_len, const int16_t *entries, size_t entries_len, uint16_t r); \
-    struct reply side##_look(const uint64_t *words, size_t words_len, const int16_t *entries, size_t entries_len, uint16_t r, uint16_t k); \
-    struct reply side##_leave(uint64_t *words, size_t words_len, const int16_t *entries, size_t entries_len, uint16_t r); \
-    struct reply side##_claim(uint64_t *words, size_t words_len, const int16_t *entries, size_t entries_len, uint16_t p, uint16_t s); \
-    struct reply side##_write(uint64_t *words, size_t words_len, int16_t *entries, size_t entries_len, uint16_t p, int16_t v); \
-    struct reply side##_swap(uint64_t *words, size_t words_len, const int16_t *entries, size_t entries_len, uint16_t p); \
-    struct reply side##_sync(uint64_t *words, size_t words_len, const int16_t *entries, size_t entries_len, uint16_t p); \
-    struct reply side##_raise(uint64_t *words, size_t words_len, const int16_t *entries, size_t entries_len, uint16_t p); \
-    struct reply side##_walk(uint64_t *words, size_t words_len, const int16_t *entries, size_t entries_len, uint16_t p, uint16_t b); \
-    struct reply side##_release(uint64_t *words, size_t words_len, const int16_t *entries, size_t entries_len, uint16_t p)
-
-DECLARE(c_new);
-DECLARE(c_old);
-DECLARE(rv_new);
-DECLARE(rv_old);
+struct rahuvyte_reply c_make(uint64_t *words, size_t words_len, int16_t *entries, size_t entries_len, uint16_t kind, uint16_t readers, uint16_t publishers, uint16_t slots, uint64_t version);
+struct rahuvyte_reply c_enter(uint64_t *words, size_t words_len, const int16_t *entries, size_t entries_len, uint16_t r);
+struct rahuvyte_reply c_look(const uint64_t *words, size_t words_len, const int16_t *entries, size_t entries_len, uint16_t r, uint16_t k);
+struct rahuvyte_reply c_leave(uint64_t *words, size_t words_len, const int16_t *entries, size_t entries_len, uint16_t r);
+struct rahuvyte_reply c_claim(uint64_t *words, size_t words_len, const int16_t *entries, size_t entries_len, uint16_t p, uint16_t x);
+struct rahuvyte_reply c_write(uint64_t *words, size_t words_len, int16_t *entries, size_t entries_len, uint16_t p, int16_t v);
+struct rahuvyte_reply c_swap(uint64_t *words, size_t words_len, const int16_t *entries, size_t entries_len, uint16_t p);
+struct rahuvyte_reply c_sync(uint64_t *words, size_t words_len, const int16_t *entries, size_t entries_len, uint16_t p);
+struct rahuvyte_reply c_raise(uint64_t *words, size_t words_len, const int16_t *entries, size_t entries_len, uint16_t p);
+struct rahuvyte_reply c_walk(uint64_t *words, size_t words_len, const int16_t *entries, size_t entries_len, uint16_t p, uint16_t b);
+struct rahuvyte_reply c_release(uint64_t *words, size_t words_len, const int16_t *entries, size_t entries_len, uint16_t p);
 
 #endif

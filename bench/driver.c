@@ -1,13 +1,12 @@
-/* Plays one list of calls, drawn from a seed and mostly in turn, on the proved store and on the C baseline side by side,
-   and compares every reply, the words and the entries. run counts the instructions of each call under callgrind.
-   Compile with -DKIND=new or -DKIND=old. */
+/* Plays one list of calls, drawn from a seed and mostly in turn, through the archive's entry points and through the baseline's by hand, side by side,
+   and compares every reply, the words and the entries. run counts the instructions of each call under callgrind. */
 #include "baseline.h"
 
 #include <stdio.h>
 #include <stdlib.h>
 #include <string.h>
 
-enum { WORDS = 425, TABLE = 32, ENTRIES_MAX = 1024 };
+enum { WORDS = RAHUVYTE_WORDS, TABLE = RAHUVYTE_TABLE, ENTRIES_MAX = RAHUVYTE_SLOTS_MAX * RAHUVYTE_TABLE };
 
 /* docs/LAYOUT.md: where the place of the first reader and of the first publisher stands, and the words of a record. */
 enum { FIRST_READER = 9, READER_WORDS = 5, FIRST_PUBLISHER = 329, PUBLISHER_WORDS = 6 };
@@ -25,7 +24,7 @@ static uint64_t below(uint64_t n)
     return state % n;
 }
 
-static void compared(const char *call, struct reply ours, struct reply theirs)
+static void compared(const char *call, struct rahuvyte_reply ours, struct rahuvyte_reply theirs)
 {
     if (memcmp(&ours, &theirs, sizeof ours) != 0 || memcmp(words[0], words[1], sizeof words[0]) != 0 || memcmp(entries[0], entries[1], sizeof entries[0]) != 0) {
         fprintf(stderr, "driver: %s differs: %llu %llu %llu and %llu %llu %llu\n", call, (unsigned long long)ours.code, (unsigned long long)ours.first,
@@ -34,9 +33,7 @@ static void compared(const char *call, struct reply ours, struct reply theirs)
     }
 }
 
-#define NAME(side, kind, call) side##_##kind##_##call
-#define OF(side, kind, call) NAME(side, kind, call)
-#define BOTH(call, ...) compared(#call, OF(rv, KIND, call)(words[0], WORDS, entries[0], entries_len, __VA_ARGS__), OF(c, KIND, call)(words[1], WORDS, entries[1], entries_len, __VA_ARGS__))
+#define BOTH(call, ...) compared(#call, rahuvyte_##call(words[0], WORDS, entries[0], entries_len, __VA_ARGS__), c_##call(words[1], WORDS, entries[1], entries_len, __VA_ARGS__))
 
 /* A reader goes on: it enters, looks a few times, and leaves. */
 static void reader_goes_on(uint16_t r)
@@ -70,7 +67,7 @@ static void publisher_goes_on(uint16_t p, uint16_t slots)
         BOTH(sync, p);
         break;
     case 35:
-        if (words[1][0] == 2)
+        if (words[1][0] == RAHUVYTE_KIND_OLD)
             BOTH(walk, p, b);
         else
             BOTH(raise, p);
@@ -89,19 +86,20 @@ static void publisher_goes_on(uint16_t p, uint16_t slots)
     }
 }
 
-/* driver READERS PUBLISHERS SLOTS CALLS SEED */
+/* driver new|old READERS PUBLISHERS SLOTS CALLS SEED */
 int main(int argc, char **argv)
 {
-    if (argc != 6) {
-        fprintf(stderr, "driver READERS PUBLISHERS SLOTS CALLS SEED\n");
+    if (argc != 7) {
+        fprintf(stderr, "driver new|old READERS PUBLISHERS SLOTS CALLS SEED\n");
         return 2;
     }
-    const uint16_t readers = (uint16_t)atoi(argv[1]), publishers = (uint16_t)atoi(argv[2]), slots = (uint16_t)atoi(argv[3]);
-    const long calls = atol(argv[4]);
-    state = strtoull(argv[5], NULL, 10) * 2 + 1;
+    const uint16_t kind = strcmp(argv[1], "old") == 0 ? RAHUVYTE_KIND_OLD : RAHUVYTE_KIND_NEW;
+    const uint16_t readers = (uint16_t)atoi(argv[2]), publishers = (uint16_t)atoi(argv[3]), slots = (uint16_t)atoi(argv[4]);
+    const long calls = atol(argv[5]);
+    state = strtoull(argv[6], NULL, 10) * 2 + 1;
     entries_len = (size_t)slots * TABLE;
     for (uint64_t version = 0; version < 20; version++)
-        BOTH(make, readers, publishers, slots, version);
+        BOTH(make, kind, readers, publishers, slots, version);
     for (long i = 0; i < calls; i++) {
         if (below(2) == 0)
             reader_goes_on((uint16_t)below(readers));

@@ -1,8 +1,8 @@
-/* LOOK, WRITE, SWAP, SYNC and RELEASE, which the two baselines share: included by each after its NAMED, its LAST and its damage test. */
-struct reply NAMED(look)(const uint64_t *words, size_t words_len, const int16_t *entries, size_t entries_len, uint16_t r, uint16_t k)
+/* LOOK, WRITE, SWAP, SYNC and RELEASE, which the two kinds by hand share: included by each after its NAMED, its LAST and its damage test. */
+static struct rahuvyte_reply NAMED(look)(const uint64_t *words, size_t words_len, const int16_t *entries, size_t entries_len, uint16_t r, uint16_t k)
 {
     const struct store *s = (const struct store *)words;
-    if (damaged(s, words_len, entries_len))
+    if (NAMED(damaged)(s, words_len, entries_len))
         return refused(1);
     if (r >= s->readers)
         return refused(10);
@@ -14,10 +14,10 @@ struct reply NAMED(look)(const uint64_t *words, size_t words_len, const int16_t 
     return accepted(102, (uint64_t)(int64_t)entries[x->picked * TABLE + k], 0);
 }
 
-struct reply NAMED(write)(uint64_t *words, size_t words_len, int16_t *entries, size_t entries_len, uint16_t p, int16_t v)
+static struct rahuvyte_reply NAMED(write)(uint64_t *words, size_t words_len, int16_t *entries, size_t entries_len, uint16_t p, int16_t v)
 {
     struct store *s = (struct store *)words;
-    if (damaged(s, words_len, entries_len))
+    if (NAMED(damaged)(s, words_len, entries_len))
         return refused(1);
     if (p >= s->publishers)
         return refused(11);
@@ -32,11 +32,11 @@ struct reply NAMED(write)(uint64_t *words, size_t words_len, int16_t *entries, s
     return accepted(105, place, 0);
 }
 
-struct reply NAMED(swap)(uint64_t *words, size_t words_len, const int16_t *entries, size_t entries_len, uint16_t p)
+static struct rahuvyte_reply NAMED(swap)(uint64_t *words, size_t words_len, const int16_t *entries, size_t entries_len, uint16_t p)
 {
     struct store *s = (struct store *)words;
     (void)entries;
-    if (damaged(s, words_len, entries_len))
+    if (NAMED(damaged)(s, words_len, entries_len))
         return refused(1);
     if (p >= s->publishers)
         return refused(11);
@@ -50,11 +50,11 @@ struct reply NAMED(swap)(uint64_t *words, size_t words_len, const int16_t *entri
     return accepted(106, former, 0);
 }
 
-struct reply NAMED(sync)(uint64_t *words, size_t words_len, const int16_t *entries, size_t entries_len, uint16_t p)
+static struct rahuvyte_reply NAMED(sync)(uint64_t *words, size_t words_len, const int16_t *entries, size_t entries_len, uint16_t p)
 {
     struct store *s = (struct store *)words;
     (void)entries;
-    if (damaged(s, words_len, entries_len))
+    if (NAMED(damaged)(s, words_len, entries_len))
         return refused(1);
     if (p >= s->publishers)
         return refused(11);
@@ -69,11 +69,11 @@ struct reply NAMED(sync)(uint64_t *words, size_t words_len, const int16_t *entri
     return accepted(107, y->mark, 0);
 }
 
-struct reply NAMED(release)(uint64_t *words, size_t words_len, const int16_t *entries, size_t entries_len, uint16_t p)
+static struct rahuvyte_reply NAMED(release)(uint64_t *words, size_t words_len, const int16_t *entries, size_t entries_len, uint16_t p)
 {
     struct store *s = (struct store *)words;
     (void)entries;
-    if (damaged(s, words_len, entries_len))
+    if (NAMED(damaged)(s, words_len, entries_len))
         return refused(1);
     if (p >= s->publishers)
         return refused(11);

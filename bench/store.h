@@ -1,8 +1,8 @@
-/* The words of a store as a C structure, and a reply's making: what the two baselines share. */
+/* The words of a store as a C structure, and a reply's making: what the two kinds by hand share. */
 #ifndef STORE_H
 #define STORE_H
 
-#include "baseline.h"
+#include "../include/rahuvyte.h"
 
 enum { WORDS = 425, TABLE = 32, READERS_MAX = 64, PUBLISHERS_MAX = 16, SLOTS_MAX = 32 };
 
@@ -25,14 +25,14 @@ struct store {
 
 _Static_assert(sizeof(struct store) == WORDS * sizeof(uint64_t), "one word a number");
 
-static struct reply refused(uint64_t n)
+static struct rahuvyte_reply refused(uint64_t n)
 {
-    return (struct reply){ n, 0, 0 };
+    return (struct rahuvyte_reply){ n, 0, 0 };
 }
 
-static struct reply accepted(uint64_t code, uint64_t first, uint64_t second)
+static struct rahuvyte_reply accepted(uint64_t code, uint64_t first, uint64_t second)
 {
-    return (struct reply){ code, first, second };
+    return (struct rahuvyte_reply){ code, first, second };
 }
 
 #endif

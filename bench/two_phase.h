@@ -1,14 +1,10 @@
 /* The old store, Two-Phase with one publisher, by hand in C, written to be fast: the damage test leaves at the first fault, reads only the records in use,
-   and a record's further words only at the places that need them. Nothing here is proved. */
-#include "store.h"
-
-#include <stdbool.h>
-#include <string.h>
-
-#define NAMED(call) c_old_##call
+   and a record's further words only at the places that need them. Nothing here is proved.
+   baseline.c includes it. */
+#define NAMED(call) old_##call
 #define LAST (UINT64_MAX / 2)
 
-static inline bool damaged(const struct store *s, size_t words_len, size_t entries_len)
+static inline bool NAMED(damaged)(const struct store *s, size_t words_len, size_t entries_len)
 {
     if (words_len != WORDS || s->kind != 2)
         return true;
@@ -47,7 +43,7 @@ static inline bool damaged(const struct store *s, size_t words_len, size_t entri
 
 #include "shared_calls.h"
 
-struct reply c_old_make(uint64_t *words, size_t words_len, int16_t *entries, size_t entries_len, uint16_t readers, uint16_t publishers, uint16_t slots, uint64_t version)
+static struct rahuvyte_reply NAMED(make)(uint64_t *words, size_t words_len, int16_t *entries, size_t entries_len, uint16_t readers, uint16_t publishers, uint16_t slots, uint64_t version)
 {
     struct store *s = (struct store *)words;
     if (words_len != WORDS)
@@ -74,11 +70,11 @@ struct reply c_old_make(uint64_t *words, size_t words_len, int16_t *entries, siz
     return accepted(100, 0, 0);
 }
 
-struct reply c_old_enter(uint64_t *words, size_t words_len, const int16_t *entries, size_t entries_len, uint16_t r)
+static struct rahuvyte_reply NAMED(enter)(uint64_t *words, size_t words_len, const int16_t *entries, size_t entries_len, uint16_t r)
 {
     struct store *s = (struct store *)words;
     (void)entries;
-    if (damaged(s, words_len, entries_len))
+    if (NAMED(damaged)(s, words_len, entries_len))
         return refused(1);
     if (r >= s->readers)
         return refused(10);
@@ -101,11 +97,11 @@ struct reply c_old_enter(uint64_t *words, size_t words_len, const int16_t *entri
     }
 }
 
-struct reply c_old_leave(uint64_t *words, size_t words_len, const int16_t *entries, size_t entries_len, uint16_t r)
+static struct rahuvyte_reply NAMED(leave)(uint64_t *words, size_t words_len, const int16_t *entries, size_t entries_len, uint16_t r)
 {
     struct store *s = (struct store *)words;
     (void)entries;
-    if (damaged(s, words_len, entries_len))
+    if (NAMED(damaged)(s, words_len, entries_len))
         return refused(1);
     if (r >= s->readers)
         return refused(10);
@@ -117,11 +113,11 @@ struct reply c_old_leave(uint64_t *words, size_t words_len, const int16_t *entri
     return accepted(103, 0, 0);
 }
 
-struct reply c_old_claim(uint64_t *words, size_t words_len, const int16_t *entries, size_t entries_len, uint16_t p, uint16_t x)
+static struct rahuvyte_reply NAMED(claim)(uint64_t *words, size_t words_len, const int16_t *entries, size_t entries_len, uint16_t p, uint16_t x)
 {
     struct store *s = (struct store *)words;
     (void)entries;
-    if (damaged(s, words_len, entries_len))
+    if (NAMED(damaged)(s, words_len, entries_len))
         return refused(1);
     if (p >= s->publishers)
         return refused(11);
@@ -139,11 +135,11 @@ struct reply c_old_claim(uint64_t *words, size_t words_len, const int16_t *entri
     return accepted(104, x, 0);
 }
 
-struct reply c_old_raise(uint64_t *words, size_t words_len, const int16_t *entries, size_t entries_len, uint16_t p)
+static struct rahuvyte_reply NAMED(raise)(uint64_t *words, size_t words_len, const int16_t *entries, size_t entries_len, uint16_t p)
 {
     struct store *s = (struct store *)words;
     (void)entries;
-    if (damaged(s, words_len, entries_len))
+    if (NAMED(damaged)(s, words_len, entries_len))
         return refused(1);
     if (p >= s->publishers)
         return refused(11);
@@ -157,11 +153,11 @@ struct reply c_old_raise(uint64_t *words, size_t words_len, const int16_t *entri
     return accepted(108, 0, 0);
 }
 
-struct reply c_old_walk(uint64_t *words, size_t words_len, const int16_t *entries, size_t entries_len, uint16_t p, uint16_t b)
+static struct rahuvyte_reply NAMED(walk)(uint64_t *words, size_t words_len, const int16_t *entries, size_t entries_len, uint16_t p, uint16_t b)
 {
     struct store *s = (struct store *)words;
     (void)entries;
-    if (damaged(s, words_len, entries_len))
+    if (NAMED(damaged)(s, words_len, entries_len))
         return refused(1);
     if (p >= s->publishers)
         return refused(11);
@@ -186,3 +182,6 @@ struct reply c_old_walk(uint64_t *words, size_t words_len, const int16_t *entrie
     y->place = 38;
     return accepted(113, y->looks, y->waits);
 }
+
+#undef NAMED
+#undef LAST
