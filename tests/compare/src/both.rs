@@ -1,0 +1,283 @@
+//! One call on both sides, the library and the second implementation, and
+//! the comparison after it.
+
+use crate::guarded::Guarded;
+use crate::library;
+use crate::seen::{Seen, Unusual};
+use crate::watch;
+use second::call::{Call, Numbers, Reply};
+use second::demand3::Demand3;
+use second::layout::{self, publisher_at, reader_at, KIND, PUBLISHERS, READERS, WORDS};
+use second::lent;
+use second::rules::Rules;
+use second::store::Kind;
+use std::fmt;
+
+pub const MOST_WORDS: usize = 2048;
+pub const MOST_ENTRIES: usize = 4096;
+
+struct Side {
+    words: Guarded<u64>,
+    entries: Guarded<i16>,
+}
+
+impl Side {
+    fn new() -> Side {
+        Side {
+            words: Guarded::with_room(MOST_WORDS, 0xa5a5_a5a5_a5a5_a5a5),
+            entries: Guarded::with_room(MOST_ENTRIES, 0x5a5a),
+        }
+    }
+}
+
+/// Why a run stops.
+pub enum Stop {
+    /// All the calls were made.
+    Done,
+    /// The two sides differ, or demand 3 fell.
+    Differs(Box<Difference>),
+}
+
+impl From<Difference> for Stop {
+    fn from(difference: Difference) -> Stop {
+        Stop::Differs(Box::new(difference))
+    }
+}
+
+pub struct Both {
+    library: Side,
+    second: Side,
+    rules: Rules,
+    seed: u64,
+    calls: u64,
+    limit: u64,
+    shown: u64,
+    pub part: &'static str,
+    pub seen: Seen,
+}
+
+impl Both {
+    pub fn new(rules: Rules, seed: u64, limit: u64) -> Both {
+        Both {
+            library: Side::new(),
+            second: Side::new(),
+            rules,
+            seed,
+            calls: 0,
+            limit,
+            shown: 0,
+            part: "",
+            seen: Seen::new(),
+        }
+    }
+
+    /// Prints this many of the last calls, with the library's replies.
+    pub fn show_last(&mut self, shown: u64) {
+        self.shown = shown;
+    }
+
+    pub fn calls(&self) -> u64 {
+        self.calls
+    }
+
+    /// Lends these words on both sides.
+    pub fn set_words(&mut self, words: &[u64]) {
+        self.library.words.set(words);
+        self.second.words.set(words);
+    }
+
+    /// Lends these entries on both sides.
+    pub fn set_entries(&mut self, entries: &[i16]) {
+        self.library.entries.set(entries);
+        self.second.entries.set(entries);
+    }
+
+    pub fn set_null_words(&mut self) {
+        self.library.words.set_null();
+        self.second.words.set_null();
+    }
+
+    pub fn set_null_entries(&mut self) {
+        self.library.entries.set_null();
+        self.second.entries.set_null();
+    }
+
+    /// The library's words, if they are as many as a store has.
+    pub fn words(&self) -> Option<&[u64; WORDS]> {
+        self.library.words.lent().try_into().ok()
+    }
+
+    /// The call on both sides. The reply is the library's.
+    pub fn call(&mut self, call: &Call) -> Result<Reply, Stop> {
+        if self.calls == self.limit {
+            return Err(Stop::Done);
+        }
+        self.calls += 1;
+        watch::note_call(self.calls);
+        let show = self.limit - self.calls < self.shown;
+        if show {
+            println!("{} in {}: {call}", self.calls, self.part);
+        }
+        let kind = self.kind_called(call);
+        let place = self.place_called(call);
+        let numbers = self.call_library(call);
+        if show {
+            println!("{}: {numbers}", self.calls);
+        }
+        let side = &mut self.second;
+        let words = side.words.lent_mut();
+        let reply = lent::call(words, side.entries.lent_mut(), call, self.rules);
+        let alike = numbers == reply.numbers()
+            && self.library.words.whole() == self.second.words.whole()
+            && self.library.entries.whole() == self.second.entries.whole();
+        if !alike {
+            return Err(self.difference(call, kind, numbers, reply).into());
+        }
+        self.seen.note(kind, call, &numbers, place);
+        self.note_unusual(call, kind);
+        Ok(reply)
+    }
+
+    /// The call as part of a list from a fresh store.
+    pub fn listed(&mut self, call: &Call, demand3: &mut Demand3) -> Result<Reply, Stop> {
+        let kind = self.kind_called(call);
+        let reply = self.call(call)?;
+        let mut kept = demand3.hear(call, &reply);
+        if let (Ok(()), Some(words)) = (&kept, self.words()) {
+            kept = demand3.recorded(words);
+        }
+        if let Err(fault) = kept {
+            let mut difference = self.difference(call, kind, reply.numbers(), reply);
+            difference.fault = Some(fault);
+            return Err(difference.into());
+        }
+        Ok(reply)
+    }
+
+    fn call_library(&mut self, call: &Call) -> Numbers {
+        let Side { words, entries } = &mut self.library;
+        let (words_length, entries_length) = (words.lent().len(), entries.lent().len());
+        // The guarded cells are lent for the time of the call.
+        unsafe {
+            library::call(
+                words.pointer(),
+                words_length,
+                entries.pointer(),
+                entries_length,
+                call,
+            )
+        }
+    }
+
+    /// The kind given to a making, or the kind in word 0.
+    fn kind_called(&self, call: &Call) -> Option<Kind> {
+        let words = self.words()?;
+        match call {
+            Call::Make { kind, .. } => Kind::from_number(u64::from(*kind)),
+            _ => Kind::from_number(words[KIND]),
+        }
+    }
+
+    /// The place, before the call, of the reader or publisher that it names.
+    fn place_called(&self, call: &Call) -> Option<u64> {
+        let words = self.words()?;
+        let within = |n: u16, size: usize, most: u64| u64::from(n) < words[size].min(most);
+        if let Some(r) = call.reader().filter(|&r| within(r, READERS, 64)) {
+            return Some(words[reader_at(usize::from(r))]);
+        }
+        let p = call.publisher().filter(|&p| within(p, PUBLISHERS, 16))?;
+        Some(words[publisher_at(usize::from(p))])
+    }
+
+    fn note_unusual(&mut self, call: &Call, kind: Option<Kind>) {
+        let words = &self.library.words;
+        if words.is_null() {
+            self.seen.note_unusual(Unusual::NullStore, call);
+        } else if words.lent().len() != WORDS {
+            self.seen.note_unusual(Unusual::StoreLength, call);
+        } else if kind.is_none() {
+            self.seen.note_unusual(Unusual::UnknownKind, call);
+        } else if self.library.entries.is_null() {
+            self.seen.note_unusual(Unusual::NullEntries, call);
+        }
+    }
+
+    fn difference(
+        &self,
+        call: &Call,
+        kind: Option<Kind>,
+        library: Numbers,
+        second: Reply,
+    ) -> Difference {
+        Difference {
+            part: self.part,
+            kind,
+            seed: self.seed,
+            call_number: self.calls,
+            call: *call,
+            store_length: self.library.words.lent().len(),
+            entries_length: self.library.entries.lent().len(),
+            library,
+            second: second.numbers(),
+            word: self.library.words.first_unlike(&self.second.words),
+            entry: self.library.entries.first_unlike(&self.second.entries),
+            fault: None,
+        }
+    }
+}
+
+/// Where the two sides differ: the library's number first.
+pub struct Difference {
+    part: &'static str,
+    kind: Option<Kind>,
+    seed: u64,
+    pub call_number: u64,
+    call: Call,
+    store_length: usize,
+    entries_length: usize,
+    library: Numbers,
+    second: Numbers,
+    word: Option<(Option<usize>, u64, u64)>,
+    entry: Option<(Option<usize>, i16, i16)>,
+    fault: Option<String>,
+}
+
+impl fmt::Display for Difference {
+    fn fmt(&self, f: &mut fmt::Formatter<'_>) -> fmt::Result {
+        match self.kind {
+            Some(kind) => writeln!(f, "kind:     {kind} store, in {}", self.part)?,
+            None => writeln!(f, "kind:     unknown or no store, in {}", self.part)?,
+        }
+        writeln!(
+            f,
+            "seed:     {}, call number {}",
+            self.seed, self.call_number
+        )?;
+        let (words, entries) = (self.store_length, self.entries_length);
+        writeln!(
+            f,
+            "call:     {}, {words} words and {entries} entries lent",
+            self.call
+        )?;
+        writeln!(f, "library:  {}", self.library)?;
+        writeln!(f, "second:   {}", self.second)?;
+        if let Some((number, library, second)) = self.word {
+            match number {
+                Some(n) => write!(f, "word {n}, {}:", layout::name(n))?,
+                None => write!(f, "a word outside the lent store:")?,
+            }
+            writeln!(f, " library {library}, second {second}")?;
+        }
+        if let Some((number, library, second)) = self.entry {
+            match number {
+                Some(n) => write!(f, "entry {n}, slot {} entry {}:", n / 32, n % 32)?,
+                None => write!(f, "an entry outside the lent entries:")?,
+            }
+            writeln!(f, " library {library}, second {second}")?;
+        }
+        if let Some(fault) = &self.fault {
+            writeln!(f, "demand 3: {fault}")?;
+        }
+        Ok(())
+    }
+}

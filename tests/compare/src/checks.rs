@@ -1,0 +1,127 @@
+//! Tests of the comparison itself: that it can find what it is for.
+
+use crate::both::{Both, Stop};
+use crate::guarded::Guarded;
+use crate::seen::Seen;
+use second::call::{Call, Numbers, Reply};
+use second::demand3::Demand3;
+use second::layout::WORDS;
+use second::rules::{Alteration, Rules};
+use second::store::Kind;
+
+const MAKE: Call = Call::Make {
+    kind: 1,
+    readers: 2,
+    publishers: 2,
+    slots: 3,
+    version: 0,
+};
+
+fn lent(rules: Rules) -> Both {
+    let mut both = Both::new(rules, 4, 100);
+    both.part = "a test";
+    both.set_words(&[9; WORDS]);
+    both.set_entries(&[7; 96]);
+    both
+}
+
+fn report<T>(result: Result<T, Stop>) -> String {
+    match result {
+        Ok(_) => "alike".to_string(),
+        Err(Stop::Done) => "done".to_string(),
+        Err(Stop::Differs(difference)) => difference.to_string(),
+    }
+}
+
+#[test]
+fn cells_outside_the_lent_slice_are_guarded() {
+    let mut one = Guarded::with_room(10, 5u64);
+    let mut other = Guarded::with_room(10, 5u64);
+    one.set(&[1, 2, 3]);
+    other.set(&[1, 2, 3]);
+    assert!(one.first_unlike(&other).is_none());
+    // The cells around the slice belong to the same vector.
+    unsafe { *one.pointer().add(3) = 8 };
+    assert_eq!(one.first_unlike(&other), Some((None, 8, 5)));
+    unsafe { *one.pointer().sub(1) = 6 };
+    assert_eq!(one.first_unlike(&other), Some((None, 6, 5)));
+    one.set(&[1, 4, 3]);
+    unsafe { *one.pointer().sub(1) = 5 };
+    assert_eq!(one.first_unlike(&other), Some((Some(1), 4, 2)));
+    one.set_null();
+    assert!(one.pointer().is_null() && one.lent().is_empty());
+}
+
+#[test]
+fn a_run_that_saw_nothing_lacks_every_number() {
+    let missing = Seen::new().missing();
+    let lacks = |what: &str| missing.iter().any(|line| line == what);
+    for refusal in [1, 10, 11, 12, 13, 14, 20, 21, 30, 32, 33] {
+        for kind in ["new", "old"] {
+            let line = |line: &&String| {
+                line.starts_with(kind) && line.ends_with(&format!("refusal {refusal}"))
+            };
+            assert!(missing.iter().any(|l| line(&l)), "{kind} {refusal}");
+        }
+    }
+    assert!(lacks("old claim: refusal 31") && !lacks("new claim: refusal 31"));
+    assert!(lacks("old walk: reply 112") && !lacks("new walk: reply 112"));
+    assert!(lacks("new store: refusal 6") && lacks("old store: reply 100"));
+    assert!(lacks("old write: from place 36") && !lacks("new write: from place 36"));
+}
+
+#[test]
+fn what_was_seen_is_not_missing() {
+    let mut seen = Seen::new();
+    let numbers = Numbers {
+        code: 30,
+        first: 0,
+        second: 0,
+    };
+    let claim = Call::Claim { p: 0, s: 0 };
+    seen.note(Some(Kind::New), &claim, &numbers, Some(0));
+    let missing = seen.missing();
+    assert_eq!(Seen::new().missing().len(), missing.len() + 2);
+    assert!(!missing.iter().any(|line| line == "new claim: refusal 30"));
+    assert!(missing.iter().any(|line| line == "old claim: refusal 30"));
+}
+
+#[test]
+fn a_difference_is_told_by_name() {
+    let mut both = lent(Rules::altered(Alteration::FreshEntriesZero));
+    let text = report(both.call(&MAKE));
+    assert!(text.contains("new store, in a test"), "{text}");
+    assert!(text.contains("seed:     4, call number 1"), "{text}");
+    assert!(text.contains("(store new 2 2 3 0)"), "{text}");
+    assert!(
+        text.contains("entry 0, slot 0 entry 0: library 9000, second 0"),
+        "{text}"
+    );
+
+    let mut both = lent(Rules::altered(Alteration::FreshPublishedZero));
+    let text = report(both.call(&MAKE));
+    assert!(
+        text.contains("word 12, reader 0 published: library 18446744073709551615, second 0"),
+        "{text}"
+    );
+
+    let mut both = lent(Rules::altered(Alteration::CurrentIsFree));
+    assert_eq!(report(both.call(&MAKE)), "alike");
+    let text = report(both.call(&Call::Claim { p: 1, s: 0 }));
+    assert!(text.contains("library:  refused 30 [30 0 0]"), "{text}");
+    assert!(text.contains("second:   claimed 0 [104 0 0]"), "{text}");
+}
+
+#[test]
+fn a_list_is_held_against_demand_3() {
+    let mut both = lent(Rules::AS_WRITTEN);
+    assert_eq!(report(both.call(&MAKE)), "alike");
+    let mut demand3 = Demand3::fresh(Kind::New, 2, 2, 3);
+    let enter = Call::Enter { r: 0 };
+    assert_eq!(report(both.listed(&enter, &mut demand3)), "alike");
+    let untrue = demand3.hear(&Call::Claim { p: 1, s: 2 }, &Reply::Claimed(2));
+    assert_eq!(untrue, Ok(()));
+    let text = report(both.listed(&enter, &mut demand3));
+    let fault = "demand 3: the calls told that publisher 1 holds Some(2)";
+    assert!(text.contains(fault), "{text}");
+}

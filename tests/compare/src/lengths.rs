@@ -1,0 +1,153 @@
+//! Part 3: slices of wrong lengths, null pointers of length 0 and unknown
+//! kinds.
+
+use crate::both::{Both, Stop, MOST_WORDS};
+use second::call::Call;
+use second::layout::{KIND, SLOTS, WORDS};
+use second::random::Random;
+use second::rules::Rules;
+use second::store::Kind;
+use second::turns::{call_by, call_numbered, Scheduler};
+
+/// Each of the eleven calls with something wrong before all else.
+pub fn play(both: &mut Both, random: &mut Random) -> Result<(), Stop> {
+    both.part = "wrong lengths and kinds";
+    let kind = random.pick(&[Kind::New, Kind::Old]);
+    let words = lived_in(kind, random);
+    let entries = vec![random.word() as i16; words[SLOTS] as usize * 32];
+    let wrong = random.below(5);
+    for index in 0..=10 {
+        match wrong {
+            0 | 1 => {
+                lend_wrong_words(both, &words, random);
+                lend_some_entries(both, &entries, random);
+            }
+            2 => {
+                both.set_words(&words);
+                lend_wrong_entries(both, &entries, random);
+            }
+            3 => {
+                both.set_words(&with_unknown_kind(&words, random));
+                lend_some_entries(both, &entries, random);
+            }
+            _ => {
+                both.set_words(&words);
+                both.set_null_entries();
+            }
+        }
+        let call = match index {
+            0 => making(kind, &words, wrong == 3, random),
+            _ if random.one_in(4) => call_numbered(index, &words, random),
+            _ => call_by(index, 0, &words, random),
+        };
+        both.call(&call)?;
+    }
+    Ok(())
+}
+
+/// A store after some calls.
+fn lived_in(kind: Kind, random: &mut Random) -> [u64; WORDS] {
+    let mut words = [0; WORDS];
+    let slots = 2 + random.below(4) as u16;
+    let mut entries = vec![0; usize::from(slots) * 32];
+    let number = kind.number() as u16;
+    let make = Call::Make {
+        kind: number,
+        readers: 2,
+        publishers: 2,
+        slots,
+        version: 0,
+    };
+    second::lent::call(&mut words, &mut entries, &make, Rules::AS_WRITTEN);
+    let mut scheduler = Scheduler::new(random);
+    for _ in 0..random.below(40) {
+        let call = scheduler.next(&words, random);
+        second::lent::call(&mut words, &mut entries, &call, Rules::AS_WRITTEN);
+    }
+    words
+}
+
+fn making(kind: Kind, words: &[u64; WORDS], unknown: bool, random: &mut Random) -> Call {
+    let kind = if unknown {
+        random.pick(&[0, 3, 4, 5, 255, 256, 257, 258, 32_769, u16::MAX])
+    } else {
+        kind.number() as u16
+    };
+    let readers = random.pick(&[1, 2, 64, 0]);
+    Call::Make {
+        kind,
+        readers,
+        publishers: 1,
+        slots: words[SLOTS] as u16,
+        version: 0,
+    }
+}
+
+/// A whole store at the start or at the end of a slice of another length, or
+/// as much of it as there is room for.
+fn lend_wrong_words(both: &mut Both, words: &[u64; WORDS], random: &mut Random) {
+    let any = random.below(MOST_WORDS as u64) as usize;
+    let length = random.pick(&[0, 1, 9, 424, 426, 427, 850, MOST_WORDS, any]);
+    if length == 0 && random.one_in(2) {
+        both.set_null_words();
+        return;
+    }
+    let length = if length == WORDS { WORDS + 1 } else { length };
+    let mut lent = vec![0; length];
+    let copied = length.min(WORDS);
+    if random.one_in(2) {
+        lent[..copied].copy_from_slice(&words[..copied]);
+    } else {
+        lent[length - copied..].copy_from_slice(&words[..copied]);
+    }
+    both.set_words(&lent);
+}
+
+fn lend_some_entries(both: &mut Both, entries: &[i16], random: &mut Random) {
+    match random.below(4) {
+        0 => lend_wrong_entries(both, entries, random),
+        1 => both.set_null_entries(),
+        _ => both.set_entries(entries),
+    }
+}
+
+fn lend_wrong_entries(both: &mut Both, entries: &[i16], random: &mut Random) {
+    let n = entries.len();
+    let length = random.pick(&[
+        0,
+        1,
+        2,
+        31,
+        32,
+        n - 1,
+        n + 1,
+        n - 32,
+        n + 32,
+        2 * n,
+        1024,
+        1056,
+    ]);
+    both.set_entries(&vec![entries[0]; length]);
+}
+
+fn with_unknown_kind(words: &[u64; WORDS], random: &mut Random) -> [u64; WORDS] {
+    let mut words = *words;
+    let kinds = [
+        0,
+        3,
+        4,
+        65_535,
+        1 << 63,
+        255,
+        257,
+        65_537,
+        65_538,
+        (1 << 32) + 1,
+        (1 << 32) + 2,
+        (1 << 63) + 1,
+        (1 << 63) + 2,
+        u64::MAX,
+    ];
+    words[KIND] = random.pick(&kinds);
+    words
+}

@@ -1,0 +1,96 @@
+//! The library under test, by its C names.
+
+use second::call::{Call, Numbers};
+
+#[repr(C)]
+struct CReply {
+    code: u64,
+    first: u64,
+    second: u64,
+}
+
+type Words = *mut u64;
+type Entries = *mut i16;
+
+extern "C" {
+    fn rahuvyte_make(
+        store: Words,
+        store_len: usize,
+        entries: Entries,
+        entries_len: usize,
+        kind: u16,
+        readers: u16,
+        publishers: u16,
+        slots: u16,
+        version: u64,
+    ) -> CReply;
+    fn rahuvyte_enter(store: Words, sl: usize, entries: Entries, el: usize, r: u16) -> CReply;
+    fn rahuvyte_look(
+        store: *const u64,
+        sl: usize,
+        entries: *const i16,
+        el: usize,
+        r: u16,
+        k: u16,
+    ) -> CReply;
+    fn rahuvyte_leave(store: Words, sl: usize, entries: Entries, el: usize, r: u16) -> CReply;
+    fn rahuvyte_claim(
+        store: Words,
+        sl: usize,
+        entries: Entries,
+        el: usize,
+        p: u16,
+        slot: u16,
+    ) -> CReply;
+    fn rahuvyte_write(
+        store: Words,
+        sl: usize,
+        entries: Entries,
+        el: usize,
+        p: u16,
+        v: i16,
+    ) -> CReply;
+    fn rahuvyte_swap(store: Words, sl: usize, entries: Entries, el: usize, p: u16) -> CReply;
+    fn rahuvyte_sync(store: Words, sl: usize, entries: Entries, el: usize, p: u16) -> CReply;
+    fn rahuvyte_raise(store: Words, sl: usize, entries: Entries, el: usize, p: u16) -> CReply;
+    fn rahuvyte_walk(
+        store: Words,
+        sl: usize,
+        entries: Entries,
+        el: usize,
+        p: u16,
+        b: u16,
+    ) -> CReply;
+    fn rahuvyte_release(store: Words, sl: usize, entries: Entries, el: usize, p: u16) -> CReply;
+}
+
+/// Calls the library with these slices. A null pointer has length 0.
+///
+/// # Safety
+/// Each pointer is null with length 0, or lends that many cells.
+pub unsafe fn call(w: Words, wl: usize, e: Entries, el: usize, call: &Call) -> Numbers {
+    let reply = match *call {
+        Call::Make {
+            kind,
+            readers,
+            publishers,
+            slots,
+            version,
+        } => rahuvyte_make(w, wl, e, el, kind, readers, publishers, slots, version),
+        Call::Enter { r } => rahuvyte_enter(w, wl, e, el, r),
+        Call::Look { r, k } => rahuvyte_look(w, wl, e, el, r, k),
+        Call::Leave { r } => rahuvyte_leave(w, wl, e, el, r),
+        Call::Claim { p, s } => rahuvyte_claim(w, wl, e, el, p, s),
+        Call::Write { p, v } => rahuvyte_write(w, wl, e, el, p, v),
+        Call::Swap { p } => rahuvyte_swap(w, wl, e, el, p),
+        Call::Sync { p } => rahuvyte_sync(w, wl, e, el, p),
+        Call::Raise { p } => rahuvyte_raise(w, wl, e, el, p),
+        Call::Walk { p, b } => rahuvyte_walk(w, wl, e, el, p, b),
+        Call::Release { p } => rahuvyte_release(w, wl, e, el, p),
+    };
+    Numbers {
+        code: reply.code,
+        first: reply.first,
+        second: reply.second,
+    }
+}

@@ -1,0 +1,238 @@
+//! Part 1: random lists of calls from a fresh store, with the shelf and
+//! demand 3 checked after every call.
+
+use crate::both::{Both, Stop};
+use second::call::{Call, Reply};
+use second::demand3::Demand3;
+use second::layout::{KIND, WORDS};
+use second::random::Random;
+use second::store::Kind;
+use second::turns::Scheduler;
+
+struct Sizes {
+    readers: u16,
+    publishers: u16,
+    slots: u16,
+}
+
+/// One list: some refused makings, an accepted one, and calls.
+pub fn play(both: &mut Both, random: &mut Random) -> Result<(), Stop> {
+    both.part = "a list from a fresh store";
+    let kind = random.pick(&[Kind::New, Kind::Old]);
+    lend_anything(both, random);
+    for _ in 0..random.below(3) {
+        try_making(both, random)?;
+    }
+    let sizes = some_sizes(random);
+    let version = first_version(kind, random);
+    let mut demand3 = make(both, kind, &sizes, version, random)?;
+    let played = play_calls(both, &mut demand3, random);
+    both.seen.lists += 1;
+    both.seen.returns += demand3.returns();
+    both.seen.swaps += demand3.swaps();
+    played
+}
+
+/// Words and entries that hold anything, for a making to write over or to
+/// leave.
+fn lend_anything(both: &mut Both, random: &mut Random) {
+    let mut words = [0; WORDS];
+    words.fill_with(|| random.word());
+    words[KIND] = random.below(4);
+    both.set_words(&words);
+    let mut entries = [0; 1024];
+    entries.fill_with(|| random.word() as i16);
+    let slots = random.below(33) as usize;
+    both.set_entries(&entries[..slots * 32]);
+}
+
+/// A making with one argument wrong, or with wrong ones in any mixture.
+fn try_making(both: &mut Both, random: &mut Random) -> Result<(), Stop> {
+    let call = match random.below(3) {
+        0 => one_wrong(both, random),
+        _ => any_wrong(both, random),
+    };
+    both.call(&call).map(|_| ())
+}
+
+/// A making at a border of one refusal, with all else in order.
+fn one_wrong(both: &mut Both, random: &mut Random) -> Call {
+    let kind = random.pick(&[Kind::New, Kind::Old]);
+    let Sizes {
+        mut readers,
+        mut publishers,
+        mut slots,
+    } = some_sizes(random);
+    let mut version = first_version(kind, random);
+    let mut length = usize::from(slots) * 32;
+    match random.below(5) {
+        0 => readers = random.pick(&[0, 1, 64, 65]),
+        1 => publishers = random.pick(&[0, 1, 16, 17]),
+        2 => {
+            slots = random.pick(&[0, 1, 2, 32, 33]);
+            length = usize::from(slots) * 32;
+        }
+        3 => length = random.pick(&[0, length - 1, length + 1, length + 32]),
+        _ => version = kind.last() + random.below(2),
+    }
+    both.set_entries(&vec![random.word() as i16; length]);
+    Call::Make {
+        kind: kind.number() as u16,
+        readers,
+        publishers,
+        slots,
+        version,
+    }
+}
+
+/// A making with wrong arguments in any mixture. The entries lent are mostly
+/// of a wrong length too.
+fn any_wrong(both: &mut Both, random: &mut Random) -> Call {
+    let kind = random.pick(&[1, 2]);
+    let last = if kind == 1 {
+        Kind::New.last()
+    } else {
+        Kind::Old.last()
+    };
+    let slots = size(2, 32, random);
+    if random.one_in(2) && slots <= 64 {
+        let length = usize::from(slots) * 32;
+        let length = if random.one_in(8) {
+            length.saturating_sub(1)
+        } else {
+            length
+        };
+        both.set_entries(&vec![random.word() as i16; length]);
+    }
+    Call::Make {
+        kind,
+        readers: size(1, 64, random),
+        publishers: size(1, 16, random),
+        slots,
+        version: match random.below(4) {
+            0 => last.wrapping_add(1 + random.below(2)),
+            1 => last - random.below(2),
+            2 => u64::MAX,
+            _ => random.anything(),
+        },
+    }
+}
+
+/// A making that is refused whatever is lent, in the middle of a list.
+fn refused_making(random: &mut Random) -> Call {
+    let kind = random.below(4) as u16;
+    let (readers, publishers, slots) = random.pick(&[
+        (0, 1, 2),
+        (65, 1, 2),
+        (1, 0, 2),
+        (1, 17, 2),
+        (1, 1, 1),
+        (64, 16, 33),
+    ]);
+    Call::Make {
+        kind,
+        readers,
+        publishers,
+        slots,
+        version: random.anything(),
+    }
+}
+
+/// A size within its range, or sometimes just or far outside.
+fn size(least: u16, most: u16, random: &mut Random) -> u16 {
+    match random.below(6) {
+        0 => random.pick(&[least - 1, 0, most + 1, most + 2, 256 + least, u16::MAX]),
+        1 => random.pick(&[least, most]),
+        _ => least + random.below(u64::from(most - least + 1)) as u16,
+    }
+}
+
+fn some_sizes(random: &mut Random) -> Sizes {
+    match random.below(12) {
+        0 => {
+            return Sizes {
+                readers: 64,
+                publishers: 16,
+                slots: 32,
+            }
+        }
+        1 => {
+            return Sizes {
+                readers: 1,
+                publishers: 1,
+                slots: 2,
+            }
+        }
+        _ => {}
+    }
+    let any_readers = 1 + random.below(64) as u16;
+    let any_publishers = 1 + random.below(16) as u16;
+    let any_slots = 2 + random.below(31) as u16;
+    Sizes {
+        readers: random.pick(&[1, 2, 2, 3, 5, 64, any_readers]),
+        publishers: random.pick(&[1, 2, 2, 3, 4, 16, any_publishers]),
+        slots: random.pick(&[2, 3, 3, 4, 6, 32, any_slots]),
+    }
+}
+
+fn first_version(kind: Kind, random: &mut Random) -> u64 {
+    let last = kind.last();
+    match random.below(12) {
+        0 => last,
+        1 => last - 1,
+        2 => last - 2,
+        3 => last - random.below(20),
+        4 => 1,
+        5 => random.below(100),
+        6 => random.word() % last,
+        _ => 0,
+    }
+}
+
+fn make(
+    both: &mut Both,
+    kind: Kind,
+    sizes: &Sizes,
+    version: u64,
+    random: &mut Random,
+) -> Result<Demand3, Stop> {
+    let Sizes {
+        readers,
+        publishers,
+        slots,
+    } = *sizes;
+    let lent = random.word() as i16;
+    both.set_entries(&[lent; 1024][..usize::from(slots) * 32]);
+    let number = kind.number() as u16;
+    let making = Call::Make {
+        kind: number,
+        readers,
+        publishers,
+        slots,
+        version,
+    };
+    both.call(&making)?;
+    both.seen.note_making(kind, &making);
+    Ok(Demand3::fresh(kind, readers, publishers, slots))
+}
+
+fn play_calls(both: &mut Both, demand3: &mut Demand3, random: &mut Random) -> Result<(), Stop> {
+    let mut scheduler = Scheduler::new(random);
+    let calls = random.pick(&[50, 400, 1500, 4000]);
+    let mut stuck = 0;
+    for _ in 0..calls {
+        let Some(words) = both.words() else { break };
+        let call = scheduler.next(words, random);
+        if random.one_in(200) {
+            both.call(&refused_making(random))?;
+        }
+        let reply = both.listed(&call, demand3)?;
+        if reply == Reply::Refused(32) {
+            stuck += 1;
+        }
+        if stuck > 20 {
+            break;
+        }
+    }
+    Ok(())
+}

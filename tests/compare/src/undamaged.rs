@@ -1,0 +1,238 @@
+//! Stores that are undamaged, though no list may ever reach them.
+
+use second::random::Random;
+use second::store::{Kind, Publisher, Reader, Store, Walk, NOT_READING};
+
+/// A store and the length of the entries lent beside it.
+pub struct Case {
+    pub store: Store,
+    pub length: usize,
+}
+
+/// An undamaged store in any mixture of places. A calm one has nobody, or
+/// one publisher, at a place other than 0. A tidy one has fresh records
+/// beyond the sizes; otherwise these hold anything.
+pub fn undamaged(kind: Kind, calm: bool, tidy: bool, random: &mut Random) -> Case {
+    let (any_readers, any_publishers) = (1 + random.below(64), 1 + random.below(16));
+    let any_slots = 2 + random.below(31);
+    let slots = random.pick(&[2, 3, 5, 32, any_slots]);
+    let mut store = Store {
+        kind,
+        readers: random.pick(&[1, 2, 3, 64, any_readers]),
+        publishers: random.pick(&[1, 2, 3, 16, any_publishers]),
+        slots,
+        current: up_to_end(slots, random),
+        version: some_version(kind, random),
+        releases: random.anything(),
+        indicators: [random.anything(), random.anything()],
+        reader: [Reader::default(); 64],
+        publisher: [Publisher::default(); 16],
+    };
+    fill_publishers(&mut store, calm, tidy, random);
+    fill_readers(&mut store, calm, tidy, random);
+    count_indicators(&mut store);
+    Case {
+        length: slots as usize * 32,
+        store,
+    }
+}
+
+/// A number below n, often the first or the last.
+fn up_to_end(n: u64, random: &mut Random) -> u64 {
+    match random.below(3) {
+        0 => 0,
+        1 => n - 1,
+        _ => random.below(n),
+    }
+}
+
+fn some_version(kind: Kind, random: &mut Random) -> u64 {
+    match random.below(6) {
+        0 => random.below(4),
+        1 => kind.last() - random.below(4),
+        2 => random.word() % kind.last(),
+        3 => random.anything().min(kind.last()),
+        _ => random.below(100),
+    }
+}
+
+fn fill_publishers(store: &mut Store, calm: bool, tidy: bool, random: &mut Random) {
+    let count = store.publishers as usize;
+    let busy = random.below(store.publishers) as usize;
+    for p in 0..16 {
+        if p >= count {
+            if !tidy {
+                store.publisher[p] = any_publisher(random);
+            }
+            continue;
+        }
+        store.publisher[p] = any_publisher(random);
+        let place = match random.below(4) {
+            _ if calm && (p != busy || random.one_in(2)) => 0,
+            0 => 0,
+            1 => random.below(34),
+            _ => random.pick(&[34, 35, 35, 36, 37, 37, 37, 38]),
+        };
+        let place = if store.kind == Kind::New && place == 36 {
+            37
+        } else {
+            place
+        };
+        put_publisher(store, p, place, random);
+    }
+}
+
+/// A record that holds anything, also what a damage test would find.
+fn any_publisher(random: &mut Random) -> Publisher {
+    Publisher {
+        place: if random.one_in(2) {
+            random.below(41)
+        } else {
+            random.anything()
+        },
+        held: if random.one_in(2) {
+            random.below(32)
+        } else {
+            random.anything()
+        },
+        walk: Walk {
+            mark: random.anything(),
+            next: random.anything(),
+            looks: random.anything(),
+            waits: random.anything(),
+        },
+    }
+}
+
+/// Publisher p at this place, with numbers that are undamaged there.
+pub fn put_publisher(store: &mut Store, p: usize, place: u64, random: &mut Random) {
+    let (kind, version, readers, slots) = (store.kind, store.version, store.readers, store.slots);
+    let publisher = &mut store.publisher[p];
+    publisher.place = place;
+    if place != 0 || random.one_in(2) {
+        publisher.held = up_to_end(slots, random);
+    }
+    if (35..=38).contains(&place) {
+        let walk = &mut publisher.walk;
+        walk.mark = some_mark(kind, version, random);
+        walk.looks = some_looks(random);
+        walk.waits = match random.below(4) {
+            0 => 0,
+            1 => walk.looks,
+            2 => walk.looks.saturating_sub(1),
+            _ => random.anything().min(walk.looks),
+        };
+        if kind == Kind::New && matches!(place, 35 | 37) {
+            walk.next = up_to_end(readers, random);
+        }
+    }
+}
+
+fn some_mark(kind: Kind, version: u64, random: &mut Random) -> u64 {
+    let mark = match random.below(6) {
+        0 => 1 + random.below(3),
+        1 => kind.last() - random.below(3),
+        2 => random.anything(),
+        3 => version.saturating_add(1),
+        _ => version.wrapping_sub(1).wrapping_add(random.below(4)),
+    };
+    mark.clamp(1, kind.last())
+}
+
+fn some_looks(random: &mut Random) -> u64 {
+    match random.below(6) {
+        0 => u64::MAX - random.below(4),
+        1 => u64::MAX - 65_537 + random.below(4),
+        2 => u64::MAX - random.below(65_537),
+        3 => random.anything(),
+        _ => random.below(200),
+    }
+}
+
+fn fill_readers(store: &mut Store, calm: bool, tidy: bool, random: &mut Random) {
+    let count = store.readers as usize;
+    let present = random.below(store.publishers) as usize;
+    let mark = store.publisher[present].walk.mark;
+    let mostly_out = random.one_in(2);
+    for r in 0..64 {
+        if r >= count {
+            if !tidy {
+                store.reader[r] = any_reader(random);
+            }
+            continue;
+        }
+        let place = match store.kind {
+            _ if calm => 0,
+            Kind::New => random.below(6),
+            Kind::Old => random.pick(&[0, 1, 4, 5]),
+        };
+        put_reader(store, r, place, mark, mostly_out, random);
+    }
+}
+
+fn any_reader(random: &mut Random) -> Reader {
+    Reader {
+        place: if random.one_in(2) {
+            random.below(8)
+        } else {
+            random.anything()
+        },
+        first: random.anything(),
+        second: random.anything(),
+        published: random.anything(),
+        picked: random.anything(),
+    }
+}
+
+/// Reader r at this place, with numbers that are undamaged there. Its
+/// versions are near the version or near this mark.
+pub fn put_reader(
+    store: &mut Store,
+    r: usize,
+    place: u64,
+    mark: u64,
+    mostly_out: bool,
+    random: &mut Random,
+) {
+    let (kind, slots, version) = (store.kind, store.slots, store.version);
+    let mut near = || match random.below(8) {
+        0 => version,
+        1 => version.wrapping_sub(1),
+        2 => random.anything(),
+        3 => mark.wrapping_sub(1),
+        4 => mark.wrapping_add(1),
+        5 => NOT_READING,
+        _ => mark,
+    };
+    let (first, second, published) = (near(), near(), near());
+    let out = mostly_out && !random.one_in(8);
+    let reader = &mut store.reader[r];
+    reader.place = place;
+    reader.first = if out && kind == Kind::New {
+        mark
+    } else {
+        first
+    };
+    reader.second = if random.one_in(3) { first } else { second };
+    reader.published = if out { NOT_READING } else { published };
+    if kind == Kind::New && matches!(place, 2 | 3) {
+        reader.published = reader.first;
+    }
+    reader.picked = random.anything();
+    if place == 5 || random.one_in(2) {
+        reader.picked = up_to_end(slots, random);
+    }
+}
+
+/// An old store's indicators are those that its readers added to.
+pub fn count_indicators(store: &mut Store) {
+    if store.kind == Kind::New {
+        return;
+    }
+    store.indicators = [0, 0];
+    for reader in &store.reader[..store.readers as usize] {
+        if reader.place == 4 || reader.place == 5 {
+            store.indicators[(reader.first & 1) as usize] += 1;
+        }
+    }
+}

@@ -1,0 +1,272 @@
+//! The calls with their arguments, and the replies.
+//!
+//! Both print as on document 01's run sheet.
+
+use crate::store::Kind;
+use std::fmt;
+
+/// Making and the ten calls. Arguments have the widths that C gives them.
+#[derive(Clone, Copy, PartialEq, Eq, Debug)]
+pub enum Call {
+    Make {
+        kind: u16,
+        readers: u16,
+        publishers: u16,
+        slots: u16,
+        version: u64,
+    },
+    Enter {
+        r: u16,
+    },
+    Look {
+        r: u16,
+        k: u16,
+    },
+    Leave {
+        r: u16,
+    },
+    Claim {
+        p: u16,
+        s: u16,
+    },
+    Write {
+        p: u16,
+        v: i16,
+    },
+    Swap {
+        p: u16,
+    },
+    Sync {
+        p: u16,
+    },
+    Raise {
+        p: u16,
+    },
+    Walk {
+        p: u16,
+        b: u16,
+    },
+    Release {
+        p: u16,
+    },
+}
+
+/// The names of the calls, in the order of `Call::index`.
+pub const CALL_NAMES: [&str; 11] = [
+    "store", "enter", "look", "leave", "claim", "write", "swap", "sync", "raise", "walk", "release",
+];
+
+impl Call {
+    /// 0 for making, 1 to 10 for the ten calls.
+    pub fn index(&self) -> usize {
+        match self {
+            Call::Make { .. } => 0,
+            Call::Enter { .. } => 1,
+            Call::Look { .. } => 2,
+            Call::Leave { .. } => 3,
+            Call::Claim { .. } => 4,
+            Call::Write { .. } => 5,
+            Call::Swap { .. } => 6,
+            Call::Sync { .. } => 7,
+            Call::Raise { .. } => 8,
+            Call::Walk { .. } => 9,
+            Call::Release { .. } => 10,
+        }
+    }
+
+    pub fn name(&self) -> &'static str {
+        CALL_NAMES[self.index()]
+    }
+
+    /// The reader that the call names, if it is a reader's call.
+    pub fn reader(&self) -> Option<u16> {
+        match *self {
+            Call::Enter { r } | Call::Look { r, .. } | Call::Leave { r } => Some(r),
+            _ => None,
+        }
+    }
+
+    /// The publisher that the call names, if it is a publisher's call.
+    pub fn publisher(&self) -> Option<u16> {
+        match *self {
+            Call::Claim { p, .. }
+            | Call::Write { p, .. }
+            | Call::Swap { p }
+            | Call::Sync { p }
+            | Call::Raise { p }
+            | Call::Walk { p, .. }
+            | Call::Release { p } => Some(p),
+            _ => None,
+        }
+    }
+}
+
+impl fmt::Display for Call {
+    fn fmt(&self, f: &mut fmt::Formatter<'_>) -> fmt::Result {
+        let name = self.name();
+        match *self {
+            Call::Make {
+                kind,
+                readers,
+                publishers,
+                slots,
+                version,
+            } => {
+                write!(f, "({name} ")?;
+                match Kind::from_number(u64::from(kind)) {
+                    Some(kind) => write!(f, "{kind}")?,
+                    None => write!(f, "kind-{kind}")?,
+                }
+                write!(f, " {readers} {publishers} {slots} {version})")
+            }
+            Call::Look { r, k } => write!(f, "({name} {r} {k})"),
+            Call::Claim { p, s } => write!(f, "({name} {p} {s})"),
+            Call::Write { p, v } => write!(f, "({name} {p} {v})"),
+            Call::Walk { p, b } => write!(f, "({name} {p} {b})"),
+            Call::Enter { r: n } | Call::Leave { r: n } => write!(f, "({name} {n})"),
+            Call::Swap { p } | Call::Sync { p } | Call::Raise { p } | Call::Release { p } => {
+                write!(f, "({name} {p})")
+            }
+        }
+    }
+}
+
+/// A refusal's number, from document 01's table.
+#[derive(Clone, Copy, PartialEq, Eq, Debug)]
+pub struct Refusal(pub u64);
+
+/// An accepted step's reply, or a refusal.
+pub type Answer = Result<Reply, Refusal>;
+
+#[derive(Clone, Copy, PartialEq, Eq, Debug)]
+pub enum Reply {
+    Refused(u64),
+    Made,
+    At(u64),
+    Pitch(i16),
+    Left,
+    Claimed(u64),
+    Written(u64),
+    Swapped(u64),
+    Synced(u64),
+    Raised,
+    Shared,
+    Waiting(u64),
+    Spent,
+    Quiet,
+    Returned { looks: u64, waits: u64 },
+    Freed { slot: u64, releases: u64 },
+}
+
+/// The three numbers of a reply in C.
+#[derive(Clone, Copy, PartialEq, Eq, Debug)]
+pub struct Numbers {
+    pub code: u64,
+    pub first: u64,
+    pub second: u64,
+}
+
+impl From<Answer> for Reply {
+    fn from(answer: Answer) -> Reply {
+        match answer {
+            Ok(reply) => reply,
+            Err(Refusal(number)) => Reply::Refused(number),
+        }
+    }
+}
+
+impl Reply {
+    pub fn accepted(&self) -> bool {
+        !matches!(self, Reply::Refused(_))
+    }
+
+    /// The reply as C has it.
+    pub fn numbers(&self) -> Numbers {
+        let (code, first, second) = match *self {
+            Reply::Refused(number) => (number, 0, 0),
+            Reply::Made => (100, 0, 0),
+            Reply::At(place) => (101, place, 0),
+            Reply::Pitch(v) => (102, i64::from(v) as u64, 0),
+            Reply::Left => (103, 0, 0),
+            Reply::Claimed(slot) => (104, slot, 0),
+            Reply::Written(n) => (105, n, 0),
+            Reply::Swapped(slot) => (106, slot, 0),
+            Reply::Synced(mark) => (107, mark, 0),
+            Reply::Raised => (108, 0, 0),
+            Reply::Shared => (109, 0, 0),
+            Reply::Waiting(whom) => (110, whom, 0),
+            Reply::Spent => (111, 0, 0),
+            Reply::Quiet => (112, 0, 0),
+            Reply::Returned { looks, waits } => (113, looks, waits),
+            Reply::Freed { slot, releases } => (114, slot, releases),
+        };
+        Numbers {
+            code,
+            first,
+            second,
+        }
+    }
+
+    /// The reply that has these numbers, or none.
+    pub fn from_numbers(n: Numbers) -> Option<Reply> {
+        let reply = match n.code {
+            0..=99 => Reply::Refused(n.code),
+            100 => Reply::Made,
+            101 => Reply::At(n.first),
+            102 => Reply::Pitch(i16::try_from(n.first as i64).ok()?),
+            103 => Reply::Left,
+            104 => Reply::Claimed(n.first),
+            105 => Reply::Written(n.first),
+            106 => Reply::Swapped(n.first),
+            107 => Reply::Synced(n.first),
+            108 => Reply::Raised,
+            109 => Reply::Shared,
+            110 => Reply::Waiting(n.first),
+            111 => Reply::Spent,
+            112 => Reply::Quiet,
+            113 => Reply::Returned {
+                looks: n.first,
+                waits: n.second,
+            },
+            114 => Reply::Freed {
+                slot: n.first,
+                releases: n.second,
+            },
+            _ => return None,
+        };
+        (reply.numbers() == n).then_some(reply)
+    }
+}
+
+impl fmt::Display for Reply {
+    fn fmt(&self, f: &mut fmt::Formatter<'_>) -> fmt::Result {
+        match self {
+            Reply::Refused(number) => write!(f, "refused {number}"),
+            Reply::Made => write!(f, "made"),
+            Reply::At(place) => write!(f, "at {place}"),
+            Reply::Pitch(v) => write!(f, "pitch {v}"),
+            Reply::Left => write!(f, "left"),
+            Reply::Claimed(slot) => write!(f, "claimed {slot}"),
+            Reply::Written(n) => write!(f, "written {n}"),
+            Reply::Swapped(slot) => write!(f, "swapped {slot}"),
+            Reply::Synced(mark) => write!(f, "synced {mark}"),
+            Reply::Raised => write!(f, "raised"),
+            Reply::Shared => write!(f, "shared"),
+            Reply::Waiting(whom) => write!(f, "waiting {whom}"),
+            Reply::Spent => write!(f, "spent"),
+            Reply::Quiet => write!(f, "quiet"),
+            Reply::Returned { looks, waits } => write!(f, "returned {looks} {waits}"),
+            Reply::Freed { slot, releases } => write!(f, "freed {slot} {releases}"),
+        }
+    }
+}
+
+impl fmt::Display for Numbers {
+    fn fmt(&self, f: &mut fmt::Formatter<'_>) -> fmt::Result {
+        match Reply::from_numbers(*self) {
+            Some(reply) => write!(f, "{reply}"),
+            None => write!(f, "no reply of document 01"),
+        }?;
+        write!(f, " [{} {} {}]", self.code, self.first, self.second)
+    }
+}

@@ -1,0 +1,440 @@
+//! Tests of the parts that the comparison leans on: the words, the replies'
+//! numbers, the shelf and demand 3, and the alterations' names.
+
+use crate::call::{Call, Numbers, Reply};
+use crate::damage::{Clause, CLAUSES};
+use crate::demand3::Demand3;
+use crate::layout::{name, pack, publisher_at, reader_at, unpack, WORDS};
+use crate::lent;
+use crate::random::Random;
+use crate::rules::{Alteration, Rules};
+use crate::store::{Kind, Store};
+use crate::turns::Scheduler;
+
+const AS_WRITTEN: Rules = Rules::AS_WRITTEN;
+
+fn made(kind: Kind, sizes: (u16, u16, u16), version: u64) -> ([u64; WORDS], Vec<i16>) {
+    let (readers, publishers, slots) = sizes;
+    let mut words = [77; WORDS];
+    let mut entries = vec![-3; usize::from(slots) * 32];
+    let kind = kind.number() as u16;
+    let make = Call::Make {
+        kind,
+        readers,
+        publishers,
+        slots,
+        version,
+    };
+    assert_eq!(
+        lent::call(&mut words, &mut entries, &make, AS_WRITTEN),
+        Reply::Made
+    );
+    (words, entries)
+}
+
+/// The example of the page on the words, call by call.
+#[test]
+fn words_are_those_of_the_page() {
+    let (mut words, mut entries) = made(Kind::New, (1, 1, 2), 0);
+    let mut due = [0; WORDS];
+    (due[0], due[1], due[2], due[3]) = (1, 1, 1, 2);
+    for word in (12..=327).step_by(5) {
+        due[word] = u64::MAX;
+    }
+    assert_eq!(words, due);
+    assert_eq!(entries, vec![9000; 64]);
+    let enter = Call::Enter { r: 0 };
+    let steps: [(Call, &[(usize, u64)]); 9] = [
+        (enter, &[(9, 1), (10, 0)]),
+        (enter, &[(9, 2), (12, 0)]),
+        (enter, &[(9, 3), (11, 0)]),
+        (enter, &[(9, 4)]),
+        (enter, &[(9, 5), (13, 0)]),
+        (Call::Look { r: 0, k: 31 }, &[]),
+        (Call::Claim { p: 0, s: 0 }, &[]),
+        (Call::Claim { p: 0, s: 1 }, &[(329, 1), (330, 1)]),
+        (Call::Leave { r: 0 }, &[(9, 0), (12, u64::MAX)]),
+    ];
+    for (call, changes) in steps {
+        lent::call(&mut words, &mut entries, &call, AS_WRITTEN);
+        for &(word, number) in changes {
+            due[word] = number;
+        }
+        assert_eq!(words, due, "{call}");
+        assert_eq!(entries, vec![9000; 64], "{call}");
+    }
+}
+
+#[test]
+fn a_fresh_old_store_publishes_nothing() {
+    let (words, entries) = made(Kind::Old, (64, 16, 32), 5);
+    let mut due = [0; WORDS];
+    due[..6].copy_from_slice(&[2, 64, 16, 32, 0, 5]);
+    assert_eq!(words, due);
+    assert_eq!(entries, vec![9000; 1024]);
+}
+
+#[test]
+fn packing_undoes_unpacking_word_by_word() {
+    let mut words = [0; WORDS];
+    for (n, word) in words.iter_mut().enumerate() {
+        *word = n as u64 * 1_000_003 + 1;
+    }
+    for kind in [1, 2] {
+        words[0] = kind;
+        let store = unpack(&words).expect("a known kind");
+        let mut again = [0; WORDS];
+        pack(&store, &mut again);
+        assert_eq!(words, again);
+        assert_eq!(store.reader[63].picked, words[328]);
+        assert_eq!(store.publisher[15].walk.waits, words[424]);
+        assert_eq!(store.publisher[0].walk.next, words[332]);
+    }
+    words[0] = 3;
+    assert!(unpack(&words).is_none());
+}
+
+#[test]
+fn words_have_their_names() {
+    assert_eq!(name(5), "version");
+    assert_eq!(name(8), "indicator 1");
+    assert_eq!(name(12), "reader 0 published");
+    assert_eq!(name(328), "reader 63 picked");
+    assert_eq!(name(329), "publisher 0 place");
+    assert_eq!(name(424), "publisher 15 waits");
+    assert_eq!((reader_at(1), publisher_at(1)), (14, 335));
+}
+
+#[test]
+fn replies_and_numbers_agree() {
+    let numbers = |code, first, second| Numbers {
+        code,
+        first,
+        second,
+    };
+    let negative = Reply::Pitch(-1);
+    assert_eq!(negative.numbers(), numbers(102, u64::MAX, 0));
+    assert_eq!(
+        Reply::from_numbers(numbers(102, u64::MAX, 0)),
+        Some(negative)
+    );
+    assert_eq!(Reply::from_numbers(numbers(102, 40_000, 0)), None);
+    assert_eq!(Reply::from_numbers(numbers(30, 1, 0)), None);
+    assert_eq!(Reply::from_numbers(numbers(115, 0, 0)), None);
+    let freed = Reply::Freed {
+        slot: 3,
+        releases: 9,
+    };
+    assert_eq!(freed.numbers(), numbers(114, 3, 9));
+    assert_eq!(Reply::from_numbers(numbers(114, 3, 9)), Some(freed));
+}
+
+/// The traps of refusal order and of the ends, each with one call.
+#[test]
+fn refusals_come_in_the_order_of_the_table() {
+    let mut entries = vec![0i16; 64];
+    let mut words = [5; WORDS];
+    let mut refused = |readers, publishers, slots, version| {
+        let make = Call::Make {
+            kind: 2,
+            readers,
+            publishers,
+            slots,
+            version,
+        };
+        lent::call(&mut words, &mut entries, &make, AS_WRITTEN)
+    };
+    assert_eq!(refused(0, 0, 1, u64::MAX), Reply::Refused(2));
+    assert_eq!(refused(64, 17, 33, u64::MAX), Reply::Refused(3));
+    assert_eq!(refused(64, 16, 33, u64::MAX), Reply::Refused(4));
+    assert_eq!(refused(64, 16, 3, u64::MAX), Reply::Refused(5));
+    assert_eq!(refused(64, 16, 2, 1 << 63), Reply::Refused(6));
+    assert_eq!(refused(64, 16, 2, (1 << 63) - 1), Reply::Made);
+
+    let (mut words, mut entries) = made(Kind::Old, (1, 2, 2), 0);
+    let mut gives = |call| lent::call(&mut words, &mut entries, &call, AS_WRITTEN);
+    assert_eq!(gives(Call::Look { r: 1, k: 32 }), Reply::Refused(10));
+    assert_eq!(gives(Call::Look { r: 0, k: 32 }), Reply::Refused(13));
+    assert_eq!(gives(Call::Look { r: 0, k: 31 }), Reply::Refused(20));
+    assert_eq!(gives(Call::Claim { p: 2, s: 2 }), Reply::Refused(11));
+    assert_eq!(gives(Call::Claim { p: 0, s: 0 }), Reply::Refused(30));
+    assert_eq!(gives(Call::Claim { p: 0, s: 1 }), Reply::Claimed(1));
+    assert_eq!(gives(Call::Claim { p: 0, s: 2 }), Reply::Refused(12));
+    assert_eq!(gives(Call::Claim { p: 0, s: 1 }), Reply::Refused(21));
+    assert_eq!(gives(Call::Claim { p: 1, s: 0 }), Reply::Refused(31));
+    assert_eq!(gives(Call::Write { p: 1, v: -501 }), Reply::Refused(14));
+    assert_eq!(gives(Call::Write { p: 1, v: -500 }), Reply::Refused(21));
+    words[1] = 0;
+    let enter = Call::Enter { r: 9 };
+    assert_eq!(
+        lent::call(&mut words, &mut entries, &enter, AS_WRITTEN),
+        Reply::Refused(1)
+    );
+    assert_eq!(
+        lent::call(&mut words[..424], &mut [], &enter, AS_WRITTEN),
+        Reply::Refused(1)
+    );
+}
+
+/// 33 looks at looks + b, also when an old walk would make one look only.
+#[test]
+fn sums_of_looks_end_at_the_highest_number() {
+    for kind in [Kind::New, Kind::Old] {
+        let (mut words, mut entries) = made(kind, (1, 1, 2), 7);
+        let at = publisher_at(0);
+        words[at..at + 6].copy_from_slice(&[37, 1, 7, 0, u64::MAX - 3, u64::MAX - 3]);
+        let mut gives = |b| {
+            lent::call(
+                &mut words,
+                &mut entries,
+                &Call::Walk { p: 0, b },
+                AS_WRITTEN,
+            )
+        };
+        assert_eq!(gives(4), Reply::Refused(33));
+        let returned = Reply::Returned {
+            looks: u64::MAX - 2,
+            waits: u64::MAX - 3,
+        };
+        assert_eq!(gives(3), returned);
+    }
+}
+
+/// Each clause is found alone where it applies.
+#[test]
+fn clauses_are_told_apart() {
+    let (words, _) = made(Kind::New, (2, 2, 2), 0);
+    let fresh = unpack(&words).expect("a known kind");
+    assert!(!fresh.clauses(64, AS_WRITTEN).any());
+    assert!(fresh.clauses(63, AS_WRITTEN).only(Clause::EntriesLength));
+    let damaged = |change: fn(&mut Store)| {
+        let mut store = fresh.clone();
+        change(&mut store);
+        store.clauses(64, AS_WRITTEN)
+    };
+    assert!(damaged(|s| s.current = 2).only(Clause::Current));
+    assert!(damaged(|s| s.version = u64::MAX).only(Clause::Version));
+    assert!(damaged(|s| s.reader[1].place = 6).only(Clause::ReaderPlace));
+    assert!(damaged(|s| s.reader[1].place = 2).only(Clause::Published));
+    assert!(
+        damaged(|s| (s.publisher[1].place, s.publisher[1].walk.mark) = (36, 1))
+            .only(Clause::PublisherPlace)
+    );
+    assert!(damaged(|s| s.publisher[1].place = 38).only(Clause::MarkZero));
+    assert!(!damaged(|s| s.reader[2].place = 6).any());
+    assert!(!damaged(|s| s.indicators = [1, 1]).any());
+}
+
+#[test]
+fn alterations_have_names_of_their_own() {
+    let all = Alteration::all();
+    assert!(all.len() > 90, "{} alterations", all.len());
+    for (n, &alteration) in all.iter().enumerate() {
+        assert_eq!(Alteration::by_name(&alteration.name()), Some(alteration));
+        assert!(all[..n]
+            .iter()
+            .all(|other| other.text() != alteration.text()));
+    }
+    assert_eq!(Alteration::HolderAt38Ignored.name(), "holder-at-38-ignored");
+    assert_eq!(
+        CLAUSES.len(),
+        all.iter()
+            .filter(|a| matches!(a, Alteration::Untested(_)))
+            .count()
+    );
+}
+
+/// What demand 3 says of a told list: each call with its reply.
+fn told(kind: Kind, list: &[(Call, Reply)]) -> Result<(), String> {
+    let mut demand3 = Demand3::fresh(kind, 2, 2, 3);
+    list.iter()
+        .try_for_each(|(call, reply)| demand3.hear(call, reply))
+}
+
+/// CLAIM, 32 WRITEs of v, SWAP and SYNC.
+fn publication(p: u16, s: u16, v: i16, former: u64) -> Vec<(Call, Reply)> {
+    let mut list = vec![(Call::Claim { p, s }, Reply::Claimed(u64::from(s)))];
+    list.extend((1..=32).map(|n| (Call::Write { p, v }, Reply::Written(n))));
+    list.push((Call::Swap { p }, Reply::Swapped(former)));
+    list.push((Call::Sync { p }, Reply::Synced(1)));
+    list
+}
+
+const OPENS: (Call, Reply) = (Call::Enter { r: 1 }, Reply::At(4));
+const PICKS: (Call, Reply) = (Call::Enter { r: 1 }, Reply::At(5));
+const LEAVES: (Call, Reply) = (Call::Leave { r: 1 }, Reply::Left);
+const RETURNS: (Call, Reply) = (
+    Call::Walk { p: 0, b: 9 },
+    Reply::Returned { looks: 2, waits: 0 },
+);
+const FREES: (Call, Reply) = (
+    Call::Release { p: 0 },
+    Reply::Freed {
+        slot: 0,
+        releases: 1,
+    },
+);
+
+fn looks(v: i16) -> (Call, Reply) {
+    (Call::Look { r: 1, k: 3 }, Reply::Pitch(v))
+}
+
+#[test]
+fn the_shelf_knows_which_table_was_picked() {
+    let list = |before: &[(Call, Reply)], after: &[(Call, Reply)]| {
+        let published = publication(0, 1, 55, 0);
+        told(Kind::New, &[before, &published[..], after].concat())
+    };
+    assert_eq!(list(&[OPENS, PICKS], &[looks(9000)]), Ok(()));
+    assert!(list(&[OPENS, PICKS], &[looks(55)]).is_err());
+    assert_eq!(list(&[OPENS], &[PICKS, looks(55)]), Ok(()));
+    assert!(list(&[OPENS], &[PICKS, looks(9000)]).is_err());
+    assert!(list(&[OPENS], &[looks(9000)]).is_err());
+}
+
+#[test]
+fn a_return_over_an_open_section_is_found() {
+    let list = |before: &[(Call, Reply)], after: &[(Call, Reply)]| {
+        let published = publication(0, 1, 55, 0);
+        told(Kind::New, &[before, &published[..], after].concat())
+    };
+    assert!(list(&[OPENS], &[RETURNS]).is_err());
+    assert_eq!(list(&[OPENS], &[LEAVES, RETURNS]), Ok(()));
+    assert_eq!(list(&[OPENS], &[LEAVES, OPENS, RETURNS]), Ok(()));
+    assert_eq!(list(&[], &[OPENS, RETURNS]), Ok(()));
+    assert!(list(&[], &[RETURNS, RETURNS]).is_err());
+    let looks_3 = (
+        Call::Walk { p: 0, b: 9 },
+        Reply::Returned { looks: 3, waits: 0 },
+    );
+    assert!(list(&[], &[looks_3]).is_err());
+}
+
+#[test]
+fn slots_taken_twice_or_freed_early_are_found() {
+    let claim = |p, s: u16| (Call::Claim { p, s }, Reply::Claimed(u64::from(s)));
+    assert!(told(Kind::New, &[claim(0, 0)]).is_err());
+    assert!(told(Kind::New, &[claim(0, 1), claim(1, 1)]).is_err());
+    assert_eq!(told(Kind::New, &[claim(0, 1), claim(1, 2)]), Ok(()));
+    assert!(told(Kind::New, &[claim(0, 3)]).is_err());
+    let published = publication(0, 1, 55, 0);
+    assert!(told(Kind::New, &[&published[..], &[claim(1, 0)]].concat()).is_err());
+    assert_eq!(
+        told(Kind::New, &[&published[..], &[FREES, claim(1, 0)]].concat()),
+        Ok(())
+    );
+    let open = [OPENS, PICKS];
+    assert!(told(Kind::New, &[&open[..], &published[..], &[FREES]].concat()).is_err());
+    assert_eq!(
+        told(
+            Kind::New,
+            &[&open[..], &published[..], &[LEAVES, FREES]].concat()
+        ),
+        Ok(())
+    );
+    assert!(told(Kind::New, &[(Call::Enter { r: 0 }, Reply::Refused(1))]).is_err());
+    assert!(told(Kind::New, &[(Call::Enter { r: 2 }, Reply::At(1))]).is_err());
+}
+
+/// A store that records otherwise than the calls told is found.
+#[test]
+fn records_are_compared_with_what_was_told() {
+    let (mut words, mut entries) = made(Kind::New, (2, 2, 3), 0);
+    let mut demand3 = Demand3::fresh(Kind::New, 2, 2, 3);
+    let mut calls = vec![Call::Enter { r: 1 }; 5];
+    calls.push(Call::Claim { p: 1, s: 2 });
+    for call in calls {
+        let reply = lent::call(&mut words, &mut entries, &call, AS_WRITTEN);
+        assert_eq!(demand3.hear(&call, &reply), Ok(()));
+        assert_eq!(demand3.recorded(&words), Ok(()));
+    }
+    let wrong = [
+        (4, 1),
+        (reader_at(1), 4),
+        (reader_at(1), 0),
+        (reader_at(1) + 4, 1),
+        (reader_at(0), 4),
+        (publisher_at(1), 0),
+        (publisher_at(1) + 1, 1),
+        (publisher_at(0), 1),
+    ];
+    for (word, number) in wrong {
+        let mut other = words;
+        other[word] = number;
+        assert!(demand3.recorded(&other).is_err(), "{}", name(word));
+    }
+}
+
+/// Random lists on this implementation: the first fault of demand 3.
+fn first_fault(kind: Kind, rules: Rules, calls: u64) -> Option<String> {
+    let mut random = Random::from_seed(3);
+    for _ in 0..calls / 1000 {
+        let sizes = random.pick(&[(2, 2, 3), (1, 1, 2), (5, 3, 6)]);
+        let (mut words, mut entries) = made(kind, sizes, random.below(3));
+        let mut demand3 = Demand3::fresh(kind, sizes.0, sizes.1, sizes.2);
+        let mut scheduler = Scheduler::new(&mut random);
+        for _ in 0..1000 {
+            let call = scheduler.next(&words, &mut random);
+            let reply = lent::call(&mut words, &mut entries, &call, rules);
+            let kept = demand3
+                .hear(&call, &reply)
+                .and_then(|()| demand3.recorded(&words));
+            if let Err(fault) = kept {
+                return Some(fault);
+            }
+        }
+    }
+    None
+}
+
+#[test]
+fn demand_3_holds_as_written() {
+    for kind in [Kind::New, Kind::Old] {
+        assert_eq!(first_fault(kind, AS_WRITTEN, 100_000), None);
+    }
+}
+
+/// These alterations break demand 3, and random lists find it.
+#[test]
+fn demand_3_falls_under_altered_rules() {
+    use Alteration as A;
+    let new = [
+        A::PassesBelowMark,
+        A::MarkIsVersion,
+        A::ReleasesAt37,
+        A::CurrentIsFree,
+        A::HolderAt34Ignored,
+        A::HolderAt38Ignored,
+        A::SwapKeepsHeld,
+        A::SwapsAt32,
+        A::PicksOnOpening,
+        A::LooksAtFour,
+        A::LooksAtCurrent,
+        A::WritesCurrent,
+        A::WaitNotALook,
+        A::SyncKeepsLooks,
+        A::WaitsNotCounted,
+    ];
+    let old = [
+        A::ReleasesAt37,
+        A::CurrentIsFree,
+        A::SwapKeepsHeld,
+        A::LooksAtCurrent,
+        A::WritesCurrent,
+        A::OldEntersTwo,
+        A::ArrivesByVersion,
+        A::DepartsByVersion,
+        A::WaitNotALook,
+        A::OldLooksAreB,
+    ];
+    for (kind, alterations) in [(Kind::New, &new[..]), (Kind::Old, &old[..])] {
+        for &alteration in alterations {
+            let fault = first_fault(kind, Rules::altered(alteration), 200_000);
+            assert!(
+                fault.is_some(),
+                "{kind} {} keeps demand 3",
+                alteration.name()
+            );
+        }
+    }
+}

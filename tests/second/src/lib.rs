@@ -1,0 +1,25 @@
+//! The second implementation of the pitch table store, old and new.
+//!
+//! It was written from document 01, the page on the words and the numbers of
+//! the C replies alone, without a look at the product. It keeps the store in
+//! structs of its own and only packs it into words to be compared.
+
+pub mod call;
+pub mod damage;
+pub mod demand3;
+pub mod layout;
+pub mod lent;
+pub mod making;
+pub mod publisher;
+pub mod random;
+pub mod reader;
+pub mod rules;
+pub mod shelf;
+pub mod store;
+pub mod turns;
+pub mod walk;
+
+#[cfg(test)]
+mod bench;
+#[cfg(test)]
+mod checks;

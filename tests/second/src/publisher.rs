@@ -1,0 +1,209 @@
+//! CLAIM, WRITE, SWAP, SYNC, RAISE and RELEASE.
+
+use crate::call::{Answer, Refusal, Reply};
+use crate::rules::{Alteration, Rules};
+use crate::store::{entry_index, Kind, Publisher, Store};
+
+impl Store {
+    /// Refusal 21 if p is at any other place than this.
+    fn turn(&self, p: usize, place: u64) -> Result<(), Refusal> {
+        if self.publisher[p].place == place {
+            Ok(())
+        } else {
+            Err(Refusal(21))
+        }
+    }
+
+    pub fn claim(&mut self, p: u16, s: u16, rules: Rules) -> Answer {
+        let p = self.publisher_named(p)?;
+        let slot = u64::from(s);
+        if rules.has(Alteration::TurnBeforeSlot) {
+            self.turn(p, 0)?;
+        }
+        if slot >= self.slots {
+            return Err(Refusal(12));
+        }
+        self.turn(p, 0)?;
+        if rules.has(Alteration::Claim30First) && !self.free(slot, rules) {
+            return Err(Refusal(30));
+        }
+        if self.refuses_others(rules) && self.other_busy(p) {
+            return Err(Refusal(31));
+        }
+        if !self.free(slot, rules) {
+            return Err(Refusal(30));
+        }
+        self.publisher[p].place = 1;
+        self.publisher[p].held = slot;
+        Ok(Reply::Claimed(slot))
+    }
+
+    fn refuses_others(&self, rules: Rules) -> bool {
+        match self.kind {
+            Kind::New => rules.has(Alteration::NewRefusesBusy),
+            Kind::Old => !rules.has(Alteration::OldTakesSeveral),
+        }
+    }
+
+    fn other_busy(&self, p: usize) -> bool {
+        let mut publishers = self.present_publishers().iter().enumerate();
+        publishers.any(|(n, other)| n != p && other.place != 0)
+    }
+
+    /// Not current, and held by no publisher at a place other than 0.
+    fn free(&self, slot: u64, rules: Rules) -> bool {
+        let counts = |publisher: &Publisher| match publisher.place {
+            0 => rules.has(Alteration::HeldAtZeroCounts),
+            34 => !rules.has(Alteration::HolderAt34Ignored),
+            38 => !rules.has(Alteration::HolderAt38Ignored),
+            _ => true,
+        };
+        let publishers = if rules.has(Alteration::HoldersBeyondSizes) {
+            &self.publisher[..]
+        } else {
+            self.present_publishers()
+        };
+        let held = publishers
+            .iter()
+            .any(|publisher| counts(publisher) && publisher.held == slot);
+        let current = slot == self.current && !rules.has(Alteration::CurrentIsFree);
+        !current && !held
+    }
+
+    pub fn write(&mut self, entries: &mut [i16], p: u16, v: i16, rules: Rules) -> Answer {
+        let p = self.publisher_named(p)?;
+        let at_turn = matches!(self.publisher[p].place, 1..=32);
+        if rules.has(Alteration::TurnBeforePitch) && !at_turn {
+            return Err(Refusal(21));
+        }
+        let lowest = if rules.has(Alteration::PitchFrom501) {
+            -501
+        } else {
+            -500
+        };
+        let highest = if rules.has(Alteration::PitchTo9499) {
+            9499
+        } else {
+            9500
+        };
+        if !(lowest..=highest).contains(&v) {
+            return Err(Refusal(14));
+        }
+        if !at_turn {
+            return Err(Refusal(21));
+        }
+        let slot = if rules.has(Alteration::WritesCurrent) {
+            self.current
+        } else {
+            self.publisher[p].held
+        };
+        let publisher = &mut self.publisher[p];
+        if let Some(index) = entry_index(slot, publisher.place - 1, entries) {
+            entries[index] = v;
+        }
+        let written = publisher.place;
+        publisher.place += 1;
+        if rules.has(Alteration::WrittenBefore) {
+            return Ok(Reply::Written(written - 1));
+        }
+        Ok(Reply::Written(written))
+    }
+
+    pub fn swap(&mut self, p: u16, rules: Rules) -> Answer {
+        let p = self.publisher_named(p)?;
+        if self.turn(p, 33).is_err() {
+            if !rules.has(Alteration::SwapsAt32) {
+                return Err(Refusal(21));
+            }
+            self.turn(p, 32)?;
+        }
+        let former = self.current;
+        let publisher = &mut self.publisher[p];
+        publisher.place = 34;
+        self.current = publisher.held;
+        if !rules.has(Alteration::SwapKeepsHeld) {
+            publisher.held = former;
+        }
+        if rules.has(Alteration::SwapRepliesOwn) {
+            return Ok(Reply::Swapped(self.current));
+        }
+        Ok(Reply::Swapped(former))
+    }
+
+    pub fn sync(&mut self, p: u16, rules: Rules) -> Answer {
+        let p = self.publisher_named(p)?;
+        if rules.has(Alteration::LastBeforeTurn) && self.version == self.kind.last() {
+            return Err(Refusal(32));
+        }
+        self.turn(p, 34)?;
+        if self.version == self.kind.last() && !rules.has(Alteration::SyncAtLast) {
+            return Err(Refusal(32));
+        }
+        let publisher = &mut self.publisher[p];
+        publisher.place = 35;
+        let walk = &mut publisher.walk;
+        let more = u64::from(!rules.has(Alteration::MarkIsVersion));
+        walk.mark = self.version.wrapping_add(more);
+        if !(self.kind == Kind::Old && rules.has(Alteration::OldSyncKeepsNext)) {
+            walk.next = 0;
+        }
+        if !rules.has(Alteration::SyncKeepsLooks) {
+            walk.looks = 0;
+        }
+        if !rules.has(Alteration::SyncKeepsWaits) {
+            walk.waits = 0;
+        }
+        Ok(Reply::Synced(walk.mark))
+    }
+
+    pub fn raise(&mut self, p: u16, rules: Rules) -> Answer {
+        let p = self.publisher_named(p)?;
+        let place = match self.kind {
+            Kind::New => 35,
+            Kind::Old if rules.has(Alteration::OldRaisesAt35) => 35,
+            Kind::Old => 36,
+        };
+        self.turn(p, place)?;
+        let mark = self.publisher[p].walk.mark;
+        let before = if rules.has(Alteration::RaiseComparesMark) {
+            mark
+        } else {
+            mark.wrapping_sub(1)
+        };
+        let behind = self.version < mark && rules.has(Alteration::RaisesWhenBehind);
+        if self.version == before || behind {
+            self.version = mark;
+            self.publisher[p].place = 37;
+            return Ok(Reply::Raised);
+        }
+        if !rules.has(Alteration::SharedStays) {
+            self.publisher[p].place = 37;
+        }
+        Ok(Reply::Shared)
+    }
+
+    pub fn release(&mut self, p: u16, rules: Rules) -> Answer {
+        let p = self.publisher_named(p)?;
+        if self.turn(p, 38).is_err() {
+            if !rules.has(Alteration::ReleasesAt37) {
+                return Err(Refusal(21));
+            }
+            self.turn(p, 37)?;
+        }
+        self.releases = if rules.has(Alteration::ReleasesSaturate) {
+            self.releases.saturating_add(1)
+        } else {
+            self.releases.wrapping_add(1)
+        };
+        let publisher = &mut self.publisher[p];
+        let slot = publisher.held;
+        publisher.place = 0;
+        if rules.has(Alteration::ReleaseClearsHeld) {
+            publisher.held = 0;
+        }
+        Ok(Reply::Freed {
+            slot,
+            releases: self.releases,
+        })
+    }
+}

@@ -1,0 +1,185 @@
+//! The rules, with at most one of them altered.
+//!
+//! Each alteration is a mistake that somebody could make. A comparison that
+//! does not find it has a hole.
+
+use crate::damage::{Clause, CLAUSES};
+
+macro_rules! alterations {
+    ($($name:ident $text:literal)*) => {
+        /// One altered rule.
+        #[derive(Clone, Copy, PartialEq, Eq, Debug)]
+        pub enum Alteration {
+            /// This clause of the damage test is missing.
+            Untested(Clause),
+            $(#[doc = $text] $name,)*
+        }
+
+        const LISTED: &[(Alteration, &str, &str)] = &[
+            $((Alteration::$name, stringify!($name), $text),)*
+        ];
+    };
+}
+
+alterations! {
+    // Making.
+    MakingVersionFirst "making tests 6 before the sizes"
+    MakingLengthFirst "making tests 5 before the sizes"
+    Making65Readers "making takes 65 readers"
+    MakingOneSlot "making takes 1 slot"
+    MakingBelowLast "making refuses the last version"
+    RefusedMakingClears "a refused making clears the words"
+    FreshEntriesZero "fresh entries are 0"
+    FreshPublishedZero "fresh published versions are 0"
+    FreshOldPublished "a fresh old store has published versions"
+    FreshWithinSizeOnly "published versions are fresh only within the size"
+    // The damage test.
+    NameBeforeSpoiled "10 and 11 are tested before 1"
+    OldLastUnsigned "the old store's last version is 2^64 - 2 in the damage test"
+    LongerEntriesPass "longer entries pass the damage test"
+    OldPlaceTwo "an old reader may be at place 2"
+    NewPlace36 "a new publisher may be at place 36"
+    PickedAlwaysTested "the picked slot is tested at every place"
+    PublishedTestedAtFour "the published version is tested at place 4 too"
+    HeldAlwaysTested "the held slot is tested at place 0 too"
+    WalkTestedAt34 "the mark and the waits are tested at 34 too"
+    MarkPastLast "a mark may be one above the last version"
+    NextTestedAt38 "next is tested at 38 too"
+    NewIndicatorsTested "a new store's indicators are tested"
+    SpoiledBeyondSizes "records beyond the sizes are tested"
+    // Readers.
+    SecondNotPublished "the second version is never published"
+    ThirdLoadPublished "from 3 to 4 the version of now is published"
+    PicksOnOpening "a new reader picks when it goes to 4"
+    OldEntersTwo "an old ENTER goes from 1 to 2"
+    ArrivesByVersion "an old reader arrives by the version of now"
+    DepartsByVersion "an old reader departs by the version of now"
+    LooksAtFour "LOOK is allowed at 4"
+    LooksAtCurrent "LOOK reads the current slot"
+    Entry31Refused "entry 31 is refused"
+    TurnBeforeEntry "LOOK tests 20 before 13"
+    LeavesAtFiveOnly "LEAVE is refused at 4"
+    LeavesAtThree "LEAVE is allowed at 3"
+    LeaveKeepsPublished "LEAVE does not publish NOT_READING"
+    // Publishers.
+    TurnBeforeSlot "CLAIM tests 21 before 12"
+    TurnBeforePitch "WRITE tests 21 before 14"
+    Claim30First "CLAIM tests 30 before 31"
+    NewRefusesBusy "a new store gives 31"
+    OldTakesSeveral "an old store never gives 31"
+    HeldAtZeroCounts "a slot number left at place 0 counts as held"
+    HolderAt34Ignored "CLAIM ignores a holder at 34"
+    HolderAt38Ignored "CLAIM ignores a holder at 38"
+    HoldersBeyondSizes "CLAIM counts holders beyond the sizes"
+    CurrentIsFree "CLAIM takes the current slot"
+    PitchFrom501 "WRITE accepts -501"
+    PitchTo9499 "WRITE refuses 9500"
+    WritesCurrent "WRITE stores in the current slot"
+    WrittenBefore "WRITE replies with the number written before"
+    SwapsAt32 "SWAP is allowed with 31 written"
+    SwapKeepsHeld "SWAP keeps its own slot held"
+    SwapRepliesOwn "SWAP replies with its own slot"
+    SyncAtLast "SYNC is allowed at the last version"
+    LastBeforeTurn "SYNC tests 32 before 21"
+    MarkIsVersion "the mark is the version"
+    SyncKeepsLooks "SYNC leaves looks"
+    SyncKeepsWaits "SYNC leaves waits"
+    OldSyncKeepsNext "an old SYNC leaves next"
+    OldRaisesAt35 "an old RAISE is allowed at 35"
+    RaiseComparesMark "RAISE compares the version with mark, not mark - 1"
+    RaisesWhenBehind "RAISE raises from any version below mark"
+    SharedStays "a shared RAISE stays at its place"
+    ReleasesAt37 "RELEASE is allowed at 37"
+    ReleasesSaturate "releases stop at 2^64 - 1"
+    ReleaseClearsHeld "RELEASE sets the held slot to 0"
+    // The walk.
+    NewWalksAt35 "a new WALK is allowed at 35"
+    LooksBeforeTurn "WALK tests 33 before 21"
+    OldAsksOneLook "an old WALK tests 33 with one look"
+    SumBelowHighest "33 is given at 2^64 - 1 too"
+    SumNotTested "33 is missing"
+    WalksAllRecords "a walk goes over all 64 records"
+    ZeroLooksOnce "WALK with b = 0 makes a look"
+    WaitNotALook "a look that does not pass is not counted"
+    WaitsNotCounted "waits does not rise"
+    WaitStartsAgain "a wait sends next back to 0"
+    SpentAtCount "spent is tested before returned"
+    SpentKeepsNext "spent leaves next"
+    PassesAboveMark "a walk passes only versions above mark"
+    PassesBelowMark "a walk passes mark - 1"
+    PassesOutOnly "a walk passes only NOT_READING"
+    OldWrongIndicator "the indicators are looked at in the wrong order"
+    OldLooksAreB "an old WALK counts b looks"
+    QuietSkips36 "quiet goes to 37"
+}
+
+impl Alteration {
+    /// Every alteration.
+    pub fn all() -> Vec<Alteration> {
+        let untested = CLAUSES.iter().map(|&clause| Alteration::Untested(clause));
+        LISTED.iter().map(|entry| entry.0).chain(untested).collect()
+    }
+
+    /// The alteration's name, in small letters with hyphens.
+    pub fn name(self) -> String {
+        match self {
+            Alteration::Untested(clause) => hyphened(&format!("{clause:?}Untested")),
+            _ => hyphened(self.listed().1),
+        }
+    }
+
+    /// What is altered.
+    pub fn text(self) -> String {
+        match self {
+            Alteration::Untested(clause) => {
+                let clause = hyphened(&format!("{clause:?}")).replace('-', " ");
+                format!("the damage test leaves out: {clause}")
+            }
+            _ => self.listed().2.to_string(),
+        }
+    }
+
+    pub fn by_name(name: &str) -> Option<Alteration> {
+        Alteration::all()
+            .into_iter()
+            .find(|alteration| alteration.name() == name)
+    }
+
+    fn listed(self) -> &'static (Alteration, &'static str, &'static str) {
+        LISTED
+            .iter()
+            .find(|entry| entry.0 == self)
+            .expect("every alteration is listed")
+    }
+}
+
+/// `HolderAt38Ignored` becomes `holder-at-38-ignored`.
+fn hyphened(name: &str) -> String {
+    let mut out = String::new();
+    let mut before = '-';
+    for c in name.chars() {
+        let starts = c.is_ascii_uppercase() || (c.is_ascii_digit() && !before.is_ascii_digit());
+        if starts && !out.is_empty() {
+            out.push('-');
+        }
+        out.push(c.to_ascii_lowercase());
+        before = c;
+    }
+    out
+}
+
+/// The rules of document 01, with at most one altered.
+#[derive(Clone, Copy, PartialEq, Eq, Debug)]
+pub struct Rules(Option<Alteration>);
+
+impl Rules {
+    pub const AS_WRITTEN: Rules = Rules(None);
+
+    pub fn altered(alteration: Alteration) -> Rules {
+        Rules(Some(alteration))
+    }
+
+    pub fn has(self, alteration: Alteration) -> bool {
+        self.0 == Some(alteration)
+    }
+}

@@ -1,0 +1,48 @@
+//! The plain shelf: one table, a note per reader, a draft per publisher.
+//!
+//! It sees calls and replies and none of the store's numbers.
+
+use crate::call::{Call, Reply};
+use crate::store::{FEATHERED, MOST_PUBLISHERS, MOST_READERS, TABLE};
+
+pub struct Shelf {
+    table: Vec<i16>,
+    notes: Vec<Option<Vec<i16>>>,
+    drafts: Vec<Vec<i16>>,
+}
+
+impl Shelf {
+    pub fn fresh() -> Shelf {
+        Shelf {
+            table: vec![FEATHERED; TABLE],
+            notes: vec![None; MOST_READERS],
+            drafts: vec![Vec::new(); MOST_PUBLISHERS],
+        }
+    }
+
+    /// Moves by an accepted call. For a LOOK it says what the pitch should
+    /// have been if the reply gives another.
+    pub fn hear(&mut self, call: &Call, reply: &Reply) -> Result<(), String> {
+        match (*call, *reply) {
+            (Call::Claim { p, .. }, Reply::Claimed(_)) => self.drafts[usize::from(p)].clear(),
+            (Call::Write { p, v }, Reply::Written(_)) => self.drafts[usize::from(p)].push(v),
+            (Call::Swap { p }, Reply::Swapped(_)) => {
+                self.table.clone_from(&self.drafts[usize::from(p)]);
+            }
+            (Call::Enter { r }, Reply::At(5)) => {
+                self.notes[usize::from(r)]
+                    .get_or_insert_with(Vec::new)
+                    .clone_from(&self.table);
+            }
+            (Call::Look { r, k }, Reply::Pitch(v)) => {
+                let note = self.notes[usize::from(r)].as_ref();
+                let due = note.and_then(|note| note.get(usize::from(k)).copied());
+                if due != Some(v) {
+                    return Err(format!("the shelf gives {due:?} for this LOOK"));
+                }
+            }
+            _ => {}
+        }
+        Ok(())
+    }
+}

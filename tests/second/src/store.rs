@@ -1,0 +1,163 @@
+//! The numbers of a store, and how a call finds its way to its step.
+
+use crate::call::{Answer, Call, Refusal, Reply};
+use crate::rules::{Alteration, Rules};
+use std::fmt;
+
+pub const NOT_READING: u64 = u64::MAX;
+pub const FEATHERED: i16 = 9000;
+pub const TABLE: usize = 32;
+pub const MOST_READERS: usize = 64;
+pub const MOST_PUBLISHERS: usize = 16;
+pub const MOST_SLOTS: usize = 32;
+
+#[derive(Clone, Copy, PartialEq, Eq, Debug)]
+pub enum Kind {
+    New,
+    Old,
+}
+
+impl Kind {
+    pub fn number(self) -> u64 {
+        match self {
+            Kind::New => 1,
+            Kind::Old => 2,
+        }
+    }
+
+    pub fn from_number(number: u64) -> Option<Kind> {
+        match number {
+            1 => Some(Kind::New),
+            2 => Some(Kind::Old),
+            _ => None,
+        }
+    }
+
+    /// The last version.
+    pub fn last(self) -> u64 {
+        match self {
+            Kind::New => u64::MAX - 1,
+            Kind::Old => (1 << 63) - 1,
+        }
+    }
+}
+
+impl fmt::Display for Kind {
+    fn fmt(&self, f: &mut fmt::Formatter<'_>) -> fmt::Result {
+        f.write_str(match self {
+            Kind::New => "new",
+            Kind::Old => "old",
+        })
+    }
+}
+
+#[derive(Clone, Copy, PartialEq, Eq, Debug, Default)]
+pub struct Reader {
+    pub place: u64,
+    pub first: u64,
+    pub second: u64,
+    pub published: u64,
+    pub picked: u64,
+}
+
+#[derive(Clone, Copy, PartialEq, Eq, Debug, Default)]
+pub struct Walk {
+    pub mark: u64,
+    pub next: u64,
+    pub looks: u64,
+    pub waits: u64,
+}
+
+#[derive(Clone, Copy, PartialEq, Eq, Debug, Default)]
+pub struct Publisher {
+    pub place: u64,
+    pub held: u64,
+    pub walk: Walk,
+}
+
+/// A store of either kind. The records beyond the sizes are kept, because
+/// a packed store has them too.
+#[derive(Clone, PartialEq, Eq, Debug)]
+pub struct Store {
+    pub kind: Kind,
+    pub readers: u64,
+    pub publishers: u64,
+    pub slots: u64,
+    pub current: u64,
+    pub version: u64,
+    pub releases: u64,
+    pub indicators: [u64; 2],
+    pub reader: [Reader; MOST_READERS],
+    pub publisher: [Publisher; MOST_PUBLISHERS],
+}
+
+impl Store {
+    /// One of the ten calls on this store.
+    pub fn call(&mut self, entries: &mut [i16], call: &Call, rules: Rules) -> Reply {
+        Reply::from(self.answer(entries, call, rules))
+    }
+
+    fn answer(&mut self, entries: &mut [i16], call: &Call, rules: Rules) -> Answer {
+        if rules.has(Alteration::NameBeforeSpoiled) {
+            self.names_exist(call)?;
+        }
+        if self.clauses(entries.len(), rules).any() {
+            return Err(Refusal(1));
+        }
+        match *call {
+            Call::Make { .. } => unreachable!("making has no store yet"),
+            Call::Enter { r } => self.enter(r, rules),
+            Call::Look { r, k } => self.look(entries, r, k, rules),
+            Call::Leave { r } => self.leave(r, rules),
+            Call::Claim { p, s } => self.claim(p, s, rules),
+            Call::Write { p, v } => self.write(entries, p, v, rules),
+            Call::Swap { p } => self.swap(p, rules),
+            Call::Sync { p } => self.sync(p, rules),
+            Call::Raise { p } => self.raise(p, rules),
+            Call::Walk { p, b } => self.walk(p, b, rules),
+            Call::Release { p } => self.release(p, rules),
+        }
+    }
+
+    fn names_exist(&self, call: &Call) -> Result<(), Refusal> {
+        if let Some(r) = call.reader() {
+            self.reader_named(r)?;
+        }
+        if let Some(p) = call.publisher() {
+            self.publisher_named(p)?;
+        }
+        Ok(())
+    }
+
+    /// The reader r, or refusal 10.
+    pub fn reader_named(&self, r: u16) -> Result<usize, Refusal> {
+        named(r, self.readers, MOST_READERS).ok_or(Refusal(10))
+    }
+
+    /// The publisher p, or refusal 11.
+    pub fn publisher_named(&self, p: u16) -> Result<usize, Refusal> {
+        named(p, self.publishers, MOST_PUBLISHERS).ok_or(Refusal(11))
+    }
+
+    /// The readers within the size.
+    pub fn present_readers(&self) -> &[Reader] {
+        &self.reader[..self.readers.min(MOST_READERS as u64) as usize]
+    }
+
+    /// The publishers within the size.
+    pub fn present_publishers(&self) -> &[Publisher] {
+        &self.publisher[..self.publishers.min(MOST_PUBLISHERS as u64) as usize]
+    }
+}
+
+fn named(name: u16, count: u64, room: usize) -> Option<usize> {
+    let n = usize::from(name);
+    (u64::from(name) < count && n < room).then_some(n)
+}
+
+/// Where entry k of a slot is among the entries. An altered damage test can
+/// let a slot through that is too large; there is no such entry then.
+pub fn entry_index(slot: u64, k: u64, entries: &[i16]) -> Option<usize> {
+    let index = slot.checked_mul(TABLE as u64)?.checked_add(k)?;
+    usize::try_from(index).ok().filter(|&i| i < entries.len())
+}
