@@ -1,16 +1,12 @@
 -- The number and values of each reply, as C gets them, three numbers of 64 bits: document 01's number for a refusal, ours from 100 up for the rest.
 use Prim.Native.Nat.{ℕ, _-_}
 use lib.IntN.{ℤ, pos, negsuc}
+use Rattle.calls.specs.declared.Answer.{Answer}
 use Rattle.calls.specs.declared.Reply.{Reply}
 use Rattle.calls.specs.declared.Reply.the-variants.{Made, At, Pitch, Left, Claimed, Written, Swapped, Synced, Raised, Shared, Walked, Freed, Refused}
 use Rattle.calls.specs.declared.WalkReply.{WalkReply}
 use Rattle.calls.specs.declared.WalkReply.the-variants.{Waiting, Spent, Quiet, Returned}
 use Rattle.calls.specs.Numbers.{NUMBER-MAX}
-
-pub record Answer : Type 0 where
-  pub code : ℕ
-  pub first : ℕ
-  pub second : ℕ
 
 abbrev pub answer : ℕ → ℕ → ℕ → Answer
 answer c a b = record { code = c; first = a; second = b }

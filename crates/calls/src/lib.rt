@@ -118,3 +118,11 @@ pub enum Reply {
     // document 01's number
     Refused(u64),
 }
+
+// A reply as C gets it, three numbers of 64 bits; `answerOf` in specs/ says which.
+#[repr(C)]
+pub struct Answer {
+    pub code: u64,
+    pub first: u64,
+    pub second: u64,
+}
