@@ -78,9 +78,6 @@ fn publisher_damaged(words: &[u64], p: usize, readers: u64, slots: u64) -> bool
     if place < 35 {
         return false;
     }
-    if (place > 38) | (place == 36) {
-        return true;
-    }
     let walk = y.walk;
     if (walk.mark == 0) | (walk.mark > LAST) {
         return true;
@@ -90,6 +87,9 @@ fn publisher_damaged(words: &[u64], p: usize, readers: u64, slots: u64) -> bool
     }
     if place == 38 {
         return false;
+    }
+    if (place > 38) | (place == 36) {
+        return true;
     }
     walk.next >= readers
 }

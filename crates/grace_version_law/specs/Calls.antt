@@ -10,6 +10,7 @@ use borrow.Author.Tests.{eq-eqb, ne-eqb, eqb-true, eqb-false, ltb-false, lt-leb,
 use Rattle.calls.specs.declared.Call.the-variants.{Enter, Leave}
 use Rattle.calls.specs.declared.Reply.the-variants.{At, Left}
 use Rattle.calls.specs.declared.WalkReply.the-variants.{Waiting, Spent, Returned}
+use Rattle.calls.specs.Base.{pick}
 use Rattle.calls.specs.Rows.{anyTrue}
 use Rattle.calls.specs.RowLaws.{clash, and-false, or-false, or-none, all-false}
 use Rattle.layout.specs.declared.Reader.{Reader}
@@ -82,39 +83,43 @@ module _ (s : State) (clean : damaged rules s ≡ false) where
   leave-is v r x named is turn put =
       rw (put, is) (leave-accepted rules s clean r x named is turn)
 
-pub fourth : (n : ℕ) → n < 5 → n ≢ 0 → n ≢ 1 → n ≢ 2 → n ≢ 3 → n ≡ 4
-fourth zero l a b c d = absurd (a refl)
-fourth (suc zero) l a b c d = absurd (b refl)
-fourth (suc (suc zero)) l a b c d = absurd (c refl)
-fourth (suc (suc (suc zero))) l a b c d = absurd (d refl)
-fourth (suc (suc (suc (suc zero)))) l a b c d = refl
-fourth (suc (suc (suc (suc (suc n))))) l a b c d = absurd (omega arith)
+-- No place of ENTER's: 5 or beyond.
+pub past-enter : (n : ℕ) → n ≢ 0 → n ≢ 1 → n ≢ 2 → n ≢ 3 → n ≢ 4 → 5 ≤ n
+past-enter zero a b c d e = absurd (a refl)
+past-enter (suc zero) a b c d e = absurd (b refl)
+past-enter (suc (suc zero)) a b c d e = absurd (c refl)
+past-enter (suc (suc (suc zero))) a b c d e = absurd (d refl)
+past-enter (suc (suc (suc (suc zero)))) a b c d e = absurd (e refl)
+past-enter (suc (suc (suc (suc (suc n))))) a b c d e = omega arith
 
 -- A reader one place on, by its place.
 module _ (v cur : ℕ) (x : Reader) where
-  pub onward-loads : x .place ≡ 0 → record { place = x .place + 1; first = v; second = x .second; published = x .published; picked = x .picked } ≡ onward v cur x
+  pub onward-loads : (n : ℕ) → n ≡ v → x .place ≡ 0 → record { place = 1; first = n; second = x .second; published = x .published; picked = x .picked } ≡ onward v cur x
   unfolding onward
-  onward-loads e = rw e refl
+  onward-loads n d e = rw (d, e) refl
 
-  pub onward-publishes : x .place ≡ 1 → record { place = x .place + 1; first = x .first; second = x .second; published = x .first; picked = x .picked } ≡ onward v cur x
+  pub onward-publishes : x .place ≡ 1 → record { place = 2; first = x .first; second = x .second; published = x .first; picked = x .picked } ≡ onward v cur x
   unfolding onward
   onward-publishes e = rw e refl
 
-  pub onward-loads-again : x .place ≡ 2 → record { place = x .place + 1; first = x .first; second = v; published = x .published; picked = x .picked } ≡ onward v cur x
+  pub onward-loads-again : (n : ℕ) → n ≡ v → x .place ≡ 2 → record { place = 3; first = x .first; second = n; published = x .published; picked = x .picked } ≡ onward v cur x
   unfolding onward
-  onward-loads-again e = rw e refl
+  onward-loads-again n d e = rw (d, e) refl
 
-  pub onward-differs : x .place ≡ 3 → x .first ≢ x .second → record { place = x .place + 1; first = x .first; second = x .second; published = x .second; picked = x .picked } ≡ onward v cur x
+  -- Where the two versions are equal, the second is published already.
+  pub onward-publishes-second : x .place ≡ 3 → x .published ≡ x .first → record { place = 4; first = x .first; second = x .second; published = x .second; picked = x .picked } ≡ onward v cur x
   unfolding onward
-  onward-differs e ne = rw (e, ne-eqb (x .first) (x .second) ne) refl
+  onward-publishes-second e f = rw (e, f) (go (eqb (x .first) (x .second)) refl)
+    where
+      go : (b : Bool) → eqb (x .first) (x .second) ≡ b
+          → _≡_ {A = Reader} (record { place = 4; first = x .first; second = x .second; published = x .second; picked = x .picked })
+          (record { place = 4; first = x .first; second = x .second; published = pick b (x .first) (x .second); picked = x .picked })
+      go true d = rw (eqb-true (x .first) (x .second) d) refl
+      go false d = refl
 
-  pub onward-same : x .place ≡ 3 → x .first ≡ x .second → record { place = x .place + 1; first = x .first; second = x .second; published = x .published; picked = x .picked } ≡ onward v cur x
+  pub onward-picks : (n : ℕ) → n ≡ cur → x .place ≡ 4 → record { place = 5; first = x .first; second = x .second; published = x .published; picked = n } ≡ onward v cur x
   unfolding onward
-  onward-same e d = rw (e, eq-eqb (x .first) (x .second) d) refl
-
-  pub onward-picks : x .place ≡ 4 → record { place = x .place + 1; first = x .first; second = x .second; published = x .published; picked = cur } ≡ onward v cur x
-  unfolding onward
-  onward-picks e = rw e refl
+  onward-picks n d e = rw (d, e) refl
 
 -- How a walk's looks go, by the first: none left, not passed, the last reader passed, another passed.
 module _ (w : List ℕ) (n mark waits : ℕ) where

@@ -1,11 +1,17 @@
 // ENTER, LOOK and LEAVE of the new store, in place on the lent words. Each is total, and its contract is the step of grace_version_law.
 // It uses grace_version_damage, publication_entries and what lies below.
 ghost use mathlib.Core.Path.{_≡_};
+ghost use mathlib.Core.Bool.{false};
+ghost use mathlib.Core.List.{List};
 ghost use Prim.Native.Nat.{_<_};
+ghost use lib.IntN.{ℤ};
+ghost use lib.ListN.{length};
+ghost use Rattle.calls.specs.Numbers.{READERS-MAX};
 ghost use Rattle.calls.specs.declared.Call.the-variants.{Enter, Look, Leave};
+ghost use Rattle.layout.specs.Layout.{WORDS, readers};
 ghost use Rattle.statement.specs.Machine.{state, outcome};
-ghost use Rattle.publication_law.specs.Rules.{step};
-ghost use Rattle.grace_version_law.specs.Steps.{onward, rules};
+ghost use Rattle.publication_law.specs.Rules.{damaged, step};
+ghost use Rattle.grace_version_law.specs.Steps.{rules};
 use calls::DAMAGED;
 use calls::NO_SUCH_READER;
 use calls::NOT_READING;
@@ -15,7 +21,6 @@ use calls::Reply;
 use grace_version_damage::head_is_damaged;
 use grace_version_damage::publishers_are_damaged;
 use grace_version_damage::readers_are_damaged;
-use layout::Reader;
 use layout::current_of;
 use layout::put_reader;
 use layout::reader_at;
@@ -23,36 +28,46 @@ use layout::readers_of;
 use layout::version_of;
 use publication_entries::look_up;
 
-// A reader one place on. At 3 an undamaged store's reader has published the version that it loaded first.
-fn advanced(mut x: Reader, version: u64, current: u64) -> Reader
-    requires { ⌜ (x .place < 5) × (x .place ≡ 3 → x .published ≡ x .first) ⌝ }
-    ensures { λ y. ⌜ y ≡ onward version current x ⌝ }
+// ENTER of a reader that there is: 0 to 1 loads the version; 1 to 2 publishes it; 2 to 3 loads the version again; 3 to 4 publishes the second;
+// 4 to 5 picks the current slot. At 3 an undamaged store's reader has published the first: where the two are equal, nothing changes.
+fn advance(words: &mut [u64], r: usize) -> Reply
+    requires { ⌜ (length (now words) ≡ WORDS) × (r < readers (now words)) × (r < READERS-MAX) ⌝ }
+    ensures { λ a. ⌜ ((es : List ℤ) → damaged rules (state (now (words .entry)) es) ≡ false → outcome a (state (now (words .exit)) es) ≡ step rules (state (now (words .entry)) es) (Enter r)) ⌝ }
 {
+    let mut x = reader_at(words, r);
     let place = x.place;
-    x.place = place + 1;
     match place {
         0 => {
-            x.first = version;
-            x
+            x.place = 1;
+            x.first = version_of(words);
+            put_reader(words, r, x);
+            Reply::At(1)
         }
         1 => {
+            x.place = 2;
             x.published = x.first;
-            x
+            put_reader(words, r, x);
+            Reply::At(2)
         }
         2 => {
-            x.second = version;
-            x
+            x.place = 3;
+            x.second = version_of(words);
+            put_reader(words, r, x);
+            Reply::At(3)
         }
         3 => {
-            if x.first != x.second {
-                x.published = x.second;
-            }
-            x
+            x.place = 4;
+            x.published = x.second;
+            put_reader(words, r, x);
+            Reply::At(4)
         }
-        _ => {
-            x.picked = current;
-            x
+        4 => {
+            x.place = 5;
+            x.picked = current_of(words);
+            put_reader(words, r, x);
+            Reply::At(5)
         }
+        _ => Reply::Refused(READER_TURN),
     }
 }
 
@@ -69,14 +84,7 @@ pub fn enter(words: &mut [u64], entries: &[Pitch], r: u16) -> Reply
     if r as u64 >= readers_of(words) {
         return Reply::Refused(NO_SUCH_READER);
     }
-    let at = r as usize;
-    let x = reader_at(words, at);
-    if x.place >= 5 {
-        return Reply::Refused(READER_TURN);
-    }
-    let moved = advanced(x, version_of(words), current_of(words));
-    put_reader(words, at, moved);
-    Reply::At(moved.place)
+    advance(words, r as usize)
 }
 
 // LOOK r k (place 5): entry k of the picked slot.

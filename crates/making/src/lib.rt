@@ -58,7 +58,10 @@ pub fn head_damaged(words: &[u64], entries: usize, kind: u64, last: u64) -> bool
     if (slots < SLOTS_MIN as u64) | (slots > SLOTS_MAX as u64) {
         return true;
     }
-    if entries != (slots as usize) * TABLE {
+    if entries / TABLE != slots as usize {
+        return true;
+    }
+    if entries % TABLE != 0 {
         return true;
     }
     if current_of(words) >= slots {

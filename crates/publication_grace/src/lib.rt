@@ -20,6 +20,7 @@ use layout::Progress;
 use layout::Publisher;
 use layout::Walk;
 use layout::publisher_at;
+use layout::publisher_place;
 use layout::publishers_of;
 use layout::put_publisher;
 use layout::put_version;
@@ -34,8 +35,7 @@ pub fn start_sync(words: &mut [u64], p: u16, limit: u64) -> Reply
         return Reply::Refused(NO_SUCH_PUBLISHER);
     }
     let at = p as usize;
-    let mut y = publisher_at(words, at);
-    let place = y.place;
+    let place = publisher_place(words, at);
     match place {
         34 => {
             let version = version_of(words);
@@ -43,6 +43,7 @@ pub fn start_sync(words: &mut [u64], p: u16, limit: u64) -> Reply
                 return Reply::Refused(VERSION_IS_LAST);
             }
             let mark = std::num::wrapping_add_u64(version, 1);
+            let mut y = publisher_at(words, at);
             let walk = Walk {
                 mark: mark,
                 next: 0,

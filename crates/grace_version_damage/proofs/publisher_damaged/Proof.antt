@@ -28,19 +28,19 @@ returns-3 : tie.Need-returns-3
 returns-3 c = sym (publisher-early law (c .before .before .before .before .before .before .before .args .readers) (c .before .before .before .before .before .before .before .args .slots) (publisherAt (c .before .before .before .before .before .before .before .args .words .now) (c .before .before .before .before .before .before .before .args .p)) (rw (c .before .before .before .publisher-at .ensures) at (c .before .if2 .left)) (rw (c .before .before .before .before .before .publisher-place .ensures) at (c .if3 .taken)))
 
 returns-4 : tie.Need-returns-4
-returns-4 c = sym (own-spoils law (c .before .before .before .before .before .before .before .before .args .readers) (c .before .before .before .before .before .before .before .before .args .slots) (publisherAt (c .before .before .before .before .before .before .before .before .args .words .now) (c .before .before .before .before .before .before .before .before .args .p)) (no-such-place (c .before .before .before .before .before .before .before .before .args .readers) (publisherAt (c .before .before .before .before .before .before .before .before .args .words .now) (c .before .before .before .before .before .before .before .before .args .p)) (rw (c .before .before .before .before .before .before .publisher-place .ensures) at (c .if4 .taken))))
+returns-4 c = sym (wrong-mark law (c .before .before .before .before .before .before .before .before .before .before .before .args .readers) (c .before .before .before .before .before .before .before .before .before .before .before .args .slots) (publisherAt (c .before .before .before .before .before .before .before .before .before .before .before .args .words .now) (c .before .before .before .before .before .before .before .before .before .before .before .args .p)) (rw (c .before .before .before .before .before .before .before .before .before .publisher-place .ensures) at (c .before .before .before .before .if3 .left)) (rw (c .before .before .before .before .before .before .before .publisher-at .ensures) at (c .if4 .taken)))
 
 returns-5 : tie.Need-returns-5
-returns-5 c = sym (wrong-mark law (c .before .before .before .before .before .before .before .before .before .before .before .before .args .readers) (c .before .before .before .before .before .before .before .before .before .before .before .before .args .slots) (publisherAt (c .before .before .before .before .before .before .before .before .before .before .before .before .args .words .now) (c .before .before .before .before .before .before .before .before .before .before .before .before .args .p)) (rw (c .before .before .before .before .before .before .before .before .before .before .publisher-place .ensures) at (c .before .before .before .before .before .if3 .left)) (rw (c .before .before .before .before .before .before .before .before .publisher-at .ensures) at (c .if5 .taken)))
+returns-5 c = sym (more-waits law (c .before .before .before .before .before .before .before .before .before .before .before .before .before .args .readers) (c .before .before .before .before .before .before .before .before .before .before .before .before .before .args .slots) (publisherAt (c .before .before .before .before .before .before .before .before .before .before .before .before .before .args .words .now) (c .before .before .before .before .before .before .before .before .before .before .before .before .before .args .p)) (rw (c .before .before .before .before .before .before .before .before .before .before .before .publisher-place .ensures) at (c .before .before .before .before .before .before .if3 .left)) (rw (c .before .before .before .before .before .before .before .before .before .publisher-at .ensures) at (c .if5 .taken)))
 
 returns-6 : tie.Need-returns-6
-returns-6 c = sym (more-waits law (c .before .before .before .before .before .before .before .before .before .before .before .before .before .before .args .readers) (c .before .before .before .before .before .before .before .before .before .before .before .before .before .before .args .slots) (publisherAt (c .before .before .before .before .before .before .before .before .before .before .before .before .before .before .args .words .now) (c .before .before .before .before .before .before .before .before .before .before .before .before .before .before .args .p)) (rw (c .before .before .before .before .before .before .before .before .before .before .before .before .publisher-place .ensures) at (c .before .before .before .before .before .before .before .if3 .left)) (rw (c .before .before .before .before .before .before .before .before .before .before .publisher-at .ensures) at (c .if6 .taken)))
+returns-6 c = sym (own-decides law (c .before .before .before .before .before .before .before .before .before .before .before .before .before .before .args .readers) (c .before .before .before .before .before .before .before .before .before .before .before .before .before .before .args .slots) (publisherAt (c .before .before .before .before .before .before .before .before .before .before .before .before .before .before .args .words .now) (c .before .before .before .before .before .before .before .before .before .before .before .before .before .before .args .p)) (rw (c .before .before .before .before .before .before .before .before .before .before .publisher-at .ensures) at (c .before .before .before .before .before .before .before .before .if2 .left)) (rw (c .before .before .before .before .before .before .before .before .before .before .before .before .publisher-place .ensures) at (c .before .before .before .before .before .before .before .if3 .left)) (rw (c .before .before .before .before .before .before .before .before .before .before .publisher-at .ensures) at (c .before .before .before .if4 .left)) (rw (c .before .before .before .before .before .before .before .before .before .before .publisher-at .ensures) at (c .before .if5 .left)) ∙ own-returned (c .before .before .before .before .before .before .before .before .before .before .before .before .before .before .args .readers) (publisherAt (c .before .before .before .before .before .before .before .before .before .before .before .before .before .before .args .words .now) (c .before .before .before .before .before .before .before .before .before .before .before .before .before .before .args .p)) (rw (c .before .before .before .before .before .before .before .before .before .before .before .before .publisher-place .ensures) at (c .if6 .taken)))
 
 returns-7 : tie.Need-returns-7
-returns-7 c = sym (own-decides law (c .before .before .before .before .before .before .before .before .before .before .before .before .before .before .before .args .readers) (c .before .before .before .before .before .before .before .before .before .before .before .before .before .before .before .args .slots) (publisherAt (c .before .before .before .before .before .before .before .before .before .before .before .before .before .before .before .args .words .now) (c .before .before .before .before .before .before .before .before .before .before .before .before .before .before .before .args .p)) (rw (c .before .before .before .before .before .before .before .before .before .before .before .publisher-at .ensures) at (c .before .before .before .before .before .before .before .before .before .if2 .left)) (rw (c .before .before .before .before .before .before .before .before .before .before .before .before .before .publisher-place .ensures) at (c .before .before .before .before .before .before .before .before .if3 .left)) (rw (c .before .before .before .before .before .before .before .before .before .before .before .publisher-at .ensures) at (c .before .before .before .if5 .left)) (rw (c .before .before .before .before .before .before .before .before .before .before .before .publisher-at .ensures) at (c .before .if6 .left)) ∙ own-returned (c .before .before .before .before .before .before .before .before .before .before .before .before .before .before .before .args .readers) (publisherAt (c .before .before .before .before .before .before .before .before .before .before .before .before .before .before .before .args .words .now) (c .before .before .before .before .before .before .before .before .before .before .before .before .before .before .before .args .p)) (rw (c .before .before .before .before .before .before .before .before .before .before .before .before .before .publisher-place .ensures) at (c .if7 .taken)))
+returns-7 c = sym (own-spoils law (c .before .before .before .before .before .before .before .before .before .before .before .before .before .before .before .args .readers) (c .before .before .before .before .before .before .before .before .before .before .before .before .before .before .before .args .slots) (publisherAt (c .before .before .before .before .before .before .before .before .before .before .before .before .before .before .before .args .words .now) (c .before .before .before .before .before .before .before .before .before .before .before .before .before .before .before .args .p)) (no-such-place (c .before .before .before .before .before .before .before .before .before .before .before .before .before .before .before .args .readers) (publisherAt (c .before .before .before .before .before .before .before .before .before .before .before .before .before .before .before .args .words .now) (c .before .before .before .before .before .before .before .before .before .before .before .before .before .before .before .args .p)) (rw (c .before .before .before .before .before .before .before .before .before .before .before .before .before .publisher-place .ensures) at (c .if7 .taken))))
 
 returns-8 : tie.Need-returns-8
-returns-8 c = rw (c .before .before .before .before .before .before .before .before .before .before .before .before .publisher-at .ensures) (sym (own-decides law (c .before .before .before .before .before .before .before .before .before .before .before .before .before .before .before .before .args .readers) (c .before .before .before .before .before .before .before .before .before .before .before .before .before .before .before .before .args .slots) (publisherAt (c .before .before .before .before .before .before .before .before .before .before .before .before .before .before .before .before .args .words .now) (c .before .before .before .before .before .before .before .before .before .before .before .before .before .before .before .before .args .p)) (rw (c .before .before .before .before .before .before .before .before .before .before .before .before .publisher-at .ensures) at (c .before .before .before .before .before .before .before .before .before .before .if2 .left)) (rw (c .before .before .before .before .before .before .before .before .before .before .before .before .before .before .publisher-place .ensures) at (c .before .before .before .before .before .before .before .before .before .if3 .left)) (rw (c .before .before .before .before .before .before .before .before .before .before .before .before .publisher-at .ensures) at (c .before .before .before .before .if5 .left)) (rw (c .before .before .before .before .before .before .before .before .before .before .before .before .publisher-at .ensures) at (c .before .before .if6 .left)) ∙ own-walking (c .before .before .before .before .before .before .before .before .before .before .before .before .before .before .before .before .args .readers) (publisherAt (c .before .before .before .before .before .before .before .before .before .before .before .before .before .before .before .before .args .words .now) (c .before .before .before .before .before .before .before .before .before .before .before .before .before .before .before .before .args .p)) (rw (c .before .before .before .before .before .before .before .before .before .before .before .before .before .before .publisher-place .ensures) at (c .before .before .before .before .before .before .before .before .before .if3 .left)) (rw (c .before .before .before .before .before .before .before .before .before .before .before .before .before .before .publisher-place .ensures) at (c .before .before .before .before .before .before .before .before .if4 .left)) (rw (c .before .before .before .before .before .before .before .before .before .before .before .before .before .before .publisher-place .ensures) at (c .before .if7 .left))))
+returns-8 c = rw (c .before .before .before .before .before .before .before .before .before .before .before .before .publisher-at .ensures) (sym (own-decides law (c .before .before .before .before .before .before .before .before .before .before .before .before .before .before .before .before .args .readers) (c .before .before .before .before .before .before .before .before .before .before .before .before .before .before .before .before .args .slots) (publisherAt (c .before .before .before .before .before .before .before .before .before .before .before .before .before .before .before .before .args .words .now) (c .before .before .before .before .before .before .before .before .before .before .before .before .before .before .before .before .args .p)) (rw (c .before .before .before .before .before .before .before .before .before .before .before .before .publisher-at .ensures) at (c .before .before .before .before .before .before .before .before .before .before .if2 .left)) (rw (c .before .before .before .before .before .before .before .before .before .before .before .before .before .before .publisher-place .ensures) at (c .before .before .before .before .before .before .before .before .before .if3 .left)) (rw (c .before .before .before .before .before .before .before .before .before .before .before .before .publisher-at .ensures) at (c .before .before .before .before .before .if4 .left)) (rw (c .before .before .before .before .before .before .before .before .before .before .before .before .publisher-at .ensures) at (c .before .before .before .if5 .left)) ∙ own-walking (c .before .before .before .before .before .before .before .before .before .before .before .before .before .before .before .before .args .readers) (publisherAt (c .before .before .before .before .before .before .before .before .before .before .before .before .before .before .before .before .args .words .now) (c .before .before .before .before .before .before .before .before .before .before .before .before .before .before .before .before .args .p)) (rw (c .before .before .before .before .before .before .before .before .before .before .before .before .before .before .publisher-place .ensures) at (c .before .before .before .before .before .before .before .before .before .if3 .left)) (rw (c .before .before .before .before .before .before .before .before .before .before .before .before .before .before .publisher-place .ensures) at (c .before .if7 .left)) (rw (c .before .before .before .before .before .before .before .before .before .before .before .before .before .before .publisher-place .ensures) at (c .before .before .if6 .left))))
 
 pub publisher-damaged-spec : {M : Type 1} → statement M
 publisher-damaged-spec =

@@ -1,4 +1,4 @@
--- `rahuvyte_make` meets its contract: the step of kinds, its reply as numbers. Assumes nothing.
+-- `rahuvyte_make` meets its contract: the making of kinds, its reply as numbers. Assumes nothing.
 use borrow.Author.Needs.{needs}
 use Rattle.kinds_law.specs.Answered.{answered}
 use Rattle.rahuvyte.proofs.rahuvyte_make.Statement.{statement}

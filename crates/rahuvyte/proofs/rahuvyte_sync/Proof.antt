@@ -1,12 +1,28 @@
--- `rahuvyte_sync` meets its contract: the step of kinds, its reply as numbers. Assumes nothing.
+-- `rahuvyte_sync` meets its contract: the kind's own step, told by the kind word, its reply as numbers. Assumes nothing.
 use borrow.Author.Needs.{needs}
+use mathlib.Core.Path.{sym, _∙_}
+use Rattle.calls.specs.declared.Call.the-variants.{Sync}
+use Rattle.calls.specs.declared.Reply.the-variants.{Refused}
+use Rattle.calls.specs.Numbers.{DAMAGED}
+use Rattle.kinds_law.specs.Calls.{step-new, step-old, step-unknown, step-length}
 use Rattle.kinds_law.specs.Answered.{answered}
 use Rattle.rahuvyte.proofs.rahuvyte_sync.Statement.{statement}
 use Rattle.rahuvyte.proofs.rahuvyte_sync.Tie as tie
 use Rattle.rahuvyte.proofs.rahuvyte_sync.Reads as reads
 use Rattle.rahuvyte.proofs.rahuvyte_sync.Lts as lts
-use Rattle.kinds.proofs.sync.Reads as sync-reads
+use Rattle.grace_version_versions.proofs.sync.Reads as sync-reads
+use Rattle.layout.proofs.kind_of.Reads as kind-of-reads
 use Rattle.rahuvyte.proofs.answer_of.Reads as answer-of-reads
+use Rattle.rahuvyte.proofs.numbers.Reads as numbers-reads
+
+numbers-requires : tie.Need-numbers-requires
+numbers-requires c κs = search needs
+
+returns : tie.Need-returns
+returns c = answered _ (Refused DAMAGED) _ _ (c .numbers .ensures) (step-length _ (Sync _) (c .before .if1 .taken))
+
+kind-of-requires : tie.Need-kind-of-requires
+kind-of-requires c κs = search needs
 
 sync-requires : tie.Need-sync-requires
 sync-requires c κs = search needs
@@ -14,11 +30,48 @@ sync-requires c κs = search needs
 answer-of-requires : tie.Need-answer-of-requires
 answer-of-requires c κs = search needs
 
+sync-requires-2 : tie.Need-sync-requires-2
+sync-requires-2 c κs = search needs
+
+answer-of-requires-2 : tie.Need-answer-of-requires-2
+answer-of-requires-2 c κs = search needs
+
+numbers-requires-2 : tie.Need-numbers-requires-2
+numbers-requires-2 c κs = search needs
+
 same-length : tie.Need-same-length
 same-length c = search needs
 
-returns : tie.Need-returns
-returns c = answered _ _ _ _ (c .answer-of .ensures) (c .before .before .before .sync .ensures)
+returns-2 : tie.Need-returns-2
+returns-2 c = answered _ _ _ _ (c .answer-of .ensures) (c .before .before .before .sync .ensures ∙ step-new _ (Sync _) (sym (c .before .before .before .before .before .before .kind-of .ensures) ∙ c .before .before .before .before .before .match .keys1))
+
+same-length-2 : tie.Need-same-length-2
+same-length-2 c = search needs
+
+returns-3 : tie.Need-returns-3
+returns-3 c = answered _ _ _ _ (c .answer-of2 .ensures) (c .before .before .before .sync2 .ensures ∙ step-old _ (Sync _) (sym (c .before .before .before .before .before .before .kind-of .ensures) ∙ c .before .before .before .before .before .match .keys2))
+
+same-length-3 : tie.Need-same-length-3
+same-length-3 c = search needs
+
+returns-4 : tie.Need-returns-4
+returns-4 c = answered _ (Refused DAMAGED) _ _ (c .numbers2 .ensures) (step-unknown _ (Sync _) (λ e. c .before .match .rest .0 .1 (c .before .before .kind-of .ensures ∙ e)) (λ e. c .before .match .rest .1 (c .before .before .kind-of .ensures ∙ e)))
 
 pub rahuvyte-sync-spec : {M : Type 1} → statement M
-rahuvyte-sync-spec = tie.close (tie.spec sync-requires answer-of-requires same-length returns)
+rahuvyte-sync-spec =
+    tie.close
+    (tie.spec
+    numbers-requires
+    returns
+    kind-of-requires
+    sync-requires
+    answer-of-requires
+    sync-requires-2
+    answer-of-requires-2
+    numbers-requires-2
+    same-length
+    returns-2
+    same-length-2
+    returns-3
+    same-length-3
+    returns-4)

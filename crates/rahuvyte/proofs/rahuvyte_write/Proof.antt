@@ -1,13 +1,29 @@
--- `rahuvyte_write` meets its contract: the step of kinds, its reply as numbers. Assumes nothing.
+-- `rahuvyte_write` meets its contract: the kind's own step, told by the kind word, its reply as numbers. Assumes nothing.
 use borrow.Author.Needs.{needs}
-use mir.ValLaws.{toZ-ofZ}
+use mathlib.Core.Path.{sym, _∙_}
+use Rattle.calls.specs.declared.Call.the-variants.{Write}
+use Rattle.calls.specs.declared.Reply.the-variants.{Refused}
+use Rattle.calls.specs.Numbers.{DAMAGED}
+use Rattle.kinds_law.specs.Calls.{step-new, step-old, step-unknown, step-length}
 use Rattle.kinds_law.specs.Answered.{answered}
+use mir.ValLaws.{toZ-ofZ}
 use Rattle.rahuvyte.proofs.rahuvyte_write.Statement.{statement}
 use Rattle.rahuvyte.proofs.rahuvyte_write.Tie as tie
 use Rattle.rahuvyte.proofs.rahuvyte_write.Reads as reads
 use Rattle.rahuvyte.proofs.rahuvyte_write.Lts as lts
-use Rattle.kinds.proofs.write.Reads as write-reads
+use Rattle.grace_version_publishers.proofs.write.Reads as write-reads
+use Rattle.layout.proofs.kind_of.Reads as kind-of-reads
 use Rattle.rahuvyte.proofs.answer_of.Reads as answer-of-reads
+use Rattle.rahuvyte.proofs.numbers.Reads as numbers-reads
+
+numbers-requires : tie.Need-numbers-requires
+numbers-requires c κs = search needs
+
+returns : tie.Need-returns
+returns c = answered _ (Refused DAMAGED) _ _ (c .numbers .ensures) (step-length _ (Write _ _) (c .before .if1 .taken))
+
+kind-of-requires : tie.Need-kind-of-requires
+kind-of-requires c κs = search needs
 
 write-requires : tie.Need-write-requires
 write-requires c κs = search needs
@@ -15,15 +31,56 @@ write-requires c κs = search needs
 answer-of-requires : tie.Need-answer-of-requires
 answer-of-requires c κs = search needs
 
+write-requires-2 : tie.Need-write-requires-2
+write-requires-2 c κs = search needs
+
+answer-of-requires-2 : tie.Need-answer-of-requires-2
+answer-of-requires-2 c κs = search needs
+
+numbers-requires-2 : tie.Need-numbers-requires-2
+numbers-requires-2 c κs = search needs
+
 same-length : tie.Need-same-length
 same-length c = search needs
 
 same-length-2 : tie.Need-same-length-2
 same-length-2 c = search needs
 
-returns : tie.Need-returns
-returns c = answered _ _ _ _ (c .answer-of .ensures) (simp (toZ-ofZ _ _ (c .before .before .before .before .before .before .before .before .fits .v)) at (c .before .before .before .before .write .ensures))
+returns-2 : tie.Need-returns-2
+returns-2 c = answered _ _ _ _ (c .answer-of .ensures) ((simp (toZ-ofZ _ _ (c .before .before .before .before .before .before .before .before .before .before .before .before .fits .v)) at (c .before .before .before .before .write .ensures)) ∙ step-new _ (Write _ _) (sym (c .before .before .before .before .before .before .before .before .kind-of .ensures) ∙ c .before .before .before .before .before .before .before .match .keys1))
+
+same-length-3 : tie.Need-same-length-3
+same-length-3 c = search needs
+
+same-length-4 : tie.Need-same-length-4
+same-length-4 c = search needs
+
+returns-3 : tie.Need-returns-3
+returns-3 c = answered _ _ _ _ (c .answer-of2 .ensures) ((simp (toZ-ofZ _ _ (c .before .before .before .before .before .before .before .before .before .before .before .before .fits .v)) at (c .before .before .before .before .write2 .ensures)) ∙ step-old _ (Write _ _) (sym (c .before .before .before .before .before .before .before .before .kind-of .ensures) ∙ c .before .before .before .before .before .before .before .match .keys2))
+
+same-length-5 : tie.Need-same-length-5
+same-length-5 c = search needs
+
+returns-4 : tie.Need-returns-4
+returns-4 c = answered _ (Refused DAMAGED) _ _ (c .numbers2 .ensures) (step-unknown _ (Write _ _) (λ e. c .before .match .rest .0 .1 (c .before .before .kind-of .ensures ∙ e)) (λ e. c .before .match .rest .1 (c .before .before .kind-of .ensures ∙ e)))
 
 pub rahuvyte-write-spec : {M : Type 1} → statement M
 rahuvyte-write-spec =
-    tie.close (tie.spec write-requires answer-of-requires same-length same-length-2 returns)
+    tie.close
+    (tie.spec
+    numbers-requires
+    returns
+    kind-of-requires
+    write-requires
+    answer-of-requires
+    write-requires-2
+    answer-of-requires-2
+    numbers-requires-2
+    same-length
+    same-length-2
+    returns-2
+    same-length-3
+    same-length-4
+    returns-3
+    same-length-5
+    returns-4)
