@@ -52,10 +52,8 @@ typedef int16_t rahuvyte_pitch;
 #define RAHUVYTE_TABLE 32
 #define RAHUVYTE_ENTRIES(slots) ((size_t)(slots) * RAHUVYTE_TABLE)
 
-/* The sizes that a store can be made with. */
-#define RAHUVYTE_READERS_MIN 1
+/* The sizes that a store can be made with: 1 reader and 1 publisher at least. */
 #define RAHUVYTE_READERS_MAX 64
-#define RAHUVYTE_PUBLISHERS_MIN 1
 #define RAHUVYTE_PUBLISHERS_MAX 16
 #define RAHUVYTE_SLOTS_MIN 2
 #define RAHUVYTE_SLOTS_MAX 32
@@ -101,7 +99,7 @@ enum {
 
 /* The numbers of refusals, below 100. A refused call has changed nothing. */
 enum {
-    RAHUVYTE_DAMAGED = 1,            /* no store: wrong length, unknown kind, or numbers out of range */
+    RAHUVYTE_DAMAGED = 1,            /* no store: store_len is not 425, unknown kind; not at making: wrong entries_len, numbers out of range */
     RAHUVYTE_BAD_READERS = 2,        /* making: readers not 1 to 64 */
     RAHUVYTE_BAD_PUBLISHERS = 3,     /* making: publishers not 1 to 16 */
     RAHUVYTE_BAD_SLOTS = 4,          /* making: slots not 2 to 32 */

@@ -18,7 +18,7 @@ static bool looked_up(uint16_t kind)
     return rahuvyte_accepted(reply) && rahuvyte_pitch_of(reply) == RAHUVYTE_FEATHERED;
 }
 
-// The pitches at the ends, as a reply has them.
+// Every pitch, as a reply has them.
 static bool pitches_restored()
 {
     for (int v = -32768; v <= 32767; v++) {

@@ -91,13 +91,18 @@ static void expect(uint64_t code, enum word w, uint16_t a, uint16_t b)
     const size_t again = taken(0x5a);
     if (again > bytes)
         bytes = again;
+    /* The return address alone is 8 bytes: less means that nothing was measured. */
+    if (bytes < 8) {
+        fprintf(stderr, "stack: no stack was seen under %s\n", names[w]);
+        exit(1);
+    }
     if (reply.code != code) {
         fprintf(stderr, "stack: %s %u %u replies %llu, not %llu\n", names[w], a, b, (unsigned long long)reply.code, (unsigned long long)code);
         exit(1);
     }
-    size_t *least = &most[w][rahuvyte_accepted(reply) ? 0 : 1];
-    if (bytes > *least)
-        *least = bytes;
+    size_t *deepest = &most[w][rahuvyte_accepted(reply) ? 0 : 1];
+    if (bytes > *deepest)
+        *deepest = bytes;
 }
 
 /* All readers go in and look; some calls out of turn. */

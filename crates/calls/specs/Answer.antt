@@ -6,7 +6,7 @@ use Rattle.calls.specs.declared.Reply.{Reply}
 use Rattle.calls.specs.declared.Reply.the-variants.{Made, At, Pitch, Left, Claimed, Written, Swapped, Synced, Raised, Shared, Walked, Freed, Refused}
 use Rattle.calls.specs.declared.WalkReply.{WalkReply}
 use Rattle.calls.specs.declared.WalkReply.the-variants.{Waiting, Spent, Quiet, Returned}
-use Rattle.calls.specs.Numbers.{NUMBER-MAX}
+use Rattle.calls.specs.Numbers.{NUMBER-MAX, CODE-MADE, CODE-AT, CODE-PITCH, CODE-LEFT, CODE-CLAIMED, CODE-WRITTEN, CODE-SWAPPED, CODE-SYNCED, CODE-RAISED, CODE-SHARED, CODE-WAITING, CODE-SPENT, CODE-QUIET, CODE-RETURNED, CODE-FREED}
 
 abbrev pub answer : ℕ → ℕ → ℕ → Answer
 answer c a b = record { code = c; first = a; second = b }
@@ -18,23 +18,23 @@ pitchNumber (negsuc n) = NUMBER-MAX - n
 
 -- An accepted reply has 100 and up, in document 01's order of replies.
 abbrev pub walkAnswer : WalkReply → Answer
-walkAnswer (Waiting w) = answer 110 w 0
-walkAnswer Spent = answer 111 0 0
-walkAnswer Quiet = answer 112 0 0
-walkAnswer (Returned l w) = answer 113 l w
+walkAnswer (Waiting w) = answer CODE-WAITING w 0
+walkAnswer Spent = answer CODE-SPENT 0 0
+walkAnswer Quiet = answer CODE-QUIET 0 0
+walkAnswer (Returned l w) = answer CODE-RETURNED l w
 
 abbrev pub answerOf : Reply → Answer
-answerOf Made = answer 100 0 0
-answerOf (At n) = answer 101 n 0
-answerOf (Pitch v) = answer 102 (pitchNumber v) 0
-answerOf Left = answer 103 0 0
-answerOf (Claimed s) = answer 104 s 0
-answerOf (Written n) = answer 105 n 0
-answerOf (Swapped s) = answer 106 s 0
-answerOf (Synced m) = answer 107 m 0
-answerOf Raised = answer 108 0 0
-answerOf Shared = answer 109 0 0
+answerOf Made = answer CODE-MADE 0 0
+answerOf (At n) = answer CODE-AT n 0
+answerOf (Pitch v) = answer CODE-PITCH (pitchNumber v) 0
+answerOf Left = answer CODE-LEFT 0 0
+answerOf (Claimed s) = answer CODE-CLAIMED s 0
+answerOf (Written n) = answer CODE-WRITTEN n 0
+answerOf (Swapped s) = answer CODE-SWAPPED s 0
+answerOf (Synced m) = answer CODE-SYNCED m 0
+answerOf Raised = answer CODE-RAISED 0 0
+answerOf Shared = answer CODE-SHARED 0 0
 answerOf (Walked o) = walkAnswer o
-answerOf (Freed s n) = answer 114 s n
+answerOf (Freed s n) = answer CODE-FREED s n
 -- A refusal has its number.
 answerOf (Refused n) = answer n 0 0

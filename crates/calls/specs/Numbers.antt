@@ -97,3 +97,49 @@ VERSION-IS-LAST = 32
 
 abbrev pub TOO-MANY-LOOKS : ℕ
 TOO-MANY-LOOKS = 33
+
+-- The codes of accepted replies for C, in document 01's order of replies.
+abbrev pub CODE-MADE : ℕ
+CODE-MADE = 100
+
+abbrev pub CODE-AT : ℕ
+CODE-AT = 101
+
+abbrev pub CODE-PITCH : ℕ
+CODE-PITCH = 102
+
+abbrev pub CODE-LEFT : ℕ
+CODE-LEFT = 103
+
+abbrev pub CODE-CLAIMED : ℕ
+CODE-CLAIMED = 104
+
+abbrev pub CODE-WRITTEN : ℕ
+CODE-WRITTEN = 105
+
+abbrev pub CODE-SWAPPED : ℕ
+CODE-SWAPPED = 106
+
+abbrev pub CODE-SYNCED : ℕ
+CODE-SYNCED = 107
+
+abbrev pub CODE-RAISED : ℕ
+CODE-RAISED = 108
+
+abbrev pub CODE-SHARED : ℕ
+CODE-SHARED = 109
+
+abbrev pub CODE-WAITING : ℕ
+CODE-WAITING = 110
+
+abbrev pub CODE-SPENT : ℕ
+CODE-SPENT = 111
+
+abbrev pub CODE-QUIET : ℕ
+CODE-QUIET = 112
+
+abbrev pub CODE-RETURNED : ℕ
+CODE-RETURNED = 113
+
+abbrev pub CODE-FREED : ℕ
+CODE-FREED = 114

@@ -68,6 +68,37 @@ pub const VERSION_IS_LAST: u64 = 32;
 
 pub const TOO_MANY_LOOKS: u64 = 33;
 
+// The codes of accepted replies for C, in document 01's order of replies.
+pub const CODE_MADE: u64 = 100;
+
+pub const CODE_AT: u64 = 101;
+
+pub const CODE_PITCH: u64 = 102;
+
+pub const CODE_LEFT: u64 = 103;
+
+pub const CODE_CLAIMED: u64 = 104;
+
+pub const CODE_WRITTEN: u64 = 105;
+
+pub const CODE_SWAPPED: u64 = 106;
+
+pub const CODE_SYNCED: u64 = 107;
+
+pub const CODE_RAISED: u64 = 108;
+
+pub const CODE_SHARED: u64 = 109;
+
+pub const CODE_WAITING: u64 = 110;
+
+pub const CODE_SPENT: u64 = 111;
+
+pub const CODE_QUIET: u64 = 112;
+
+pub const CODE_RETURNED: u64 = 113;
+
+pub const CODE_FREED: u64 = 114;
+
 // Reader calls name a reader r, publisher calls a publisher p.
 pub enum Call {
     Enter(u16),

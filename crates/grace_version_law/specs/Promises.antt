@@ -1,6 +1,6 @@
 -- The theorems about the new store. Assumes nothing.
 use Prim.Native.Nat.{ℕ, suc, _+_, _<_, _≤_}
-use mathlib.Core.Path.{_≡_, refl, sym, ap, _∙_, subst}
+use mathlib.Core.Path.{_≡_, refl, sym, subst}
 use mathlib.Core.Logic.{_≢_}
 use mathlib.Core.Bool.{Bool, true, false, not}
 use mathlib.Core.List.{List, [], _∷_}
@@ -19,7 +19,6 @@ use Rattle.calls.specs.RowLaws.{clash}
 use Rattle.calls.specs.AnswerLaws.{NarrowPitch, Proper}
 use Rattle.calls.specs.Events.{accepted}
 use Rattle.calls.specs.Model.{firstTable}
-use Rattle.layout.specs.declared.Publisher.{Publisher}
 use Rattle.layout.specs.declared.Progress.{Progress}
 use Rattle.layout.specs.Layout.{readers, publishers, slots}
 use Rattle.statement.specs.Machine.{State, Outcome, Given, Fresh, afterAll}

@@ -1,6 +1,6 @@
 // The C library: making and the ten calls for a store of any kind as functions of C over lent slices, the reply three numbers by value.
 // A slice is a pointer and a length. Each function is total, and its contract is the step (or the making) of kinds_law, through `answerOf`.
-// A call goes by the kind word here, as in kinds, and not through it: a reply that becomes numbers in its own kind's branch costs 12 to 20 instructions less.
+// A call goes by the kind word here, as in kinds, and not through it; docs/DECISIONS.md says why.
 // It uses kinds, the kinds' calls and what lies below.
 ghost use mathlib.Core.Path.{_≡_};
 ghost use Prim.Native.Nat.{_<_};
@@ -10,7 +10,7 @@ ghost use Rattle.calls.specs.declared.Call.the-variants.{Enter, Look, Leave, Cl
 ghost use Rattle.statement.specs.Machine.{state, given};
 ghost use Rattle.kinds_law.specs.Kinds.{anyStep, anyMaking};
 ghost use Rattle.kinds_law.specs.Answered.{Answered};
-ghost use Rattle.rahuvyte.specs.Numbers.{limits, refusals, numberOf};
+ghost use Rattle.rahuvyte.specs.Numbers.{limits, refusals, codes, numberOf};
 use calls::Answer;
 use calls::BAD_ENTRIES;
 use calls::BAD_PITCH;
@@ -19,6 +19,21 @@ use calls::BAD_READERS;
 use calls::BAD_SLOTS;
 use calls::BAD_VERSION;
 use calls::BUSY;
+use calls::CODE_AT;
+use calls::CODE_CLAIMED;
+use calls::CODE_FREED;
+use calls::CODE_LEFT;
+use calls::CODE_MADE;
+use calls::CODE_PITCH;
+use calls::CODE_QUIET;
+use calls::CODE_RAISED;
+use calls::CODE_RETURNED;
+use calls::CODE_SHARED;
+use calls::CODE_SPENT;
+use calls::CODE_SWAPPED;
+use calls::CODE_SYNCED;
+use calls::CODE_WAITING;
+use calls::CODE_WRITTEN;
 use calls::DAMAGED;
 use calls::FEATHERED;
 use calls::KIND_NEW;
@@ -73,10 +88,10 @@ fn walk_answer(reply: WalkReply) -> Answer
     ensures { λ a. ⌜ a ≡ walkAnswer reply ⌝ }
 {
     match reply {
-        WalkReply::Waiting(w) => numbers(110, w, 0),
-        WalkReply::Spent => numbers(111, 0, 0),
-        WalkReply::Quiet => numbers(112, 0, 0),
-        WalkReply::Returned(l, w) => numbers(113, l, w),
+        WalkReply::Waiting(w) => numbers(CODE_WAITING, w, 0),
+        WalkReply::Spent => numbers(CODE_SPENT, 0, 0),
+        WalkReply::Quiet => numbers(CODE_QUIET, 0, 0),
+        WalkReply::Returned(l, w) => numbers(CODE_RETURNED, l, w),
     }
 }
 
@@ -85,18 +100,18 @@ fn answer_of(reply: Reply) -> Answer
     ensures { λ a. ⌜ a ≡ answerOf reply ⌝ }
 {
     match reply {
-        Reply::Made => numbers(100, 0, 0),
-        Reply::At(n) => numbers(101, n, 0),
-        Reply::Pitch(v) => numbers(102, pitch_number(v), 0),
-        Reply::Left => numbers(103, 0, 0),
-        Reply::Claimed(s) => numbers(104, s, 0),
-        Reply::Written(n) => numbers(105, n, 0),
-        Reply::Swapped(s) => numbers(106, s, 0),
-        Reply::Synced(m) => numbers(107, m, 0),
-        Reply::Raised => numbers(108, 0, 0),
-        Reply::Shared => numbers(109, 0, 0),
+        Reply::Made => numbers(CODE_MADE, 0, 0),
+        Reply::At(n) => numbers(CODE_AT, n, 0),
+        Reply::Pitch(v) => numbers(CODE_PITCH, pitch_number(v), 0),
+        Reply::Left => numbers(CODE_LEFT, 0, 0),
+        Reply::Claimed(s) => numbers(CODE_CLAIMED, s, 0),
+        Reply::Written(n) => numbers(CODE_WRITTEN, n, 0),
+        Reply::Swapped(s) => numbers(CODE_SWAPPED, s, 0),
+        Reply::Synced(m) => numbers(CODE_SYNCED, m, 0),
+        Reply::Raised => numbers(CODE_RAISED, 0, 0),
+        Reply::Shared => numbers(CODE_SHARED, 0, 0),
         Reply::Walked(o) => walk_answer(o),
-        Reply::Freed(s, n) => numbers(114, s, n),
+        Reply::Freed(s, n) => numbers(CODE_FREED, s, n),
         Reply::Refused(n) => numbers(n, 0, 0),
     }
 }
@@ -155,6 +170,31 @@ fn refusal(which: usize) -> u64
     numbers[which]
 }
 
+// The codes of the replies.
+fn code(which: usize) -> u64
+    requires { ⌜ which < 15 ⌝ }
+    ensures { λ n. ⌜ n ≡ getD codes which 0 ⌝ }
+{
+    let numbers = [
+        CODE_MADE,
+        CODE_AT,
+        CODE_PITCH,
+        CODE_LEFT,
+        CODE_CLAIMED,
+        CODE_WRITTEN,
+        CODE_SWAPPED,
+        CODE_SYNCED,
+        CODE_RAISED,
+        CODE_SHARED,
+        CODE_WAITING,
+        CODE_SPENT,
+        CODE_QUIET,
+        CODE_RETURNED,
+        CODE_FREED,
+    ];
+    numbers[which]
+}
+
 // The numbers that the header names, one after another, so that a test can compare them; past the last 0.
 #[no_mangle]
 pub extern "C" fn rahuvyte_number(which: u16) -> u64
@@ -167,7 +207,7 @@ pub extern "C" fn rahuvyte_number(which: u16) -> u64
         return refusal(which as usize - 14);
     }
     if which < 46 {
-        return 100 + (which as u64 - 31);
+        return code(which as usize - 31);
     }
     0
 }

@@ -88,10 +88,10 @@ impl Demand3 {
     }
 
     fn names_known(&self, call: &Call) -> Result<(), String> {
-        let reader = call.reader().is_none_or(|r| u64::from(r) < self.readers);
+        let reader = call.reader().map_or(true, |r| u64::from(r) < self.readers);
         let publisher = call
             .publisher()
-            .is_none_or(|p| u64::from(p) < self.publishers);
+            .map_or(true, |p| u64::from(p) < self.publishers);
         if reader && publisher {
             Ok(())
         } else {

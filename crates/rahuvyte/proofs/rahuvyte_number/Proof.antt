@@ -6,6 +6,7 @@ use Rattle.rahuvyte.proofs.rahuvyte_number.Statement.{statement}
 use Rattle.rahuvyte.proofs.rahuvyte_number.Tie as tie
 use Rattle.rahuvyte.proofs.rahuvyte_number.Reads as reads
 use Rattle.rahuvyte.proofs.rahuvyte_number.Lts as lts
+use Rattle.rahuvyte.proofs.code.Reads as code-reads
 use Rattle.rahuvyte.proofs.limit.Reads as limit-reads
 use Rattle.rahuvyte.proofs.refusal.Reads as refusal-reads
 
@@ -24,14 +25,14 @@ refusal-requires c κs = search needs
 returns-2 : tie.Need-returns-2
 returns-2 c = c .refusal .ensures ∙ rw (le-ltb (c .before .before .before .args .which) 14 (c .before .before .if1 .left), lt-ltb (c .before .before .before .args .which) 31 (c .before .if2 .taken)) refl
 
-sub-result : tie.Need-sub-result
-sub-result c = search needs
+sub-code : tie.Need-sub-code
+sub-code c = search needs
 
-add-result : tie.Need-add-result
-add-result c = search needs
+code-requires : tie.Need-code-requires
+code-requires c κs = search needs
 
 returns-3 : tie.Need-returns-3
-returns-3 c = rw (le-ltb (c .before .before .before .args .which) 14 (c .before .before .if1 .left), le-ltb (c .before .before .before .args .which) 31 (c .before .if2 .left), lt-ltb (c .before .before .before .args .which) 46 (c .if3 .taken)) refl
+returns-3 c = c .code .ensures ∙ rw (le-ltb (c .before .before .before .before .args .which) 14 (c .before .before .before .if1 .left), le-ltb (c .before .before .before .before .args .which) 31 (c .before .before .if2 .left), lt-ltb (c .before .before .before .before .args .which) 46 (c .before .if3 .taken)) refl
 
 returns-4 : tie.Need-returns-4
 returns-4 c = rw (le-ltb (c .before .before .before .args .which) 14 (c .before .before .if1 .left), le-ltb (c .before .before .before .args .which) 31 (c .before .if2 .left), le-ltb (c .before .before .before .args .which) 46 (c .if3 .left)) refl
@@ -45,7 +46,7 @@ rahuvyte-number-spec =
     sub-refusal
     refusal-requires
     returns-2
-    sub-result
-    add-result
+    sub-code
+    code-requires
     returns-3
     returns-4)
