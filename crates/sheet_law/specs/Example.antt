@@ -1,0 +1,23 @@
+-- P1 as bytes: document 01's sheet, and what it prints, by computation. Assumes nothing.
+use Prim.Native.Nat.{ℕ}
+use mathlib.Core.Path.{_≡_, refl}
+use mathlib.Core.List.{List}
+use Rattle.calls.specs.Rows.{anyBelow}
+use Rattle.layout.specs.Layout.{readerAt, publisherAt, withReader, withPublisher, withReaders, fresh}
+use Rattle.publication_law.specs.Rules.{damaged, step, making}
+use Rattle.grace_version_law.specs.Steps.{onward}
+use Rattle.kinds_law.specs.Kinds.{named, anyStep, anyMaking}
+use Rattle.sheet_law.specs.Text.{text, digitsBefore, decimal}
+use Rattle.sheet_law.specs.Reading.{first, rest, digits, plain, word, kindNamed, lineOf}
+use Rattle.sheet_law.specs.Sheet.{played, linesFrom, printedFor, sheet}
+
+abbrev pub P1 : List ℕ
+P1 = text "(store new 1 1 2 0)\n(enter 0)\n(enter 0)\n(enter 0)\n(enter 0)\n(enter 0)\n(look 0 31)\n(claim 0 0)\n(claim 0 1)\n(leave 0)\n"
+
+abbrev pub P1-printed : List ℕ
+P1-printed = text "(1 made)\n(2 at 1)\n(3 at 2)\n(4 at 3)\n(5 at 4)\n(6 at 5)\n(7 pitch 9000)\n(8 refused 30)\n(9 claimed 1)\n(10 left)\n"
+
+pub p1-bytes : sheet P1 ≡ P1-printed
+unfolding
+    readerAt publisherAt withReader withPublisher withReaders fresh anyBelow damaged onward step making named anyStep anyMaking digitsBefore decimal first rest digits plain word kindNamed lineOf played linesFrom printedFor sheet
+p1-bytes = refl

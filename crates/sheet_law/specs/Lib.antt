@@ -1,0 +1,6 @@
+pub mod Text
+pub mod Reading
+pub mod Printing
+pub mod Sheet
+pub mod Example
+pub mod Decimals

@@ -1,0 +1,186 @@
+-- A line's bytes to a command: document 01's 'Run sheet', sentence by sentence.
+use Prim.Native.Nat.{ℕ, zero, suc, _+_, _*_, _-_}
+use mathlib.Core.Bool.{Bool, true, false, _&&_}
+use mathlib.Core.List.{List, [], _∷_}
+use lib.Dec.{eqb, ltb}
+use lib.IntN.{ℤ, pos, negsuc}
+use lib.ListN.{length, getD, take, drop}
+use Rattle.calls.specs.declared.Call.{Call}
+use Rattle.calls.specs.declared.Call.the-variants as call
+use Rattle.calls.specs.Base.{pick}
+use Rattle.calls.specs.Rows.{outside}
+use Rattle.calls.specs.Numbers.{NUMBER-MAX, KIND-NEW, KIND-OLD}
+use Rattle.sheet_law.specs.declared.Number.{Number}
+use Rattle.sheet_law.specs.declared.Number.the-variants.{Fine, Bad}
+use Rattle.sheet_law.specs.declared.Angle.{Angle}
+use Rattle.sheet_law.specs.declared.Angle.the-variants.{At, Wrong}
+use Rattle.sheet_law.specs.declared.Word.{Word}
+use Rattle.sheet_law.specs.declared.Word.the-variants.{Store, Enter, Look, Leave, Claim, Write, Swap, Sync, Raise, Walk, Release, Unknown}
+use Rattle.sheet_law.specs.declared.Command.{Command}
+use Rattle.sheet_law.specs.declared.Command.the-variants.{Make, Run}
+use Rattle.sheet_law.specs.declared.Line.{Line}
+use Rattle.sheet_law.specs.declared.Line.the-variants.{Read, Unread}
+use Rattle.sheet_law.specs.Text.{text, same, SPACE, OPEN, CLOSE, MINUS, DIGIT-0, DIGIT-9}
+
+-- Widths: 80 bytes a line; pitches signed 16 bits, versions 64, all other arguments 16, unsigned.
+abbrev pub LINE-MAX : ℕ
+LINE-MAX = 80
+
+abbrev pub NARROW-MAX : ℕ
+NARROW-MAX = 65535
+
+abbrev pub PITCH-MAX : ℕ
+PITCH-MAX = 32767
+
+abbrev pub PITCH-MIN : ℕ
+PITCH-MIN = 32768
+
+-- One space between: the text before the first space and the text after it; where there is no space, all of it and nothing.
+unfoldable pub first : List ℕ → List ℕ
+first [] = []
+first (b ∷ l) = pick (eqb b SPACE) [] (b ∷ first l)
+
+unfoldable pub rest : List ℕ → List ℕ
+rest [] = []
+rest (b ∷ l) = pick (eqb b SPACE) l (rest l)
+
+-- Digits, read from the left after those that came to n.
+unfoldable pub digits : ℕ → List ℕ → Number
+digits n [] = Fine n
+digits n (b ∷ l) = pick (outside DIGIT-0 DIGIT-9 b) Bad (digits (n * 10 + (b - DIGIT-0)) l)
+
+-- Plain decimals without leading zeros.
+unfoldable pub plain : List ℕ → Number
+plain [] = Bad
+plain (b ∷ []) = digits 0 (b ∷ [])
+plain (b ∷ c ∷ l) = pick (eqb b DIGIT-0) Bad (digits 0 (b ∷ c ∷ l))
+
+-- A number too wide gives unread.
+abbrev pub within : ℕ → Number → Number
+within most Bad = Bad
+within most (Fine n) = pick (ltb most n) Bad (Fine n)
+
+abbrev pub narrow : List ℕ → Number
+narrow l = within NARROW-MAX (plain l)
+
+abbrev pub wide : List ℕ → Number
+wide l = within NUMBER-MAX (plain l)
+
+-- A minus for a negative pitch; `-0` gives unread.
+abbrev pub negative : Number → Angle
+negative Bad = Wrong
+negative (Fine zero) = Wrong
+negative (Fine (suc n)) = At (negsuc n)
+
+abbrev pub positive : Number → Angle
+positive Bad = Wrong
+positive (Fine n) = At (pos n)
+
+unfoldable pub angle : List ℕ → Angle
+angle [] = Wrong
+angle (b ∷ l) = pick (eqb b MINUS) (negative (within PITCH-MIN (plain l))) (positive (within PITCH-MAX (plain (b ∷ l))))
+
+-- Words are the calls in small letters and `store`.
+unfoldable pub word : List ℕ → Word
+word w =
+    pick (same w (text "store")) Store
+    (pick (same w (text "enter")) Enter
+    (pick (same w (text "look")) Look
+    (pick (same w (text "leave")) Leave
+    (pick (same w (text "claim")) Claim
+    (pick (same w (text "write")) Write
+    (pick (same w (text "swap")) Swap
+    (pick (same w (text "sync")) Sync
+    (pick (same w (text "raise")) Raise
+    (pick (same w (text "walk")) Walk
+    (pick (same w (text "release")) Release
+    Unknown))))))))))
+
+-- `store`, whose kind is `new` or `old`.
+unfoldable pub kindNamed : List ℕ → Number
+kindNamed w = pick (same w (text "new")) (Fine KIND-NEW) (pick (same w (text "old")) (Fine KIND-OLD) Bad)
+
+-- A line with an argument that is not read is unread.
+abbrev pub given : Number → (ℕ → Line) → Line
+given Bad f = Unread
+given (Fine n) f = f n
+
+abbrev pub givenAngle : Angle → (ℤ → Line) → Line
+givenAngle Wrong f = Unread
+givenAngle (At v) f = f v
+
+-- The calls with one argument: a reader or a publisher.
+abbrev pub oneOf : Word → ℕ → Line
+oneOf Enter r = Read (Run (call.Enter r))
+oneOf Leave r = Read (Run (call.Leave r))
+oneOf Swap p = Read (Run (call.Swap p))
+oneOf Sync p = Read (Run (call.Sync p))
+oneOf Raise p = Read (Run (call.Raise p))
+oneOf Release p = Read (Run (call.Release p))
+oneOf Store n = Unread
+oneOf Look n = Unread
+oneOf Claim n = Unread
+oneOf Write n = Unread
+oneOf Walk n = Unread
+oneOf Unknown n = Unread
+
+-- The calls with a second number: an entry, a slot, a number of looks.
+abbrev pub twoOf : Word → ℕ → ℕ → Line
+twoOf Look r k = Read (Run (call.Look r k))
+twoOf Claim p s = Read (Run (call.Claim p s))
+twoOf Walk p b = Read (Run (call.Walk p b))
+twoOf Store n m = Unread
+twoOf Enter n m = Unread
+twoOf Leave n m = Unread
+twoOf Write n m = Unread
+twoOf Swap n m = Unread
+twoOf Sync n m = Unread
+twoOf Raise n m = Unread
+twoOf Release n m = Unread
+twoOf Unknown n m = Unread
+
+abbrev pub one : Word → List ℕ → Line
+one w l = given (narrow l) (oneOf w)
+
+abbrev pub two : Word → List ℕ → Line
+two w l = given (narrow (first l)) (λ n. given (narrow (rest l)) (twoOf w n))
+
+-- WRITE p v
+abbrev pub writing : List ℕ → Line
+writing l = given (narrow (first l)) (λ p. givenAngle (angle (rest l)) (λ v. Read (Run (call.Write p v))))
+
+-- (kind, readers, publishers, slots, first version)
+abbrev pub making : List ℕ → Line
+making l =
+    given (kindNamed (first l)) (λ k.
+    given (narrow (first (rest l))) (λ rs.
+    given (narrow (first (rest (rest l)))) (λ ps.
+    given (narrow (first (rest (rest (rest l))))) (λ ss.
+    given (wide (rest (rest (rest (rest l))))) (λ v.
+    Read (Make k rs ps ss v))))))
+
+-- A word with its arguments.
+abbrev pub command : Word → List ℕ → Line
+command Store l = making l
+command Enter l = one Enter l
+command Look l = two Look l
+command Leave l = one Leave l
+command Claim l = two Claim l
+command Write l = writing l
+command Swap l = one Swap l
+command Sync l = one Sync l
+command Raise l = one Raise l
+command Walk l = two Walk l
+command Release l = one Release l
+command Unknown l = Unread
+
+-- Bracketed: what stands between the brackets.
+abbrev pub bracketed : List ℕ → Bool
+bracketed l = ltb 1 (length l) && (eqb (getD l 0 0) OPEN && eqb (getD l (length l - 1) 0) CLOSE)
+
+abbrev pub inner : List ℕ → List ℕ
+inner l = take (length l - 2) (drop 1 l)
+
+-- A line is a bracketed word with arguments; a misshapen or empty line or one over 80 bytes gives unread.
+unfoldable pub lineOf : List ℕ → Line
+lineOf l = pick (ltb LINE-MAX (length l)) Unread (pick (bracketed l) (command (word (first (inner l))) (rest (inner l))) Unread)

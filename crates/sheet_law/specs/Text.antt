@@ -1,0 +1,55 @@
+-- Texts as lists of bytes, and plain decimals.
+use Prim.Native.Nat.{ℕ, zero, suc, _+_, _/_, _%_}
+use Prim.Native.Char.{code}
+use Prim.Native.String.{String, [] as none, _∷_ as _before_}
+use mathlib.Core.Bool.{Bool, true, false, _&&_}
+use mathlib.Core.List.{List, [], _∷_}
+use lib.Dec.{eqb}
+use Rattle.calls.specs.Base.{pick}
+
+-- The bytes of a quoted text, in ASCII.
+abbrev pub text : String → List ℕ
+text none = []
+text (c before s) = code c ∷ text s
+
+-- Bytes with a name.
+abbrev pub NEWLINE : ℕ
+NEWLINE = 10
+
+abbrev pub SPACE : ℕ
+SPACE = 32
+
+abbrev pub OPEN : ℕ
+OPEN = 40
+
+abbrev pub CLOSE : ℕ
+CLOSE = 41
+
+abbrev pub MINUS : ℕ
+MINUS = 45
+
+abbrev pub DIGIT-0 : ℕ
+DIGIT-0 = 48
+
+abbrev pub DIGIT-9 : ℕ
+DIGIT-9 = 57
+
+-- Whether two texts are the same.
+abbrev pub same : List ℕ → List ℕ → Bool
+same [] [] = true
+same [] (b ∷ k) = false
+same (a ∷ l) [] = false
+same (a ∷ l) (b ∷ k) = eqb a b && same l k
+
+-- The last digit of a number.
+abbrev pub lastDigit : ℕ → ℕ
+lastDigit n = DIGIT-0 + n % 10
+
+-- A number's digits before the text l: its last digit, and before that the digits of a tenth of the number, if there are any. Each tenth is less than the number, so the fuel lasts.
+unfoldable pub digitsBefore : ℕ → ℕ → List ℕ → List ℕ
+digitsBefore zero n l = l
+digitsBefore (suc fuel) n l = pick (eqb (n / 10) 0) (lastDigit n ∷ l) (digitsBefore fuel (n / 10) (lastDigit n ∷ l))
+
+-- A plain decimal without leading zeros.
+unfoldable pub decimal : ℕ → List ℕ
+decimal n = digitsBefore (suc n) n []

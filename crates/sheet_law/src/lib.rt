@@ -1,0 +1,52 @@
+// What a run sheet is: what its lines say, what is printed for each, and the whole sheet, bytes in to bytes out.
+// Code: what a line comes to, as values. specs/: the definitions, and what is proved about them.
+// It uses calls, layout, statement and kinds_law.
+use calls::Call;
+use calls::Pitch;
+
+// A line has at most 80 bytes, without its newline.
+pub const LINE_MAX: usize = 80;
+
+// The longest line that is printed: two brackets, two spaces more than the reply `returned` with its two numbers, three numbers of 20 digits, and the newline.
+pub const PRINTED_MAX: usize = 74;
+
+// The greatest argument of 16 bits.
+pub const NARROW_MAX: u64 = 65535;
+
+// A decimal, or what is none.
+pub enum Number {
+    Fine(u64),
+    Bad,
+}
+
+pub enum Angle {
+    At(Pitch),
+    Wrong,
+}
+
+// The words that begin a line.
+pub enum Word {
+    Store,
+    Enter,
+    Look,
+    Leave,
+    Claim,
+    Write,
+    Swap,
+    Sync,
+    Raise,
+    Walk,
+    Release,
+    Unknown,
+}
+
+pub enum Command {
+    // the kind's number, readers, publishers, slots, first version
+    Make(u16, u16, u16, u16, u64),
+    Run(Call),
+}
+
+pub enum Line {
+    Read(Command),
+    Unread,
+}

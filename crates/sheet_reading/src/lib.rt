@@ -1,0 +1,366 @@
+// A run sheet's line to a command, by the definition of sheet_law.
+// Words, decimals and pitches are read by small functions over a part of the line; only `parse` is for others.
+// It uses calls and sheet_law.
+ghost use Prim.Native.Nat.{_+_, _≤_};
+ghost use mathlib.Core.Path.{_≡_};
+ghost use lib.ListN.{length, take, drop};
+ghost use Rattle.sheet_law.specs.Text.{same as Text·same};
+ghost use Rattle.sheet_law.specs.Reading.{first, rest, digits as Reading·digits, plain, within, angle as Reading·angle, negative as Reading·negative, positive as Reading·positive, word as Reading·word, kindNamed, oneOf, twoOf, one as Reading·one, two as Reading·two, writing as Reading·writing, written as Reading·written, making as Reading·making, makingOf, command as Reading·command, lineOf};
+use calls::Call;
+use calls::KIND_NEW;
+use calls::KIND_OLD;
+use calls::NUMBER_MAX;
+use calls::Pitch;
+use sheet_law::Angle;
+use sheet_law::Command;
+use sheet_law::LINE_MAX;
+use sheet_law::Line;
+use sheet_law::NARROW_MAX;
+use sheet_law::Number;
+use sheet_law::Word;
+
+const SPACE: u8 = b' ';
+
+const OPEN: u8 = b'(';
+
+const CLOSE: u8 = b')';
+
+const MINUS: u8 = b'-';
+
+const DIGIT_0: u8 = b'0';
+
+const DIGIT_9: u8 = b'9';
+
+// The greatest pitch of 16 bits, and the size of the least.
+const PITCH_MAX: u64 = 32767;
+
+const PITCH_MIN: u64 = 32768;
+
+// Whether two texts are the same.
+fn same(s: &[u8], w: &[u8]) -> bool
+    ensures { λ r. ⌜ r ≡ Text·same (now (s .entry)) (now (w .entry)) ⌝ }
+{
+    let n = s.len();
+    if n != w.len() {
+        return false;
+    }
+    let mut i: usize = 0;
+    while i < n {
+        if s[i] != w[i] {
+            return false;
+        }
+        i += 1;
+    }
+    true
+}
+
+// Where the first space stands; the length where there is none.
+fn space(s: &[u8]) -> usize
+    ensures { λ r. ⌜ (r ≤ length (now (s .entry))) × (take r (now (s .entry)) ≡ first (now (s .entry))) × (drop (r + 1) (now (s .entry)) ≡ rest (now (s .entry))) ⌝ }
+{
+    let mut i: usize = 0;
+    while i < s.len() {
+        if s[i] == SPACE {
+            return i;
+        }
+        i += 1;
+    }
+    i
+}
+
+// Where the text after the space at k starts, in a text of n bytes.
+fn after(k: usize, n: usize) -> usize
+    requires { ⌜ k ≤ n ⌝ }
+    ensures { λ r. ⌜ (r ≤ n) × (r ≤ k + 1) × ((k + 1 ≤ n → r ≡ k + 1)) × ((n ≤ k → r ≡ n)) ⌝ }
+{
+    if k < n {
+        return k + 1;
+    }
+    n
+}
+
+fn wide(b: u8) -> u64
+    ensures { λ r. ⌜ r ≡ b ⌝ }
+{
+    b as u64
+}
+
+// The number that digits spell, read from the left, where 64 bits hold it.
+fn digits(s: &[u8]) -> Number
+    ensures { λ r. ⌜ r ≡ within 18446744073709551615 (Reading·digits 0 (now (s .entry))) ⌝ }
+{
+    let mut n: u64 = 0;
+    let mut i: usize = 0;
+    loop {
+        if i >= s.len() {
+            break Number::Fine(n);
+        }
+        let b = s[i];
+        if b < DIGIT_0 {
+            break Number::Bad;
+        }
+        if b > DIGIT_9 {
+            break Number::Bad;
+        }
+        let d = wide(b - DIGIT_0);
+        if n > (NUMBER_MAX - d) / 10 {
+            break Number::Bad;
+        }
+        n = n * 10 + d;
+        i += 1;
+    }
+}
+
+// A plain decimal without leading zeros, of at most a number.
+fn number(s: &[u8], most: u64) -> Number
+    ensures { λ r. ⌜ r ≡ within most (plain (now (s .entry))) ⌝ }
+{
+    let n = s.len();
+    if n == 0 {
+        return Number::Bad;
+    }
+    if n > 1 {
+        if s[0] == DIGIT_0 {
+            return Number::Bad;
+        }
+    }
+    let Number::Fine(v) = digits(s) else {
+        return Number::Bad;
+    };
+    if v > most {
+        return Number::Bad;
+    }
+    Number::Fine(v)
+}
+
+// A pitch: a decimal, or a minus and a decimal that is not 0.
+fn angle(s: &[u8]) -> Angle
+    ensures { λ r. ⌜ r ≡ Reading·angle (now (s .entry)) ⌝ }
+{
+    if s.len() == 0 {
+        return Angle::Wrong;
+    }
+    if s[0] == MINUS {
+        return negative(number(&s[1..], PITCH_MIN));
+    }
+    positive(number(s, PITCH_MAX))
+}
+
+fn negative(n: Number) -> Angle
+    requires { ⌜ within 32768 n ≡ n ⌝ }
+    ensures { λ r. ⌜ r ≡ Reading·negative n ⌝ }
+{
+    let Number::Fine(v) = n else {
+        return Angle::Wrong;
+    };
+    if v == 0 {
+        return Angle::Wrong;
+    }
+    Angle::At(-1 - ((v - 1) as Pitch))
+}
+
+fn positive(n: Number) -> Angle
+    requires { ⌜ within 32767 n ≡ n ⌝ }
+    ensures { λ r. ⌜ r ≡ Reading·positive n ⌝ }
+{
+    let Number::Fine(v) = n else {
+        return Angle::Wrong;
+    };
+    Angle::At(v as Pitch)
+}
+
+// The word that begins a line.
+fn word(s: &[u8]) -> Word
+    ensures { λ r. ⌜ r ≡ Reading·word (now (s .entry)) ⌝ }
+{
+    if same(s, b"store") {
+        return Word::Store;
+    }
+    if same(s, b"enter") {
+        return Word::Enter;
+    }
+    if same(s, b"look") {
+        return Word::Look;
+    }
+    if same(s, b"leave") {
+        return Word::Leave;
+    }
+    if same(s, b"claim") {
+        return Word::Claim;
+    }
+    if same(s, b"write") {
+        return Word::Write;
+    }
+    if same(s, b"swap") {
+        return Word::Swap;
+    }
+    if same(s, b"sync") {
+        return Word::Sync;
+    }
+    if same(s, b"raise") {
+        return Word::Raise;
+    }
+    if same(s, b"walk") {
+        return Word::Walk;
+    }
+    if same(s, b"release") {
+        return Word::Release;
+    }
+    Word::Unknown
+}
+
+// The number of the kind that a word names.
+fn kind(s: &[u8]) -> Number
+    ensures { λ r. ⌜ r ≡ kindNamed (now (s .entry)) ⌝ }
+{
+    if same(s, b"new") {
+        return Number::Fine(KIND_NEW);
+    }
+    if same(s, b"old") {
+        return Number::Fine(KIND_OLD);
+    }
+    Number::Bad
+}
+
+// A call with one argument.
+fn one_of(w: Word, n: u16) -> Line
+    ensures { λ r. ⌜ r ≡ oneOf w n ⌝ }
+{
+    match w {
+        Word::Enter => Line::Read(Command::Run(Call::Enter(n))),
+        Word::Leave => Line::Read(Command::Run(Call::Leave(n))),
+        Word::Swap => Line::Read(Command::Run(Call::Swap(n))),
+        Word::Sync => Line::Read(Command::Run(Call::Sync(n))),
+        Word::Raise => Line::Read(Command::Run(Call::Raise(n))),
+        Word::Release => Line::Read(Command::Run(Call::Release(n))),
+        _ => Line::Unread,
+    }
+}
+
+// A call with a second number.
+fn two_of(w: Word, n: u16, m: u16) -> Line
+    ensures { λ r. ⌜ r ≡ twoOf w n m ⌝ }
+{
+    match w {
+        Word::Look => Line::Read(Command::Run(Call::Look(n, m))),
+        Word::Claim => Line::Read(Command::Run(Call::Claim(n, m))),
+        Word::Walk => Line::Read(Command::Run(Call::Walk(n, m))),
+        _ => Line::Unread,
+    }
+}
+
+fn one(w: Word, s: &[u8]) -> Line
+    ensures { λ r. ⌜ r ≡ Reading·one w (now (s .entry)) ⌝ }
+{
+    let Number::Fine(n) = number(s, NARROW_MAX) else {
+        return Line::Unread;
+    };
+    one_of(w, n as u16)
+}
+
+fn two(w: Word, s: &[u8]) -> Line
+    ensures { λ r. ⌜ r ≡ Reading·two w (now (s .entry)) ⌝ }
+{
+    let k = space(s);
+    let from = after(k, s.len());
+    let Number::Fine(n) = number(&s[..k], NARROW_MAX) else {
+        return Line::Unread;
+    };
+    let Number::Fine(m) = number(&s[from..], NARROW_MAX) else {
+        return Line::Unread;
+    };
+    two_of(w, n as u16, m as u16)
+}
+
+// WRITE p v
+fn writing(s: &[u8]) -> Line
+    ensures { λ r. ⌜ r ≡ Reading·writing (now (s .entry)) ⌝ }
+{
+    let k = space(s);
+    let from = after(k, s.len());
+    let Number::Fine(p) = number(&s[..k], NARROW_MAX) else {
+        return Line::Unread;
+    };
+    let Angle::At(v) = angle(&s[from..]) else {
+        return Line::Unread;
+    };
+    Line::Read(Command::Run(Call::Write(p as u16, v)))
+}
+
+// The kind, the readers and what comes after them.
+fn making(s: &[u8]) -> Line
+    ensures { λ r. ⌜ r ≡ Reading·making (now (s .entry)) ⌝ }
+{
+    let k = space(s);
+    let from = after(k, s.len());
+    let Number::Fine(number) = kind(&s[..k]) else {
+        return Line::Unread;
+    };
+    let t = &s[from..];
+    let j = space(t);
+    let next = after(j, t.len());
+    let Number::Fine(readers) = crate::number(&t[..j], NARROW_MAX) else {
+        return Line::Unread;
+    };
+    sizes(number as u16, readers as u16, &t[next..])
+}
+
+// The publishers, the slots and the first version.
+fn sizes(kind: u16, readers: u16, s: &[u8]) -> Line
+    ensures { λ r. ⌜ r ≡ makingOf kind readers (now (s .entry)) ⌝ }
+{
+    let k = space(s);
+    let from = after(k, s.len());
+    let Number::Fine(publishers) = number(&s[..k], NARROW_MAX) else {
+        return Line::Unread;
+    };
+    let t = &s[from..];
+    let j = space(t);
+    let next = after(j, t.len());
+    let Number::Fine(slots) = number(&t[..j], NARROW_MAX) else {
+        return Line::Unread;
+    };
+    let Number::Fine(version) = number(&t[next..], NUMBER_MAX) else {
+        return Line::Unread;
+    };
+    Line::Read(Command::Make(kind, readers, publishers as u16, slots as u16, version))
+}
+
+// A word with its arguments.
+fn command(w: Word, s: &[u8]) -> Line
+    ensures { λ r. ⌜ r ≡ Reading·command w (now (s .entry)) ⌝ }
+{
+    match w {
+        Word::Store => making(s),
+        Word::Write => writing(s),
+        Word::Look => two(w, s),
+        Word::Claim => two(w, s),
+        Word::Walk => two(w, s),
+        Word::Unknown => Line::Unread,
+        _ => one(w, s),
+    }
+}
+
+// A line, without its newline.
+pub fn parse(line: &[u8]) -> Line
+    ensures { λ r. ⌜ r ≡ lineOf (now (line .entry)) ⌝ }
+{
+    let n = line.len();
+    if n > LINE_MAX {
+        return Line::Unread;
+    }
+    if n < 2 {
+        return Line::Unread;
+    }
+    let last = n - 1;
+    if line[0] != OPEN {
+        return Line::Unread;
+    }
+    if line[last] != CLOSE {
+        return Line::Unread;
+    }
+    let inner = &line[1..last];
+    let k = space(inner);
+    let from = after(k, inner.len());
+    command(word(&inner[..k]), &inner[from..])
+}
