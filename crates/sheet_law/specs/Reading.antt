@@ -1,5 +1,6 @@
 -- A line's bytes to a command: document 01's 'Run sheet', sentence by sentence.
 use Prim.Native.Nat.{ℕ, zero, suc, _+_, _*_, _-_}
+use Prim.Native.String.{String}
 use mathlib.Core.Bool.{Bool, true, false, _&&_}
 use mathlib.Core.List.{List, [], _∷_}
 use lib.Dec.{eqb, ltb}
@@ -81,20 +82,31 @@ angle [] = Wrong
 angle (b ∷ l) = pick (eqb b MINUS) (negative (within PITCH-MIN (plain l))) (positive (within PITCH-MAX (plain (b ∷ l))))
 
 -- Words are the calls in small letters and `store`.
-unfoldable pub word : List ℕ → Word
-word w =
-    pick (same w (text "store")) Store
-    (pick (same w (text "enter")) Enter
-    (pick (same w (text "look")) Look
-    (pick (same w (text "leave")) Leave
-    (pick (same w (text "claim")) Claim
-    (pick (same w (text "write")) Write
-    (pick (same w (text "swap")) Swap
-    (pick (same w (text "sync")) Sync
-    (pick (same w (text "raise")) Raise
-    (pick (same w (text "walk")) Walk
-    (pick (same w (text "release")) Release
-    Unknown))))))))))
+infix 70 _names_
+pub data Row : Type 0 where
+  _names_ : String → Word → Row
+
+abbrev pub words : List Row
+words =
+    "store" names Store
+    ∷ "enter" names Enter
+    ∷ "look" names Look
+    ∷ "leave" names Leave
+    ∷ "claim" names Claim
+    ∷ "write" names Write
+    ∷ "swap" names Swap
+    ∷ "sync" names Sync
+    ∷ "raise" names Raise
+    ∷ "walk" names Walk
+    ∷ "release" names Release
+    ∷ []
+
+unfoldable pub named : List Row → List ℕ → Word
+named [] w = Unknown
+named ((t names x) ∷ rows) w = pick (same w (text t)) x (named rows w)
+
+abbrev pub word : List ℕ → Word
+word w = named words w
 
 -- `store`, whose kind is `new` or `old`.
 unfoldable pub kindNamed : List ℕ → Number
@@ -150,14 +162,15 @@ abbrev pub writing : List ℕ → Line
 writing l = given (narrow (first l)) (λ p. givenAngle (angle (rest l)) (λ v. Read (Run (call.Write p v))))
 
 -- (kind, readers, publishers, slots, first version)
+abbrev pub makingOf : ℕ → ℕ → List ℕ → Line
+makingOf k rs l =
+    given (narrow (first l)) (λ ps.
+    given (narrow (first (rest l))) (λ ss.
+    given (wide (rest (rest l))) (λ v.
+    Read (Make k rs ps ss v))))
+
 abbrev pub making : List ℕ → Line
-making l =
-    given (kindNamed (first l)) (λ k.
-    given (narrow (first (rest l))) (λ rs.
-    given (narrow (first (rest (rest l)))) (λ ps.
-    given (narrow (first (rest (rest (rest l))))) (λ ss.
-    given (wide (rest (rest (rest (rest l))))) (λ v.
-    Read (Make k rs ps ss v))))))
+making l = given (kindNamed (first l)) (λ k. given (narrow (first (rest l))) (λ rs. makingOf k rs (rest (rest l))))
 
 -- A word with its arguments.
 abbrev pub command : Word → List ℕ → Line

@@ -1,11 +1,12 @@
 // A run sheet's line to a command, by the definition of sheet_law.
 // Words, decimals and pitches are read by small functions over a part of the line; only `parse` is for others.
 // It uses calls and sheet_law.
-ghost use Prim.Native.Nat.{_+_, _≤_};
+ghost use Prim.Native.Nat.{_+_, _<_, _≤_};
+ghost use lib.IntN.{pos, negsuc};
 ghost use mathlib.Core.Path.{_≡_};
 ghost use lib.ListN.{length, take, drop};
 ghost use Rattle.sheet_law.specs.Text.{same as Text·same};
-ghost use Rattle.sheet_law.specs.Reading.{first, rest, digits as Reading·digits, plain, within, angle as Reading·angle, negative as Reading·negative, positive as Reading·positive, word as Reading·word, kindNamed, oneOf, twoOf, one as Reading·one, two as Reading·two, writing as Reading·writing, written as Reading·written, making as Reading·making, makingOf, command as Reading·command, lineOf};
+ghost use Rattle.sheet_law.specs.Reading.{first, rest, digits as Reading·digits, plain, within, angle as Reading·angle, negative as Reading·negative, positive as Reading·positive, word as Reading·word, kindNamed, oneOf, twoOf, one as Reading·one, two as Reading·two, writing as Reading·writing, making as Reading·making, makingOf, command as Reading·command, lineOf};
 use calls::Call;
 use calls::KIND_NEW;
 use calls::KIND_OLD;
@@ -54,29 +55,26 @@ fn same(s: &[u8], w: &[u8]) -> bool
     true
 }
 
-// Where the first space stands; the length where there is none.
-fn space(s: &[u8]) -> usize
-    ensures { λ r. ⌜ (r ≤ length (now (s .entry))) × (take r (now (s .entry)) ≡ first (now (s .entry))) × (drop (r + 1) (now (s .entry)) ≡ rest (now (s .entry))) ⌝ }
+// A text cut at its first space: where the text before it ends, and where the text after it begins.
+struct Parts {
+    end: usize,
+    next: usize,
+}
+
+fn cut(s: &[u8]) -> Parts
+    ensures { λ r. ⌜ (r .end ≤ length (now (s .entry))) × (r .next ≤ length (now (s .entry))) × (take (r .end) (now (s .entry)) ≡ first (now (s .entry))) × (drop (r .next) (now (s .entry)) ≡ rest (now (s .entry))) ⌝ }
 {
     let mut i: usize = 0;
     while i < s.len() {
         if s[i] == SPACE {
-            return i;
+            return Parts {
+                end: i,
+                next: i + 1,
+            };
         }
         i += 1;
     }
-    i
-}
-
-// Where the text after the space at k starts, in a text of n bytes.
-fn after(k: usize, n: usize) -> usize
-    requires { ⌜ k ≤ n ⌝ }
-    ensures { λ r. ⌜ (r ≤ n) × (r ≤ k + 1) × ((k + 1 ≤ n → r ≡ k + 1)) × ((n ≤ k → r ≡ n)) ⌝ }
-{
-    if k < n {
-        return k + 1;
-    }
-    n
+    Parts { end: i, next: i }
 }
 
 fn wide(b: u8) -> u64
@@ -133,6 +131,43 @@ fn number(s: &[u8], most: u64) -> Number
     Number::Fine(v)
 }
 
+// A number below 32768 as a pitch, and the pitch that is one less than its opposite.
+fn above(v: u64) -> Pitch
+    requires { ⌜ v < 32768 ⌝ }
+    ensures { λ r. ⌜ r ≡ pos v ⌝ }
+{
+    v as Pitch
+}
+
+fn below(v: u64) -> Pitch
+    requires { ⌜ v < 32768 ⌝ }
+    ensures { λ r. ⌜ r ≡ negsuc v ⌝ }
+{
+    -1 - (v as Pitch)
+}
+
+// What stands after a minus: a decimal that is not 0.
+fn negative(s: &[u8]) -> Angle
+    ensures { λ r. ⌜ r ≡ Reading·negative (within 32768 (plain (now (s .entry)))) ⌝ }
+{
+    let Number::Fine(v) = number(s, PITCH_MIN) else {
+        return Angle::Wrong;
+    };
+    if v == 0 {
+        return Angle::Wrong;
+    }
+    Angle::At(below(v - 1))
+}
+
+fn positive(s: &[u8]) -> Angle
+    ensures { λ r. ⌜ r ≡ Reading·positive (within 32767 (plain (now (s .entry)))) ⌝ }
+{
+    let Number::Fine(v) = number(s, PITCH_MAX) else {
+        return Angle::Wrong;
+    };
+    Angle::At(above(v))
+}
+
 // A pitch: a decimal, or a minus and a decimal that is not 0.
 fn angle(s: &[u8]) -> Angle
     ensures { λ r. ⌜ r ≡ Reading·angle (now (s .entry)) ⌝ }
@@ -141,32 +176,9 @@ fn angle(s: &[u8]) -> Angle
         return Angle::Wrong;
     }
     if s[0] == MINUS {
-        return negative(number(&s[1..], PITCH_MIN));
+        return negative(&s[1..]);
     }
-    positive(number(s, PITCH_MAX))
-}
-
-fn negative(n: Number) -> Angle
-    requires { ⌜ within 32768 n ≡ n ⌝ }
-    ensures { λ r. ⌜ r ≡ Reading·negative n ⌝ }
-{
-    let Number::Fine(v) = n else {
-        return Angle::Wrong;
-    };
-    if v == 0 {
-        return Angle::Wrong;
-    }
-    Angle::At(-1 - ((v - 1) as Pitch))
-}
-
-fn positive(n: Number) -> Angle
-    requires { ⌜ within 32767 n ≡ n ⌝ }
-    ensures { λ r. ⌜ r ≡ Reading·positive n ⌝ }
-{
-    let Number::Fine(v) = n else {
-        return Angle::Wrong;
-    };
-    Angle::At(v as Pitch)
+    positive(s)
 }
 
 // The word that begins a line.
@@ -233,7 +245,12 @@ fn one_of(w: Word, n: u16) -> Line
         Word::Sync => Line::Read(Command::Run(Call::Sync(n))),
         Word::Raise => Line::Read(Command::Run(Call::Raise(n))),
         Word::Release => Line::Read(Command::Run(Call::Release(n))),
-        _ => Line::Unread,
+        Word::Store => Line::Unread,
+        Word::Look => Line::Unread,
+        Word::Claim => Line::Unread,
+        Word::Write => Line::Unread,
+        Word::Walk => Line::Unread,
+        Word::Unknown => Line::Unread,
     }
 }
 
@@ -245,7 +262,15 @@ fn two_of(w: Word, n: u16, m: u16) -> Line
         Word::Look => Line::Read(Command::Run(Call::Look(n, m))),
         Word::Claim => Line::Read(Command::Run(Call::Claim(n, m))),
         Word::Walk => Line::Read(Command::Run(Call::Walk(n, m))),
-        _ => Line::Unread,
+        Word::Store => Line::Unread,
+        Word::Enter => Line::Unread,
+        Word::Leave => Line::Unread,
+        Word::Write => Line::Unread,
+        Word::Swap => Line::Unread,
+        Word::Sync => Line::Unread,
+        Word::Raise => Line::Unread,
+        Word::Release => Line::Unread,
+        Word::Unknown => Line::Unread,
     }
 }
 
@@ -261,12 +286,13 @@ fn one(w: Word, s: &[u8]) -> Line
 fn two(w: Word, s: &[u8]) -> Line
     ensures { λ r. ⌜ r ≡ Reading·two w (now (s .entry)) ⌝ }
 {
-    let k = space(s);
-    let from = after(k, s.len());
-    let Number::Fine(n) = number(&s[..k], NARROW_MAX) else {
+    let parts = cut(s);
+    let end = parts.end;
+    let next = parts.next;
+    let Number::Fine(n) = number(&s[..end], NARROW_MAX) else {
         return Line::Unread;
     };
-    let Number::Fine(m) = number(&s[from..], NARROW_MAX) else {
+    let Number::Fine(m) = number(&s[next..], NARROW_MAX) else {
         return Line::Unread;
     };
     two_of(w, n as u16, m as u16)
@@ -276,54 +302,59 @@ fn two(w: Word, s: &[u8]) -> Line
 fn writing(s: &[u8]) -> Line
     ensures { λ r. ⌜ r ≡ Reading·writing (now (s .entry)) ⌝ }
 {
-    let k = space(s);
-    let from = after(k, s.len());
-    let Number::Fine(p) = number(&s[..k], NARROW_MAX) else {
+    let parts = cut(s);
+    let end = parts.end;
+    let next = parts.next;
+    let Number::Fine(p) = number(&s[..end], NARROW_MAX) else {
         return Line::Unread;
     };
-    let Angle::At(v) = angle(&s[from..]) else {
+    let Angle::At(v) = angle(&s[next..]) else {
         return Line::Unread;
     };
     Line::Read(Command::Run(Call::Write(p as u16, v)))
 }
 
-// The kind, the readers and what comes after them.
+// The kind and the readers, with the sizes after them.
 fn making(s: &[u8]) -> Line
     ensures { λ r. ⌜ r ≡ Reading·making (now (s .entry)) ⌝ }
 {
-    let k = space(s);
-    let from = after(k, s.len());
-    let Number::Fine(number) = kind(&s[..k]) else {
+    let parts = cut(s);
+    let end = parts.end;
+    let next = parts.next;
+    let Number::Fine(k) = kind(&s[..end]) else {
         return Line::Unread;
     };
-    let t = &s[from..];
-    let j = space(t);
-    let next = after(j, t.len());
-    let Number::Fine(readers) = crate::number(&t[..j], NARROW_MAX) else {
+    let t = &s[next..];
+    let others = cut(t);
+    let stop = others.end;
+    let from = others.next;
+    let Number::Fine(readers) = number(&t[..stop], NARROW_MAX) else {
         return Line::Unread;
     };
-    sizes(number as u16, readers as u16, &t[next..])
+    making_of(k as u16, readers as u16, &t[from..])
 }
 
 // The publishers, the slots and the first version.
-fn sizes(kind: u16, readers: u16, s: &[u8]) -> Line
-    ensures { λ r. ⌜ r ≡ makingOf kind readers (now (s .entry)) ⌝ }
+fn making_of(k: u16, readers: u16, s: &[u8]) -> Line
+    ensures { λ r. ⌜ r ≡ makingOf k readers (now (s .entry)) ⌝ }
 {
-    let k = space(s);
-    let from = after(k, s.len());
-    let Number::Fine(publishers) = number(&s[..k], NARROW_MAX) else {
+    let parts = cut(s);
+    let end = parts.end;
+    let next = parts.next;
+    let Number::Fine(publishers) = number(&s[..end], NARROW_MAX) else {
         return Line::Unread;
     };
-    let t = &s[from..];
-    let j = space(t);
-    let next = after(j, t.len());
-    let Number::Fine(slots) = number(&t[..j], NARROW_MAX) else {
+    let t = &s[next..];
+    let others = cut(t);
+    let stop = others.end;
+    let from = others.next;
+    let Number::Fine(slots) = number(&t[..stop], NARROW_MAX) else {
         return Line::Unread;
     };
-    let Number::Fine(version) = number(&t[next..], NUMBER_MAX) else {
+    let Number::Fine(version) = number(&t[from..], NUMBER_MAX) else {
         return Line::Unread;
     };
-    Line::Read(Command::Make(kind, readers, publishers as u16, slots as u16, version))
+    Line::Read(Command::Make(k, readers, publishers as u16, slots as u16, version))
 }
 
 // A word with its arguments.
@@ -332,12 +363,17 @@ fn command(w: Word, s: &[u8]) -> Line
 {
     match w {
         Word::Store => making(s),
-        Word::Write => writing(s),
+        Word::Enter => one(w, s),
         Word::Look => two(w, s),
+        Word::Leave => one(w, s),
         Word::Claim => two(w, s),
+        Word::Write => writing(s),
+        Word::Swap => one(w, s),
+        Word::Sync => one(w, s),
+        Word::Raise => one(w, s),
         Word::Walk => two(w, s),
+        Word::Release => one(w, s),
         Word::Unknown => Line::Unread,
-        _ => one(w, s),
     }
 }
 
@@ -360,7 +396,9 @@ pub fn parse(line: &[u8]) -> Line
         return Line::Unread;
     }
     let inner = &line[1..last];
-    let k = space(inner);
-    let from = after(k, inner.len());
-    command(word(&inner[..k]), &inner[from..])
+    let parts = cut(inner);
+    let end = parts.end;
+    let next = parts.next;
+    let w = word(&inner[..end]);
+    command(w, &inner[next..])
 }

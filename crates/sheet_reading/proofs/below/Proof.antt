@@ -1,0 +1,32 @@
+use borrow.Author.Needs.{needs}
+use native.Mathlib.Omega.{arith}
+use lib.ListN.{length, getD, set, length-set}
+use mathlib.Core.Path.{_≡_, refl, _∙_, sym, ap}
+use lib.IntN.{ℤ, pos, negsuc, _-ℤ_}
+use mir.Syntax.{w16}
+use mir.Val.{SFits, toZ}
+use mir.ValLaws.{toZ-pos, toZ-ofZ}
+use Rattle.sheet_reading.proofs.Bytes.{one-less}
+use Rattle.sheet_reading.proofs.below.Statement.{statement}
+use Rattle.sheet_reading.proofs.below.Tie as tie
+use Rattle.sheet_reading.proofs.below.Reads as reads
+use Rattle.sheet_reading.proofs.below.Lts as lts
+
+is : (c : tie.Start) → negsuc 0 -ℤ toZ w16 (c .args .v) ≡ negsuc (c .args .v)
+is c = ap (λ (z : ℤ). negsuc 0 -ℤ z) (toZ-pos w16 _ (c .pre)) ∙ one-less (c .args .v)
+
+small : (c : tie.Start) → SFits w16 (negsuc (c .args .v))
+small c = record { sfits = c .pre }
+
+
+cast-result : tie.Need-cast-result
+cast-result c = search needs
+
+sub-result : tie.Need-sub-result
+sub-result c = rw (is c) (small c)
+
+returns : tie.Need-returns
+returns c = rw (is c) (toZ-ofZ w16 _ (small c))
+
+pub below-spec : {M : Type 1} → statement M
+below-spec = tie.close (tie.spec cast-result sub-result returns)

@@ -1,0 +1,125 @@
+use borrow.Author.Needs.{needs}
+use native.Mathlib.Omega.{arith}
+use lib.ListN.{length, getD, set, length-set}
+use Prim.Native.Nat.{ℕ, _-_, _≤_}
+use native.Mathlib.Omega.{arith}
+use mathlib.Core.Path.{_≡_, refl, sym, _∙_, ap}
+use mathlib.Core.List.{List}
+use lib.ListN.{length, take, drop}
+use lib.Seq.{length-take-le}
+use Rattle.sheet_law.specs.declared.Number.{Number}
+use Rattle.sheet_law.specs.declared.Number.the-variants.{Fine, Bad}
+use Rattle.sheet_law.specs.Reading.{first, rest, plain, narrow, wide, kindNamed, angle as angle-of}
+use Rattle.sheet_reading.proofs.Bytes.{read-part, tail-is, within-most}
+use Rattle.sheet_reading.proofs.Bytes.{kind-narrow}
+use Rattle.sheet_reading.proofs.making.Statement.{statement}
+use Rattle.sheet_reading.proofs.making.Tie as tie
+use Rattle.sheet_reading.proofs.making.Reads as reads
+use Rattle.sheet_reading.proofs.making.Lts as lts
+use Rattle.sheet_reading.proofs.cut.Reads as cut-reads
+use Rattle.sheet_reading.proofs.kind.Reads as kind-reads
+use Rattle.sheet_reading.proofs.making_of.Reads as making-of-reads
+use Rattle.sheet_reading.proofs.number.Reads as number-reads
+
+others : (c : tie.After-t) → take (length (c .before .before .before .before .before .before .before .before .args .s .now) - c .before .before .before .before .before .before .cut .result .next) (drop (c .before .before .before .before .before .before .cut .result .next) (c .before .before .before .before .before .before .before .before .args .s .now)) ≡ rest (c .before .before .before .before .before .before .before .before .args .s .now)
+others c = tail-is (c .before .before .before .before .before .before .cut .result .next) (c .before .before .before .before .before .before .before .before .args .s .now) (rest (c .before .before .before .before .before .before .before .before .args .s .now)) (c .before .before .before .before .before .before .cut .ensures .3)
+
+kind-read : (c : tie.After-known-told) → kindNamed (first (c .before .before .before .before .before .before .before .args .s .now)) ≡ Fine (c .before .k .given .0 .0)
+kind-read c = read-part kindNamed (c .before .before .before .kind .result) (take (c .before .before .before .before .before .cut .result .end) (c .before .before .before .before .before .before .before .args .s .now)) (first (c .before .before .before .before .before .before .before .args .s .now)) (Fine (c .before .k .given .0 .0)) (c .before .before .before .kind .ensures) (c .before .before .before .before .before .cut .ensures .2) (c .before .k .given .1)
+
+readers-read : (c : tie.After-known-told2) → narrow (first (rest (c .before .before .before .before .before .before .before .before .before .before .before .before .before .before .args .s .now))) ≡ Fine (c .before .readers .given .0 .0)
+readers-read c = read-part narrow (c .before .before .before .number .result) (take (c .before .before .before .before .before .cut2 .result .end) (take (length (c .before .before .before .before .before .before .before .before .before .before .before .before .before .before .args .s .now) - c .before .before .before .before .before .before .before .before .before .before .before .before .cut .result .next) (drop (c .before .before .before .before .before .before .before .before .before .before .before .before .cut .result .next) (c .before .before .before .before .before .before .before .before .before .before .before .before .before .before .args .s .now)))) (first (rest (c .before .before .before .before .before .before .before .before .before .before .before .before .before .before .args .s .now))) (Fine (c .before .readers .given .0 .0)) (c .before .before .before .number .ensures) (c .before .before .before .before .before .cut2 .ensures .2 ∙ ap first (others (c .before .before .before .before .before .before))) (c .before .readers .given .1)
+
+
+cut-requires : tie.Need-cut-requires
+cut-requires c κs = search needs
+
+slice-aggregate-kind : tie.Need-slice-aggregate-kind
+slice-aggregate-kind c = sym (length-take-le (c .before .cut .result .end) (c .before .before .before .args .s .now) (c .before .cut .ensures .0))
+
+kind-requires : tie.Need-kind-requires
+kind-requires c κs = search needs
+
+enum-known-k : tie.Need-enum-known-k
+enum-known-k c = search needs
+
+enum-told : tie.Need-enum-told
+enum-told c = search needs
+
+returns : tie.Need-returns
+returns c = rw (read-part kindNamed (c .before .before .kind .result) (take (c .before .before .before .before .cut .result .end) (c .before .before .before .before .before .before .args .s .now)) (first (c .before .before .before .before .before .before .args .s .now)) Bad (c .before .before .kind .ensures) (c .before .before .before .before .cut .ensures .2) (c .enum-told .given .1)) refl
+
+sub-t : tie.Need-sub-t
+sub-t c = omega (arith, c .before .before .before .before .before .cut .ensures .1)
+
+part-t-start : tie.Need-part-t-start
+part-t-start c = omega (arith, c .before .before .before .before .before .cut .ensures .1)
+
+part-t-end : tie.Need-part-t-end
+part-t-end c = omega (arith, c .before .before .before .before .before .cut .ensures .1)
+
+cut-requires-2 : tie.Need-cut-requires-2
+cut-requires-2 c κs = search needs
+
+slice-aggregate-number : tie.Need-slice-aggregate-number
+slice-aggregate-number c = sym (length-take-le (c .before .cut2 .result .end) (take (length (c .before .before .before .before .before .before .before .before .before .before .args .s .now) - c .before .before .before .before .before .before .before .before .cut .result .next) (drop (c .before .before .before .before .before .before .before .before .cut .result .next) (c .before .before .before .before .before .before .before .before .before .before .args .s .now))) (c .before .cut2 .ensures .0))
+
+number-requires : tie.Need-number-requires
+number-requires c κs = search needs
+
+enum-known-readers : tie.Need-enum-known-readers
+enum-known-readers c = search needs
+
+enum-told-2 : tie.Need-enum-told-2
+enum-told-2 c = search needs
+
+returns-2 : tie.Need-returns-2
+returns-2 c = rw (kind-read (c .before .before .before .before .before .before), read-part narrow (c .before .before .number .result) (take (c .before .before .before .before .cut2 .result .end) (take (length (c .before .before .before .before .before .before .before .before .before .before .before .before .before .args .s .now) - c .before .before .before .before .before .before .before .before .before .before .before .cut .result .next) (drop (c .before .before .before .before .before .before .before .before .before .before .before .cut .result .next) (c .before .before .before .before .before .before .before .before .before .before .before .before .before .args .s .now)))) (first (rest (c .before .before .before .before .before .before .before .before .before .before .before .before .before .args .s .now))) Bad (c .before .before .number .ensures) (c .before .before .before .before .cut2 .ensures .2 ∙ ap first (others (c .before .before .before .before .before))) (c .enum-told2 .given .1)) refl
+
+cast-making-of : tie.Need-cast-making-of
+cast-making-of c = let a = kind-narrow (first (c .before .before .before .before .before .before .before .before .before .before .before .before .before .before .args .s .now)) (c .before .before .before .before .before .before .before .before .k .given .0 .0) (kind-read (c .before .before .before .before .before .before .before)) in omega (arith, a)
+
+cast-making-of-2 : tie.Need-cast-making-of-2
+cast-making-of-2 c = let a = within-most 65535 (plain (first (rest (c .before .before .before .before .before .before .before .before .before .before .before .before .before .before .args .s .now)))) (c .before .readers .given .0 .0) (readers-read c) in omega (arith, a)
+
+sub-making-of : tie.Need-sub-making-of
+sub-making-of c = omega (arith, c .before .before .before .before .before .cut2 .ensures .1)
+
+part-making-of-start : tie.Need-part-making-of-start
+part-making-of-start c = omega (arith, c .before .before .before .before .before .cut2 .ensures .1)
+
+part-making-of-end : tie.Need-part-making-of-end
+part-making-of-end c = omega (arith, c .before .before .before .before .before .cut2 .ensures .1)
+
+making-of-requires : tie.Need-making-of-requires
+making-of-requires c κs = search needs
+
+returns-3 : tie.Need-returns-3
+returns-3 c = rw (kind-read (c .before .before .before .before .before .before .before .before .before), readers-read (c .before .before), sym (tail-is (c .before .before .before .before .before .before .before .cut2 .result .next) (take (length (c .before .before .before .before .before .before .before .before .before .before .before .before .before .before .before .before .args .s .now) - c .before .before .before .before .before .before .before .before .before .before .before .before .before .before .cut .result .next) (drop (c .before .before .before .before .before .before .before .before .before .before .before .before .before .before .cut .result .next) (c .before .before .before .before .before .before .before .before .before .before .before .before .before .before .before .before .args .s .now))) (rest (rest (c .before .before .before .before .before .before .before .before .before .before .before .before .before .before .before .before .args .s .now))) (c .before .before .before .before .before .before .before .cut2 .ensures .3 ∙ ap rest (others (c .before .before .before .before .before .before .before .before))))) (c .making-of .ensures)
+
+pub making-spec : {M : Type 1} → statement M
+making-spec =
+    tie.close
+    (tie.spec
+    cut-requires
+    slice-aggregate-kind
+    kind-requires
+    enum-known-k
+    enum-told
+    returns
+    sub-t
+    part-t-start
+    part-t-end
+    cut-requires-2
+    slice-aggregate-number
+    number-requires
+    enum-known-readers
+    enum-told-2
+    returns-2
+    cast-making-of
+    cast-making-of-2
+    sub-making-of
+    part-making-of-start
+    part-making-of-end
+    making-of-requires
+    returns-3)

@@ -1,0 +1,137 @@
+use borrow.Author.Needs.{needs}
+use native.Mathlib.Omega.{arith}
+use lib.ListN.{length, getD, set, length-set}
+use Prim.Native.Nat.{ℕ, _-_, _≤_}
+use native.Mathlib.Omega.{arith}
+use mathlib.Core.Path.{_≡_, refl, sym, _∙_, ap}
+use mathlib.Core.List.{List}
+use lib.ListN.{length, take, drop}
+use lib.Seq.{length-take-le}
+use Rattle.sheet_law.specs.declared.Number.{Number}
+use Rattle.sheet_law.specs.declared.Number.the-variants.{Fine, Bad}
+use Rattle.sheet_law.specs.Reading.{first, rest, plain, narrow, wide, kindNamed, angle as angle-of}
+use Rattle.sheet_reading.proofs.Bytes.{read-part, tail-is, within-most}
+use Rattle.sheet_reading.proofs.making_of.Statement.{statement}
+use Rattle.sheet_reading.proofs.making_of.Tie as tie
+use Rattle.sheet_reading.proofs.making_of.Reads as reads
+use Rattle.sheet_reading.proofs.making_of.Lts as lts
+use Rattle.sheet_reading.proofs.cut.Reads as cut-reads
+use Rattle.sheet_reading.proofs.number.Reads as number-reads
+
+others : (c : tie.After-t) → take (length (c .before .before .before .before .before .before .before .before .args .s .now) - c .before .before .before .before .before .before .cut .result .next) (drop (c .before .before .before .before .before .before .cut .result .next) (c .before .before .before .before .before .before .before .before .args .s .now)) ≡ rest (c .before .before .before .before .before .before .before .before .args .s .now)
+others c = tail-is (c .before .before .before .before .before .before .cut .result .next) (c .before .before .before .before .before .before .before .before .args .s .now) (rest (c .before .before .before .before .before .before .before .before .args .s .now)) (c .before .before .before .before .before .before .cut .ensures .3)
+
+publishers-read : (c : tie.After-known-told) → narrow (first (c .before .before .before .before .before .before .before .args .s .now)) ≡ Fine (c .before .publishers .given .0 .0)
+publishers-read c = read-part narrow (c .before .before .before .number .result) (take (c .before .before .before .before .before .cut .result .end) (c .before .before .before .before .before .before .before .args .s .now)) (first (c .before .before .before .before .before .before .before .args .s .now)) (Fine (c .before .publishers .given .0 .0)) (c .before .before .before .number .ensures) (c .before .before .before .before .before .cut .ensures .2) (c .before .publishers .given .1)
+
+slots-read : (c : tie.After-known-told2) → narrow (first (rest (c .before .before .before .before .before .before .before .before .before .before .before .before .before .before .args .s .now))) ≡ Fine (c .before .slots .given .0 .0)
+slots-read c = read-part narrow (c .before .before .before .number2 .result) (take (c .before .before .before .before .before .cut2 .result .end) (take (length (c .before .before .before .before .before .before .before .before .before .before .before .before .before .before .args .s .now) - c .before .before .before .before .before .before .before .before .before .before .before .before .cut .result .next) (drop (c .before .before .before .before .before .before .before .before .before .before .before .before .cut .result .next) (c .before .before .before .before .before .before .before .before .before .before .before .before .before .before .args .s .now)))) (first (rest (c .before .before .before .before .before .before .before .before .before .before .before .before .before .before .args .s .now))) (Fine (c .before .slots .given .0 .0)) (c .before .before .before .number2 .ensures) (c .before .before .before .before .before .cut2 .ensures .2 ∙ ap first (others (c .before .before .before .before .before .before))) (c .before .slots .given .1)
+
+last-part : (c : tie.After-known-told2) → take (length (take (length (c .before .before .before .before .before .before .before .before .before .before .before .before .before .before .args .s .now) - c .before .before .before .before .before .before .before .before .before .before .before .before .cut .result .next) (drop (c .before .before .before .before .before .before .before .before .before .before .before .before .cut .result .next) (c .before .before .before .before .before .before .before .before .before .before .before .before .before .before .args .s .now))) - c .before .before .before .before .before .cut2 .result .next) (drop (c .before .before .before .before .before .cut2 .result .next) (take (length (c .before .before .before .before .before .before .before .before .before .before .before .before .before .before .args .s .now) - c .before .before .before .before .before .before .before .before .before .before .before .before .cut .result .next) (drop (c .before .before .before .before .before .before .before .before .before .before .before .before .cut .result .next) (c .before .before .before .before .before .before .before .before .before .before .before .before .before .before .args .s .now)))) ≡ rest (rest (c .before .before .before .before .before .before .before .before .before .before .before .before .before .before .args .s .now))
+last-part c = tail-is (c .before .before .before .before .before .cut2 .result .next) (take (length (c .before .before .before .before .before .before .before .before .before .before .before .before .before .before .args .s .now) - c .before .before .before .before .before .before .before .before .before .before .before .before .cut .result .next) (drop (c .before .before .before .before .before .before .before .before .before .before .before .before .cut .result .next) (c .before .before .before .before .before .before .before .before .before .before .before .before .before .before .args .s .now))) (rest (rest (c .before .before .before .before .before .before .before .before .before .before .before .before .before .before .args .s .now))) (c .before .before .before .before .before .cut2 .ensures .3 ∙ ap rest (others (c .before .before .before .before .before .before)))
+
+
+cut-requires : tie.Need-cut-requires
+cut-requires c κs = search needs
+
+slice-aggregate-number : tie.Need-slice-aggregate-number
+slice-aggregate-number c = sym (length-take-le (c .before .cut .result .end) (c .before .before .before .args .s .now) (c .before .cut .ensures .0))
+
+number-requires : tie.Need-number-requires
+number-requires c κs = search needs
+
+enum-known-publishers : tie.Need-enum-known-publishers
+enum-known-publishers c = search needs
+
+enum-told : tie.Need-enum-told
+enum-told c = search needs
+
+returns : tie.Need-returns
+returns c = rw (read-part narrow (c .before .before .number .result) (take (c .before .before .before .before .cut .result .end) (c .before .before .before .before .before .before .args .s .now)) (first (c .before .before .before .before .before .before .args .s .now)) Bad (c .before .before .number .ensures) (c .before .before .before .before .cut .ensures .2) (c .enum-told .given .1)) refl
+
+sub-t : tie.Need-sub-t
+sub-t c = omega (arith, c .before .before .before .before .before .cut .ensures .1)
+
+part-t-start : tie.Need-part-t-start
+part-t-start c = omega (arith, c .before .before .before .before .before .cut .ensures .1)
+
+part-t-end : tie.Need-part-t-end
+part-t-end c = omega (arith, c .before .before .before .before .before .cut .ensures .1)
+
+cut-requires-2 : tie.Need-cut-requires-2
+cut-requires-2 c κs = search needs
+
+slice-aggregate-number-2 : tie.Need-slice-aggregate-number-2
+slice-aggregate-number-2 c = sym (length-take-le (c .before .cut2 .result .end) (take (length (c .before .before .before .before .before .before .before .before .before .before .args .s .now) - c .before .before .before .before .before .before .before .before .cut .result .next) (drop (c .before .before .before .before .before .before .before .before .cut .result .next) (c .before .before .before .before .before .before .before .before .before .before .args .s .now))) (c .before .cut2 .ensures .0))
+
+number-requires-2 : tie.Need-number-requires-2
+number-requires-2 c κs = search needs
+
+enum-known-slots : tie.Need-enum-known-slots
+enum-known-slots c = search needs
+
+enum-told-2 : tie.Need-enum-told-2
+enum-told-2 c = search needs
+
+returns-2 : tie.Need-returns-2
+returns-2 c = rw (publishers-read (c .before .before .before .before .before .before), read-part narrow (c .before .before .number2 .result) (take (c .before .before .before .before .cut2 .result .end) (take (length (c .before .before .before .before .before .before .before .before .before .before .before .before .before .args .s .now) - c .before .before .before .before .before .before .before .before .before .before .before .cut .result .next) (drop (c .before .before .before .before .before .before .before .before .before .before .before .cut .result .next) (c .before .before .before .before .before .before .before .before .before .before .before .before .before .args .s .now)))) (first (rest (c .before .before .before .before .before .before .before .before .before .before .before .before .before .args .s .now))) Bad (c .before .before .number2 .ensures) (c .before .before .before .before .cut2 .ensures .2 ∙ ap first (others (c .before .before .before .before .before))) (c .enum-told2 .given .1)) refl
+
+sub-number : tie.Need-sub-number
+sub-number c = omega (arith, c .before .before .before .before .before .cut2 .ensures .1)
+
+part-number-start : tie.Need-part-number-start
+part-number-start c = omega (arith, c .before .before .before .before .before .cut2 .ensures .1)
+
+part-number-end : tie.Need-part-number-end
+part-number-end c = omega (arith, c .before .before .before .before .before .cut2 .ensures .1)
+
+number-requires-3 : tie.Need-number-requires-3
+number-requires-3 c κs = search needs
+
+enum-known-version : tie.Need-enum-known-version
+enum-known-version c = search needs
+
+enum-told-3 : tie.Need-enum-told-3
+enum-told-3 c = search needs
+
+returns-3 : tie.Need-returns-3
+returns-3 c = rw (publishers-read (c .before .before .before .before .before .before .before .before .before .before .before), slots-read (c .before .before .before .before), sym (ap wide (last-part (c .before .before .before .before))) ∙ sym (c .before .before .number3 .ensures) ∙ c .enum-told3 .given .1) refl
+
+cast-t27 : tie.Need-cast-t27
+cast-t27 c = let a = within-most 65535 (plain (first (c .before .before .before .before .before .before .before .before .before .before .before .before .before .before .before .before .before .before .before .args .s .now))) (c .before .before .before .before .before .before .before .before .before .before .before .before .before .publishers .given .0 .0) (publishers-read (c .before .before .before .before .before .before .before .before .before .before .before .before)) in omega (arith, a)
+
+cast-t28 : tie.Need-cast-t28
+cast-t28 c = let a = within-most 65535 (plain (first (rest (c .before .before .before .before .before .before .before .before .before .before .before .before .before .before .before .before .before .before .before .args .s .now)))) (c .before .before .before .before .before .before .slots .given .0 .0) (slots-read (c .before .before .before .before .before)) in omega (arith, a)
+
+returns-4 : tie.Need-returns-4
+returns-4 c = rw (publishers-read (c .before .before .before .before .before .before .before .before .before .before .before .before), slots-read (c .before .before .before .before .before), sym (ap wide (last-part (c .before .before .before .before .before))) ∙ sym (c .before .before .before .number3 .ensures) ∙ c .before .version .given .1) refl
+
+pub making-of-spec : {M : Type 1} → statement M
+making-of-spec =
+    tie.close
+    (tie.spec
+    cut-requires
+    slice-aggregate-number
+    number-requires
+    enum-known-publishers
+    enum-told
+    returns
+    sub-t
+    part-t-start
+    part-t-end
+    cut-requires-2
+    slice-aggregate-number-2
+    number-requires-2
+    enum-known-slots
+    enum-told-2
+    returns-2
+    sub-number
+    part-number-start
+    part-number-end
+    number-requires-3
+    enum-known-version
+    enum-told-3
+    returns-3
+    cast-t27
+    cast-t28
+    returns-4)

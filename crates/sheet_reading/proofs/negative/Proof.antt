@@ -1,0 +1,55 @@
+use borrow.Author.Needs.{needs}
+use native.Mathlib.Omega.{arith}
+use lib.ListN.{length, getD, set, length-set}
+use Prim.Native.Nat.{ℕ, suc, _-_}
+use native.Mathlib.Omega.{arith}
+use mathlib.Core.Path.{_≡_, refl, sym, _∙_, ap}
+use mir.Syntax.{w16}
+use mir.ValLaws.{toZ-ofZ}
+use Rattle.sheet_law.specs.declared.Number.{Number}
+use Rattle.sheet_law.specs.declared.Angle.the-variants.{At}
+use Rattle.sheet_law.specs.Reading.{plain, within, negative as negative-of}
+use Rattle.sheet_reading.proofs.Bytes.{within-most, negative-zero, negative-other}
+use Rattle.sheet_reading.proofs.negative.Statement.{statement}
+use Rattle.sheet_reading.proofs.negative.Tie as tie
+use Rattle.sheet_reading.proofs.negative.Reads as reads
+use Rattle.sheet_reading.proofs.negative.Lts as lts
+use Rattle.sheet_reading.proofs.below.Reads as below-reads
+use Rattle.sheet_reading.proofs.number.Reads as number-reads
+
+number-requires : tie.Need-number-requires
+number-requires c κs = search needs
+
+enum-known-v : tie.Need-enum-known-v
+enum-known-v c = search needs
+
+enum-told : tie.Need-enum-told
+enum-told c = search needs
+
+returns : tie.Need-returns
+returns c = ap negative-of (sym (sym (c .before .before .number .ensures) ∙ c .enum-told .given .1))
+
+returns-2 : tie.Need-returns-2
+returns-2 c = sym (ap negative-of (sym (c .before .before .before .before .number .ensures) ∙ c .before .before .v .given .1) ∙ negative-zero (c .before .before .v .given .0 .0) (c .if1 .taken))
+
+sub-below : tie.Need-sub-below
+sub-below c = search needs
+
+below-requires : tie.Need-below-requires
+below-requires c κs = let a = within-most 32768 (plain (c .before .before .before .before .before .before .args .s .now)) (c .before .before .v .given .0 .0) (sym (c .before .before .before .before .number .ensures) ∙ c .before .before .v .given .1) in omega (arith, a, c .if1 .left)
+
+returns-3 : tie.Need-returns-3
+returns-3 c = rw (toZ-ofZ w16 (c .below .result) (record { sfits = c .below .ok })) (ap At (c .below .ensures) ∙ sym (ap negative-of (sym (c .before .before .before .before .before .number .ensures) ∙ c .before .before .before .v .given .1) ∙ negative-other (c .before .before .before .v .given .0 .0) (c .before .if1 .left)))
+
+pub negative-spec : {M : Type 1} → statement M
+negative-spec =
+    tie.close
+    (tie.spec
+    number-requires
+    enum-known-v
+    enum-told
+    returns
+    returns-2
+    sub-below
+    below-requires
+    returns-3)

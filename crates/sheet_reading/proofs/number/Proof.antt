@@ -1,0 +1,61 @@
+use borrow.Author.Needs.{needs}
+use native.Mathlib.Omega.{arith}
+use lib.ListN.{length, getD, set, length-set}
+use mathlib.Core.Logic.{⊎-elim}
+use Prim.Native.Nat.{ℕ, _<_, _≤_}
+use mathlib.Core.Path.{_≡_, refl, _∙_, sym, ap}
+use native.Mathlib.Omega.{arith}
+use Rattle.sheet_law.specs.declared.Number.{Number}
+use Rattle.sheet_law.specs.declared.Number.the-variants.{Fine, Bad}
+use Rattle.sheet_law.specs.Reading.{digits as digits-of, plain, within}
+use Rattle.sheet_reading.proofs.Bytes.{plain-empty, plain-zero, plain-digits, within-fine, within-bad, within-is, within-less}
+use Rattle.sheet_reading.proofs.number.Statement.{statement}
+use Rattle.sheet_reading.proofs.number.Tie as tie
+use Rattle.sheet_reading.proofs.number.Reads as reads
+use Rattle.sheet_reading.proofs.number.Lts as lts
+use Rattle.sheet_reading.proofs.digits.Reads as digits-reads
+
+plain-is : (c : tie.Joined2) → plain (c .before .before .before .args .s .now) ≡ digits-of 0 (c .before .before .before .args .s .now)
+plain-is c = plain-digits (c .before .before .before .args .s .now) (c .before .if1 .left) (⊎-elim (λ t h. t .2 .left) (λ t h. absurd (omega (arith, t .left))) (c .if2 .came))
+
+
+returns : tie.Need-returns
+returns c = sym (ap (λ (x : Number). within (c .before .before .args .most) x) (plain-empty (c .before .before .args .s .now) (c .if1 .taken)))
+
+shared-slice-read-if3 : tie.Need-shared-slice-read-if3
+shared-slice-read-if3 c = search needs
+
+returns-2 : tie.Need-returns-2
+returns-2 c = sym (ap (λ (x : Number). within (c .before .before .before .before .before .args .most) x) (plain-zero (c .before .before .before .before .before .args .s .now) (c .before .before .if2 .taken) (c .if3 .taken)))
+
+digits-requires : tie.Need-digits-requires
+digits-requires c κs = search needs
+
+enum-known-v : tie.Need-enum-known-v
+enum-known-v c = search needs
+
+enum-told : tie.Need-enum-told
+enum-told c = search needs
+
+returns-3 : tie.Need-returns-3
+returns-3 c = rw (plain-is (c .before .before .before)) (sym (within-less (c .before .before .before .before .before .before .args .most) 18446744073709551615 (digits-of 0 (c .before .before .before .before .before .before .args .s .now)) (omega (arith, c .before .before .before .before .before .before .fits .most)) (sym (c .before .before .digits .ensures) ∙ c .enum-told .given .1)))
+
+returns-4 : tie.Need-returns-4
+returns-4 c = rw (plain-is (c .before .before .before .before .before), within-is 18446744073709551615 (digits-of 0 (c .before .before .before .before .before .before .before .before .args .s .now)) (c .before .before .v .given .0 .0) (sym (c .before .before .before .before .digits .ensures) ∙ c .before .before .v .given .1)) (sym (within-bad (c .before .before .before .before .before .before .before .before .args .most) (c .before .before .v .given .0 .0) (c .if4 .taken)))
+
+returns-5 : tie.Need-returns-5
+returns-5 c = rw (plain-is (c .before .before .before .before .before), within-is 18446744073709551615 (digits-of 0 (c .before .before .before .before .before .before .before .before .args .s .now)) (c .before .before .v .given .0 .0) (sym (c .before .before .before .before .digits .ensures) ∙ c .before .before .v .given .1)) (sym (within-fine (c .before .before .before .before .before .before .before .before .args .most) (c .before .before .v .given .0 .0) (c .if4 .left)))
+
+pub number-spec : {M : Type 1} → statement M
+number-spec =
+    tie.close
+    (tie.spec
+    returns
+    shared-slice-read-if3
+    returns-2
+    digits-requires
+    enum-known-v
+    enum-told
+    returns-3
+    returns-4
+    returns-5)

@@ -1,0 +1,103 @@
+use borrow.Author.Needs.{needs}
+use native.Mathlib.Omega.{arith}
+use lib.ListN.{length, getD, set, length-set}
+use Prim.Native.Nat.{ℕ, _-_, _≤_}
+use native.Mathlib.Omega.{arith}
+use mathlib.Core.Path.{_≡_, refl, sym, _∙_, ap}
+use mathlib.Core.List.{List}
+use lib.ListN.{length, take, drop}
+use lib.Seq.{length-take-le}
+use Rattle.sheet_law.specs.declared.Word.{Word}
+use Rattle.sheet_law.specs.Reading.{first, rest, word as word-of, command as command-of, inner}
+use Rattle.sheet_reading.proofs.Bytes.{tail-is, line-long, line-brief, line-unopened, line-unclosed, line-whole, inner-is}
+use Rattle.sheet_reading.proofs.parse.Statement.{statement}
+use Rattle.sheet_reading.proofs.parse.Tie as tie
+use Rattle.sheet_reading.proofs.parse.Reads as reads
+use Rattle.sheet_reading.proofs.parse.Lts as lts
+use Rattle.sheet_reading.proofs.command.Reads as command-reads
+use Rattle.sheet_reading.proofs.cut.Reads as cut-reads
+use Rattle.sheet_reading.proofs.word.Reads as word-reads
+
+between : (c : tie.After-inner) → take (length (c .before .before .before .before .before .before .before .before .args .line .now) - 1 - 1) (drop 1 (c .before .before .before .before .before .before .before .before .args .line .now)) ≡ inner (c .before .before .before .before .before .before .before .before .args .line .now)
+between c = inner-is (c .before .before .before .before .before .before .before .before .args .line .now) (c .before .before .before .before .before .before .if1 .left) (c .before .before .before .before .before .if2 .left)
+
+
+returns : tie.Need-returns
+returns c = sym (line-long (c .before .before .args .line .now) (c .if1 .taken))
+
+returns-2 : tie.Need-returns-2
+returns-2 c = sym (line-brief (c .before .before .before .args .line .now) (c .before .if1 .left) (c .if2 .taken))
+
+sub-last : tie.Need-sub-last
+sub-last c = search needs
+
+shared-slice-read-if3 : tie.Need-shared-slice-read-if3
+shared-slice-read-if3 c = search needs
+
+returns-3 : tie.Need-returns-3
+returns-3 c = sym (line-unopened (c .before .before .before .before .before .args .line .now) (c .before .before .before .if1 .left) (c .before .before .if2 .left) (c .if3 .taken))
+
+shared-slice-read-if4 : tie.Need-shared-slice-read-if4
+shared-slice-read-if4 c = search needs
+
+returns-4 : tie.Need-returns-4
+returns-4 c = sym (line-unclosed (c .before .before .before .before .before .before .before .args .line .now) (c .before .before .before .before .before .if1 .left) (c .before .before .before .before .if2 .left) (c .before .before .if3 .left) (c .if4 .taken))
+
+sub-inner : tie.Need-sub-inner
+sub-inner c = search needs
+
+part-inner-start : tie.Need-part-inner-start
+part-inner-start c = search needs
+
+part-inner-end : tie.Need-part-inner-end
+part-inner-end c = search needs
+
+cut-requires : tie.Need-cut-requires
+cut-requires c κs = search needs
+
+slice-aggregate-word : tie.Need-slice-aggregate-word
+slice-aggregate-word c = sym (length-take-le (c .before .cut .result .end) (take (length (c .before .before .before .before .before .before .before .before .before .before .args .line .now) - 1 - 1) (drop 1 (c .before .before .before .before .before .before .before .before .before .before .args .line .now))) (c .before .cut .ensures .0))
+
+word-requires : tie.Need-word-requires
+word-requires c κs = search needs
+
+sub-command : tie.Need-sub-command
+sub-command c = omega (arith, c .before .before .cut .ensures .1)
+
+part-command-start : tie.Need-part-command-start
+part-command-start c = omega (arith, c .before .before .cut .ensures .1)
+
+part-command-end : tie.Need-part-command-end
+part-command-end c = omega (arith, c .before .before .cut .ensures .1)
+
+command-requires : tie.Need-command-requires
+command-requires c κs = search needs
+
+returns-5 : tie.Need-returns-5
+returns-5 c = c .command .ensures
+    ∙ ap (λ (x : Word). command-of x (take (length (take (length (c .before .before .before .before .before .before .before .before .before .before .before .before .before .args .line .now) - 1 - 1) (drop 1 (c .before .before .before .before .before .before .before .before .before .before .before .before .before .args .line .now))) - c .before .before .before .before .cut .result .next) (drop (c .before .before .before .before .cut .result .next) (take (length (c .before .before .before .before .before .before .before .before .before .before .before .before .before .args .line .now) - 1 - 1) (drop 1 (c .before .before .before .before .before .before .before .before .before .before .before .before .before .args .line .now)))))) (c .before .before .word .ensures ∙ ap word-of (c .before .before .before .before .cut .ensures .2 ∙ ap first (between (c .before .before .before .before .before))))
+    ∙ ap (λ (k : List ℕ). command-of (word-of (first (inner (c .before .before .before .before .before .before .before .before .before .before .before .before .before .args .line .now)))) k) (tail-is (c .before .before .before .before .cut .result .next) (take (length (c .before .before .before .before .before .before .before .before .before .before .before .before .before .args .line .now) - 1 - 1) (drop 1 (c .before .before .before .before .before .before .before .before .before .before .before .before .before .args .line .now))) (rest (inner (c .before .before .before .before .before .before .before .before .before .before .before .before .before .args .line .now))) (c .before .before .before .before .cut .ensures .3 ∙ ap rest (between (c .before .before .before .before .before))))
+    ∙ sym (line-whole (c .before .before .before .before .before .before .before .before .before .before .before .before .before .args .line .now) (c .before .before .before .before .before .before .before .before .before .before .before .if1 .left) (c .before .before .before .before .before .before .before .before .before .before .if2 .left) (c .before .before .before .before .before .before .before .before .if3 .left) (c .before .before .before .before .before .before .if4 .left))
+
+pub parse-spec : {M : Type 1} → statement M
+parse-spec =
+    tie.close
+    (tie.spec
+    returns
+    returns-2
+    sub-last
+    shared-slice-read-if3
+    returns-3
+    shared-slice-read-if4
+    returns-4
+    sub-inner
+    part-inner-start
+    part-inner-end
+    cut-requires
+    slice-aggregate-word
+    word-requires
+    sub-command
+    part-command-start
+    part-command-end
+    command-requires
+    returns-5)

@@ -1,0 +1,39 @@
+use borrow.Author.Needs.{needs}
+use native.Mathlib.Omega.{arith}
+use lib.ListN.{length, getD, set, length-set}
+use Prim.Native.Nat.{ℕ}
+use native.Mathlib.Omega.{arith}
+use mathlib.Core.Path.{_≡_, refl, sym, _∙_, ap}
+use mir.Syntax.{w16}
+use mir.ValLaws.{toZ-ofZ}
+use Rattle.sheet_law.specs.declared.Angle.the-variants.{At}
+use Rattle.sheet_law.specs.Reading.{plain, within, positive as positive-of}
+use Rattle.sheet_reading.proofs.Bytes.{within-most}
+use Rattle.sheet_reading.proofs.positive.Statement.{statement}
+use Rattle.sheet_reading.proofs.positive.Tie as tie
+use Rattle.sheet_reading.proofs.positive.Reads as reads
+use Rattle.sheet_reading.proofs.positive.Lts as lts
+use Rattle.sheet_reading.proofs.above.Reads as above-reads
+use Rattle.sheet_reading.proofs.number.Reads as number-reads
+
+number-requires : tie.Need-number-requires
+number-requires c κs = search needs
+
+enum-known-v : tie.Need-enum-known-v
+enum-known-v c = search needs
+
+enum-told : tie.Need-enum-told
+enum-told c = search needs
+
+returns : tie.Need-returns
+returns c = ap positive-of (sym (sym (c .before .before .number .ensures) ∙ c .enum-told .given .1))
+
+above-requires : tie.Need-above-requires
+above-requires c κs = let a = within-most 32767 (plain (c .before .before .before .before .before .args .s .now)) (c .before .v .given .0 .0) (sym (c .before .before .before .number .ensures) ∙ c .before .v .given .1) in omega (arith, a)
+
+returns-2 : tie.Need-returns-2
+returns-2 c = rw (toZ-ofZ w16 (c .above .result) (record { sfits = c .above .ok })) (ap At (c .above .ensures) ∙ sym (ap positive-of (sym (c .before .before .before .before .number .ensures) ∙ c .before .before .v .given .1)))
+
+pub positive-spec : {M : Type 1} → statement M
+positive-spec =
+    tie.close (tie.spec number-requires enum-known-v enum-told returns above-requires returns-2)
