@@ -7,15 +7,10 @@ ghost use mathlib.Core.List.{_++_};
 ghost use lib.ListN.{length, take, drop};
 ghost use Rattle.statement.specs.Machine.{state, outcome};
 ghost use Rattle.sheet_law.specs.Sheet.{played, joined, lineFor, desk, fed, printed};
-use calls::DAMAGED;
 use calls::Pitch;
-use calls::Reply;
-use calls::TABLE;
-use layout::WORDS;
-use layout::slots_of;
-use sheet_law::Command;
 use sheet_law::LINE_MAX;
 use sheet_law::Line;
+use sheet_playing::play;
 use sheet_printing::fits;
 use sheet_printing::print_reply;
 use sheet_printing::print_unread;
@@ -28,42 +23,6 @@ pub const KEPT: usize = 81;
 
 // Room for the entries of the largest store.
 pub const ROOM: usize = 1024;
-
-// How many of the room's entries a store of some slots is lent.
-fn part(slots: u64, room: usize) -> usize {
-    let most = (room / TABLE) as u64;
-    if slots <= most {
-        return slots as usize * TABLE;
-    }
-    room
-}
-
-// One command, on the store's words and the room for its entries.
-pub fn play(words: &mut [u64], room: &mut [Pitch], command: Command) -> Reply
-    ensures { λ a. ⌜ outcome a (state (now (words .exit)) (now (room .exit))) ≡ played (state (now (words .entry)) (now (room .entry))) command ⌝ }
-{
-    match command {
-        Command::Make(kind, readers, publishers, slots, version) => {
-            let n = part(slots as u64, room.len());
-            kinds::make(
-                words,
-                &mut room[..n],
-                kind,
-                readers,
-                publishers,
-                slots,
-                version,
-            )
-        }
-        Command::Run(call) => {
-            if words.len() != WORDS {
-                return Reply::Refused(DAMAGED);
-            }
-            let n = part(slots_of(words), room.len());
-            kinds::run(words, &mut room[..n], call)
-        }
-    }
-}
 
 // What is kept beside the lent slices, and how far input and output went.
 pub struct Fed {

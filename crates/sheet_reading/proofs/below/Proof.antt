@@ -18,7 +18,6 @@ is c = ap (λ (z : ℤ). negsuc 0 -ℤ z) (toZ-pos w16 _ (c .pre)) ∙ one-less 
 small : (c : tie.Start) → SFits w16 (negsuc (c .args .v))
 small c = record { sfits = c .pre }
 
-
 cast-result : tie.Need-cast-result
 cast-result c = search needs
 

@@ -17,7 +17,6 @@ use Rattle.sheet_reading.proofs.wide.Reads as wide-reads
 abbrev wide-enough : Number → Number
 wide-enough x = within 18446744073709551615 x
 
-
 abbrev Inv-loop : tie.InvT-loop
 Inv-loop s n₀ i₀ n i = (i ≤ length s) × (n ≤ 18446744073709551615) × (wide-enough (digits-of 0 s) ≡ wide-enough (digits-of n (drop i s)))
 

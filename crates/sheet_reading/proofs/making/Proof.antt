@@ -30,7 +30,6 @@ kind-read c = read-part kindNamed (c .before .before .before .kind .result) (tak
 readers-read : (c : tie.After-known-told2) → narrow (first (rest (c .before .before .before .before .before .before .before .before .before .before .before .before .before .before .args .s .now))) ≡ Fine (c .before .readers .given .0 .0)
 readers-read c = read-part narrow (c .before .before .before .number .result) (take (c .before .before .before .before .before .cut2 .result .end) (take (length (c .before .before .before .before .before .before .before .before .before .before .before .before .before .before .args .s .now) - c .before .before .before .before .before .before .before .before .before .before .before .before .cut .result .next) (drop (c .before .before .before .before .before .before .before .before .before .before .before .before .cut .result .next) (c .before .before .before .before .before .before .before .before .before .before .before .before .before .before .args .s .now)))) (first (rest (c .before .before .before .before .before .before .before .before .before .before .before .before .before .before .args .s .now))) (Fine (c .before .readers .given .0 .0)) (c .before .before .before .number .ensures) (c .before .before .before .before .before .cut2 .ensures .2 ∙ ap first (others (c .before .before .before .before .before .before))) (c .before .readers .given .1)
 
-
 cut-requires : tie.Need-cut-requires
 cut-requires c κs = search needs
 

@@ -30,7 +30,6 @@ slots-read c = read-part narrow (c .before .before .before .number2 .result) (ta
 last-part : (c : tie.After-known-told2) → take (length (take (length (c .before .before .before .before .before .before .before .before .before .before .before .before .before .before .args .s .now) - c .before .before .before .before .before .before .before .before .before .before .before .before .cut .result .next) (drop (c .before .before .before .before .before .before .before .before .before .before .before .before .cut .result .next) (c .before .before .before .before .before .before .before .before .before .before .before .before .before .before .args .s .now))) - c .before .before .before .before .before .cut2 .result .next) (drop (c .before .before .before .before .before .cut2 .result .next) (take (length (c .before .before .before .before .before .before .before .before .before .before .before .before .before .before .args .s .now) - c .before .before .before .before .before .before .before .before .before .before .before .before .cut .result .next) (drop (c .before .before .before .before .before .before .before .before .before .before .before .before .cut .result .next) (c .before .before .before .before .before .before .before .before .before .before .before .before .before .before .args .s .now)))) ≡ rest (rest (c .before .before .before .before .before .before .before .before .before .before .before .before .before .before .args .s .now))
 last-part c = tail-is (c .before .before .before .before .before .cut2 .result .next) (take (length (c .before .before .before .before .before .before .before .before .before .before .before .before .before .before .args .s .now) - c .before .before .before .before .before .before .before .before .before .before .before .before .cut .result .next) (drop (c .before .before .before .before .before .before .before .before .before .before .before .before .cut .result .next) (c .before .before .before .before .before .before .before .before .before .before .before .before .before .before .args .s .now))) (rest (rest (c .before .before .before .before .before .before .before .before .before .before .before .before .before .before .args .s .now))) (c .before .before .before .before .before .cut2 .ensures .3 ∙ ap rest (others (c .before .before .before .before .before .before)))
 
-
 cut-requires : tie.Need-cut-requires
 cut-requires c κs = search needs
 

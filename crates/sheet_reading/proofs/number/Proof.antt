@@ -18,7 +18,6 @@ use Rattle.sheet_reading.proofs.digits.Reads as digits-reads
 plain-is : (c : tie.Joined2) → plain (c .before .before .before .args .s .now) ≡ digits-of 0 (c .before .before .before .args .s .now)
 plain-is c = plain-digits (c .before .before .before .args .s .now) (c .before .if1 .left) (⊎-elim (λ t h. t .2 .left) (λ t h. absurd (omega (arith, t .left))) (c .if2 .came))
 
-
 returns : tie.Need-returns
 returns c = sym (ap (λ (x : Number). within (c .before .before .args .most) x) (plain-empty (c .before .before .args .s .now) (c .if1 .taken)))
 

@@ -21,7 +21,6 @@ use Rattle.sheet_reading.proofs.word.Reads as word-reads
 between : (c : tie.After-inner) → take (length (c .before .before .before .before .before .before .before .before .args .line .now) - 1 - 1) (drop 1 (c .before .before .before .before .before .before .before .before .args .line .now)) ≡ inner (c .before .before .before .before .before .before .before .before .args .line .now)
 between c = inner-is (c .before .before .before .before .before .before .before .before .args .line .now) (c .before .before .before .before .before .before .if1 .left) (c .before .before .before .before .before .if2 .left)
 
-
 returns : tie.Need-returns
 returns c = sym (line-long (c .before .before .args .line .now) (c .if1 .taken))
 

@@ -25,7 +25,6 @@ first-read c = read-part narrow (c .before .before .before .before .before .befo
 rest-read : (c : tie.After-known-told2) → narrow (rest (c .before .before .before .before .before .before .before .before .before .before .before .before .args .s .now)) ≡ Fine (c .before .m .given .0 .0)
 rest-read c = read-part narrow (c .before .before .before .number2 .result) (take (length (c .before .before .before .before .before .before .before .before .before .before .before .before .args .s .now) - c .before .before .before .before .before .before .before .before .before .before .cut .result .next) (drop (c .before .before .before .before .before .before .before .before .before .before .cut .result .next) (c .before .before .before .before .before .before .before .before .before .before .before .before .args .s .now))) (rest (c .before .before .before .before .before .before .before .before .before .before .before .before .args .s .now)) (Fine (c .before .m .given .0 .0)) (c .before .before .before .number2 .ensures) (tail-is (c .before .before .before .before .before .before .before .before .before .before .cut .result .next) (c .before .before .before .before .before .before .before .before .before .before .before .before .args .s .now) (rest (c .before .before .before .before .before .before .before .before .before .before .before .before .args .s .now)) (c .before .before .before .before .before .before .before .before .before .before .cut .ensures .3)) (c .before .m .given .1)
 
-
 cut-requires : tie.Need-cut-requires
 cut-requires c κs = search needs
 
@@ -64,9 +63,9 @@ enum-told-2 c = search needs
 
 returns-2 : tie.Need-returns-2
 returns-2 c = rw (
-    read-part narrow (c .before .before .before .before .before .before .before .number .result) (take (c .before .before .before .before .before .before .before .before .before .cut .result .end) (c .before .before .before .before .before .before .before .before .before .before .before .args .s .now)) (first (c .before .before .before .before .before .before .before .before .before .before .before .args .s .now)) (Fine (c .before .before .before .before .before .n .given .0 .0)) (c .before .before .before .before .before .before .before .number .ensures) (c .before .before .before .before .before .before .before .before .before .cut .ensures .2) (c .before .before .before .before .before .n .given .1),
-    read-part narrow (c .before .before .number2 .result) (take (length (c .before .before .before .before .before .before .before .before .before .before .before .args .s .now) - c .before .before .before .before .before .before .before .before .before .cut .result .next) (drop (c .before .before .before .before .before .before .before .before .before .cut .result .next) (c .before .before .before .before .before .before .before .before .before .before .before .args .s .now))) (rest (c .before .before .before .before .before .before .before .before .before .before .before .args .s .now)) Bad (c .before .before .number2 .ensures) (tail-is (c .before .before .before .before .before .before .before .before .before .cut .result .next) (c .before .before .before .before .before .before .before .before .before .before .before .args .s .now) (rest (c .before .before .before .before .before .before .before .before .before .before .before .args .s .now)) (c .before .before .before .before .before .before .before .before .before .cut .ensures .3)) (c .enum-told2 .given .1)
-    ) refl
+  read-part narrow (c .before .before .before .before .before .before .before .number .result) (take (c .before .before .before .before .before .before .before .before .before .cut .result .end) (c .before .before .before .before .before .before .before .before .before .before .before .args .s .now)) (first (c .before .before .before .before .before .before .before .before .before .before .before .args .s .now)) (Fine (c .before .before .before .before .before .n .given .0 .0)) (c .before .before .before .before .before .before .before .number .ensures) (c .before .before .before .before .before .before .before .before .before .cut .ensures .2) (c .before .before .before .before .before .n .given .1),
+  read-part narrow (c .before .before .number2 .result) (take (length (c .before .before .before .before .before .before .before .before .before .before .before .args .s .now) - c .before .before .before .before .before .before .before .before .before .cut .result .next) (drop (c .before .before .before .before .before .before .before .before .before .cut .result .next) (c .before .before .before .before .before .before .before .before .before .before .before .args .s .now))) (rest (c .before .before .before .before .before .before .before .before .before .before .before .args .s .now)) Bad (c .before .before .number2 .ensures) (tail-is (c .before .before .before .before .before .before .before .before .before .cut .result .next) (c .before .before .before .before .before .before .before .before .before .before .before .args .s .now) (rest (c .before .before .before .before .before .before .before .before .before .before .before .args .s .now)) (c .before .before .before .before .before .before .before .before .before .cut .ensures .3)) (c .enum-told2 .given .1),
+) refl
 
 cast-two-of : tie.Need-cast-two-of
 cast-two-of c = let a = within-most 65535 (plain (first (c .before .before .before .before .before .before .before .before .before .before .before .before .args .s .now))) (c .before .before .before .before .before .before .n .given .0 .0) (first-read c) in omega (arith, a)

@@ -27,7 +27,6 @@ use Rattle.sheet_reading.proofs.number.Reads as number-reads
 first-read : (c : tie.After-known-told) → narrow (first (c .before .before .before .before .before .before .before .args .s .now)) ≡ Fine (c .before .p .given .0 .0)
 first-read c = read-part narrow (c .before .before .before .number .result) (take (c .before .before .before .before .before .cut .result .end) (c .before .before .before .before .before .before .before .args .s .now)) (first (c .before .before .before .before .before .before .before .args .s .now)) (Fine (c .before .p .given .0 .0)) (c .before .before .before .number .ensures) (c .before .before .before .before .before .cut .ensures .2) (c .before .p .given .1)
 
-
 cut-requires : tie.Need-cut-requires
 cut-requires c κs = search needs
 

@@ -1,0 +1,22 @@
+use borrow.Author.Needs.{needs}
+use native.Mathlib.Omega.{arith}
+use lib.ListN.{length, getD, set, length-set}
+use native.Mathlib.Omega.{arith}
+use mathlib.Core.Logic.{inl, inr}
+use mathlib.Core.Path.{refl}
+use Rattle.sheet_playing.proofs.part.Statement.{statement}
+use Rattle.sheet_playing.proofs.part.Tie as tie
+use Rattle.sheet_playing.proofs.part.Reads as reads
+use Rattle.sheet_playing.proofs.part.Lts as lts
+
+mul-result : tie.Need-mul-result
+mul-result c = search needs
+
+returns : tie.Need-returns
+returns c = (omega (arith, c .if1 .taken), inl refl)
+
+returns-2 : tie.Need-returns-2
+returns-2 c = (omega arith, inr (refl, omega (arith, c .if1 .left)))
+
+pub part-spec : {M : Type 1} → statement M
+part-spec = tie.close (tie.spec mul-result returns returns-2)
