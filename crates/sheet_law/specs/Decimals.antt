@@ -1,6 +1,6 @@
 -- Laws of plain decimals, for every number: what decimal writes, plain reads back, and it reads nothing else as that number; a decimal is digits alone, so that
 -- no space stands in it. By the digits from the left: those of a number's tenth, then its last digit. Assumes nothing.
-use Prim.Native.Nat.{ℕ, zero, suc, _+_, _*_, _-_, _/_, _%_, _^_, _<_, _≤_}
+use Prim.Native.Nat.{ℕ, zero, suc, _+_, _*_, _-_, _/_, _^_, _<_, _≤_}
 use native.Mathlib.Omega.{arith}
 use mathlib.Core.Path.{_≡_, refl, sym, ap, ap₂, _∙_}
 use mathlib.Core.Logic.{_≢_}
@@ -10,7 +10,6 @@ use lib.ListN.{length}
 use borrow.Author.Tests.{ne-eqb, eqb-true, eqb-false}
 use Rattle.calls.specs.Rows.{outside}
 use Rattle.calls.specs.RowLaws.{pick-split, within, not-outside}
-use Rattle.sheet_law.specs.declared.Number.{Number}
 use Rattle.sheet_law.specs.declared.Number.the-variants.{Fine, Bad}
 use Rattle.sheet_law.specs.Text.{SPACE, DIGIT-0, DIGIT-9, lastDigit, digitsBefore, decimal}
 use Rattle.sheet_law.specs.Reading.{first, rest, digits, plain}

@@ -4,3 +4,4 @@ pub mod Printing
 pub mod Sheet
 pub mod Example
 pub mod Decimals
+pub mod Reads
