@@ -5,3 +5,4 @@ pub mod Sheet
 pub mod Example
 pub mod Decimals
 pub mod Reads
+pub mod Canonical
