@@ -76,6 +76,13 @@ unfolding decimal digitsBefore plain digits
 plain-decimal zero = refl
 plain-decimal (suc n) = plain-before (suc (suc n)) (suc n) [] (omega arith) (λ z. omega arith) ∙ digits-decimal (suc n)
 
+-- Two different numbers have different decimals.
+fine-only : (a b : ℕ) → Fine a ≡ Fine b → a ≡ b
+fine-only a b e = cc
+
+pub decimal-injective : (n m : ℕ) → decimal n ≡ decimal m → n ≡ m
+decimal-injective n m e = fine-only n m (sym (plain-decimal n) ∙ (ap plain e ∙ plain-decimal m))
+
 -- A decimal is digits.
 abbrev pub AllDigits : List ℕ → Type 0
 AllDigits [] = Unit {0}
@@ -147,9 +154,6 @@ unfolding decimal
 decimal-one n b low high e = spell-last n [] (omega arith) ∙ ap (λ c. c ∷ []) (omega arith)
 
 -- Only its plain decimal is read as a number.
-fine-only : (a b : ℕ) → Fine a ≡ Fine b → a ≡ b
-fine-only a b e = cc
-
 not-bad : (n : ℕ) → Bad ≡ Fine n → ⊥
 not-bad n e = let z : _≡_ {A = ℕ} 0 1 = cc in omega arith
 

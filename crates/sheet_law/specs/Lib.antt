@@ -6,3 +6,4 @@ pub mod Example
 pub mod Decimals
 pub mod Reads
 pub mod Canonical
+pub mod Replies
