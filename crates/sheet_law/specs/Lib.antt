@@ -7,3 +7,4 @@ pub mod Decimals
 pub mod Reads
 pub mod Canonical
 pub mod Replies
+pub mod Only
