@@ -1,6 +1,6 @@
 -- A command's own text. A command whose arguments have their widths is read back from it, whatever they are: its text is bracketed, of at most 80 bytes, and
 -- its decimals are read back. Assumes nothing.
-use Prim.Native.Nat.{ℕ, suc, _+_, _-_, _≤_}
+use Prim.Native.Nat.{ℕ, suc, _+_, _-_, _^_, _<_, _≤_}
 use native.Mathlib.Omega.{arith}
 use mathlib.Core.Path.{_≡_, refl, _∙_}
 use mathlib.Core.Logic.{_⊎_, inl, inr}
@@ -62,24 +62,30 @@ abbrev pub commandText : Command → List ℕ
 commandText c = inBrackets (innerText c)
 
 -- Widths: pitches signed 16 bits, versions 64, all other arguments 16, unsigned; the kind is `new` or `old`.
+abbrev pub FitsNarrow : ℕ → Type 0
+FitsNarrow n = n < 2 ^ 16
+
+abbrev pub FitsWide : ℕ → Type 0
+FitsWide n = n < 2 ^ 64
+
 abbrev pub FitsAngle : ℤ → Type 0
-FitsAngle (pos n) = n ≤ PITCH-MAX
-FitsAngle (negsuc n) = suc n ≤ PITCH-MIN
+FitsAngle (pos n) = n < 2 ^ 15
+FitsAngle (negsuc n) = suc n ≤ 2 ^ 15
 
 abbrev pub FitsCall : Call → Type 0
-FitsCall (call.Enter r) = r ≤ NARROW-MAX
-FitsCall (call.Look r k) = (r ≤ NARROW-MAX) × (k ≤ NARROW-MAX)
-FitsCall (call.Leave r) = r ≤ NARROW-MAX
-FitsCall (call.Claim p s) = (p ≤ NARROW-MAX) × (s ≤ NARROW-MAX)
-FitsCall (call.Write p v) = (p ≤ NARROW-MAX) × FitsAngle v
-FitsCall (call.Swap p) = p ≤ NARROW-MAX
-FitsCall (call.Sync p) = p ≤ NARROW-MAX
-FitsCall (call.Raise p) = p ≤ NARROW-MAX
-FitsCall (call.Walk p b) = (p ≤ NARROW-MAX) × (b ≤ NARROW-MAX)
-FitsCall (call.Release p) = p ≤ NARROW-MAX
+FitsCall (call.Enter r) = FitsNarrow r
+FitsCall (call.Look r k) = FitsNarrow r × FitsNarrow k
+FitsCall (call.Leave r) = FitsNarrow r
+FitsCall (call.Claim p s) = FitsNarrow p × FitsNarrow s
+FitsCall (call.Write p v) = FitsNarrow p × FitsAngle v
+FitsCall (call.Swap p) = FitsNarrow p
+FitsCall (call.Sync p) = FitsNarrow p
+FitsCall (call.Raise p) = FitsNarrow p
+FitsCall (call.Walk p b) = FitsNarrow p × FitsNarrow b
+FitsCall (call.Release p) = FitsNarrow p
 
 abbrev pub Fits : Command → Type 0
-Fits (Make k rs ps ss v) = ((k ≡ KIND-NEW) ⊎ (k ≡ KIND-OLD)) × (rs ≤ NARROW-MAX) × (ps ≤ NARROW-MAX) × (ss ≤ NARROW-MAX) × (v ≤ NUMBER-MAX)
+Fits (Make k rs ps ss v) = ((k ≡ KIND-NEW) ⊎ (k ≡ KIND-OLD)) × FitsNarrow rs × FitsNarrow ps × FitsNarrow ss × FitsWide v
 Fits (Run c) = FitsCall c
 
 -- A bracketed text is read as what stands between the brackets.
@@ -96,11 +102,11 @@ bracketed-read w short =
     ) refl
 
 -- Arguments are read back.
-narrow-back : (n : ℕ) → n ≤ NARROW-MAX → narrow (decimal n) ≡ Fine n
-narrow-back n fits = rw (plain-decimal n, le-ltb NARROW-MAX n fits) refl
+narrow-back : (n : ℕ) → FitsNarrow n → narrow (decimal n) ≡ Fine n
+narrow-back n fits = rw (plain-decimal n, le-ltb NARROW-MAX n (omega arith)) refl
 
-wide-back : (n : ℕ) → n ≤ NUMBER-MAX → wide (decimal n) ≡ Fine n
-wide-back n fits = rw (plain-decimal n, le-ltb NUMBER-MAX n fits) refl
+wide-back : (n : ℕ) → FitsWide n → wide (decimal n) ≡ Fine n
+wide-back n fits = rw (plain-decimal n, le-ltb NUMBER-MAX n (omega arith)) refl
 
 kind-back : (k : ℕ) → (k ≡ KIND-NEW) ⊎ (k ≡ KIND-OLD) → (l : List ℕ) → (kindNamed (first (kindText k ++ (SPACE ∷ l))) ≡ Fine k) × (rest (kindText k ++ (SPACE ∷ l)) ≡ l)
 unfolding first rest kindNamed
@@ -115,14 +121,14 @@ angle-digits (b ∷ k) a = rw (ne-eqb b MINUS (λ z. omega arith)) refl
 
 angle-back : (v : ℤ) → FitsAngle v → angle (angleText v) ≡ At v
 unfolding angle
-angle-back (pos n) fits = angle-digits (decimal n) (all-digits n) ∙ rw (plain-decimal n, le-ltb PITCH-MAX n fits) refl
-angle-back (negsuc n) fits = rw (plain-decimal (suc n), le-ltb PITCH-MIN (suc n) fits) refl
+angle-back (pos n) fits = angle-digits (decimal n) (all-digits n) ∙ rw (plain-decimal n, le-ltb PITCH-MAX n (omega arith)) refl
+angle-back (negsuc n) fits = rw (plain-decimal (suc n), le-ltb PITCH-MIN (suc n) (omega arith)) refl
 
 -- A command's text is at most 80 bytes.
-narrow-length : (n : ℕ) → n ≤ NARROW-MAX → length (decimal n) ≤ 5
+narrow-length : (n : ℕ) → FitsNarrow n → length (decimal n) ≤ 5
 narrow-length n fits = decimal-length 5 n (omega arith) (omega arith)
 
-wide-length : (n : ℕ) → n ≤ NUMBER-MAX → length (decimal n) ≤ 20
+wide-length : (n : ℕ) → FitsWide n → length (decimal n) ≤ 20
 wide-length n fits = decimal-length 20 n (omega arith) (omega arith)
 
 angle-length : (v : ℤ) → FitsAngle v → length (angleText v) ≤ 6
@@ -132,17 +138,17 @@ angle-length (negsuc n) fits = let d = decimal-length 5 (suc n) (omega arith) (o
 two-length : (m n : ℕ) (a b : List ℕ) → length a ≤ m → length b ≤ n → length (a ++ (SPACE ∷ b)) ≤ m + 1 + n
 two-length m n a b la lb = omega (arith, length-append a (SPACE ∷ b))
 
-pair-length : (n m : ℕ) → n ≤ NARROW-MAX → m ≤ NARROW-MAX → length (decimal n ++ (SPACE ∷ decimal m)) ≤ 11
+pair-length : (n m : ℕ) → FitsNarrow n → FitsNarrow m → length (decimal n ++ (SPACE ∷ decimal m)) ≤ 11
 pair-length n m a b = two-length 5 5 (decimal n) (decimal m) (narrow-length n a) (narrow-length m b)
 
 -- A command is read back from its text.
-one-back : (w : Word) (n : ℕ) → n ≤ NARROW-MAX → one w (decimal n) ≡ oneOf w n
+one-back : (w : Word) (n : ℕ) → FitsNarrow n → one w (decimal n) ≡ oneOf w n
 one-back w n f = rw (narrow-back n f) refl
 
-two-back : (w : Word) (n m : ℕ) → n ≤ NARROW-MAX → m ≤ NARROW-MAX → two w (decimal n ++ (SPACE ∷ decimal m)) ≡ twoOf w n m
+two-back : (w : Word) (n m : ℕ) → FitsNarrow n → FitsNarrow m → two w (decimal n ++ (SPACE ∷ decimal m)) ≡ twoOf w n m
 two-back w n m f g = rw (decimal-first n (decimal m), decimal-rest n (decimal m), narrow-back n f, narrow-back m g) refl
 
-write-back : (p : ℕ) (v : ℤ) → p ≤ NARROW-MAX → FitsAngle v → writing (decimal p ++ (SPACE ∷ angleText v)) ≡ Read (Run (call.Write p v))
+write-back : (p : ℕ) (v : ℤ) → FitsNarrow p → FitsAngle v → writing (decimal p ++ (SPACE ∷ angleText v)) ≡ Read (Run (call.Write p v))
 write-back p v f g = rw (decimal-first p (angleText v), decimal-rest p (angleText v), narrow-back p f, angle-back v g) refl
 
 reads-call : (c : Call) → FitsCall c → lineOf (commandText (Run c)) ≡ Read (Run c)

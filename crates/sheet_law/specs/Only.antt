@@ -25,7 +25,7 @@ use Rattle.sheet_law.specs.declared.Line.the-variants.{Read, Unread}
 use Rattle.sheet_law.specs.Text.{text, same, SPACE, OPEN, CLOSE, MINUS, decimal}
 use Rattle.sheet_law.specs.Reading.{LINE-MAX, NARROW-MAX, PITCH-MAX, PITCH-MIN, first, rest, plain, within, narrow, wide, negative, positive, angle, word, kindNamed, given, givenAngle, oneOf, twoOf, making, command, bracketed, inner, lineOf}
 use Rattle.sheet_law.specs.Decimals.{plain-decimal, plain-only}
-use Rattle.sheet_law.specs.Canonical.{kindText, angleText, innerText, inBrackets, commandText, FitsAngle, Fits, reads-back}
+use Rattle.sheet_law.specs.Canonical.{kindText, angleText, innerText, inBrackets, commandText, FitsNarrow, FitsWide, FitsAngle, Fits, reads-back}
 
 -- Two texts that are found the same are.
 same-only : (l k : List ℕ) → same l k ≡ true → l ≡ k
@@ -51,11 +51,11 @@ module _ (Q : Line → Type 0) (bad : Q Unread) where
   given-only Bad f h = bad
   given-only (Fine n) f h = h n refl
 
-  narrow-only : (l : List ℕ) (f : ℕ → Line) → ((n : ℕ) → decimal n ≡ l → n ≤ NARROW-MAX → Q (f n)) → Q (given (narrow l) f)
-  narrow-only l f h = given-only (narrow l) f (λ n e. let q = within-only NARROW-MAX l n e in h n (q .0) (q .1))
+  narrow-only : (l : List ℕ) (f : ℕ → Line) → ((n : ℕ) → decimal n ≡ l → FitsNarrow n → Q (f n)) → Q (given (narrow l) f)
+  narrow-only l f h = given-only (narrow l) f (λ n e. let q = within-only NARROW-MAX l n e in h n (q .0) (omega arith))
 
-  wide-only : (l : List ℕ) (f : ℕ → Line) → ((n : ℕ) → decimal n ≡ l → n ≤ NUMBER-MAX → Q (f n)) → Q (given (wide l) f)
-  wide-only l f h = given-only (wide l) f (λ n e. let q = within-only NUMBER-MAX l n e in h n (q .0) (q .1))
+  wide-only : (l : List ℕ) (f : ℕ → Line) → ((n : ℕ) → decimal n ≡ l → FitsWide n → Q (f n)) → Q (given (wide l) f)
+  wide-only l f h = given-only (wide l) f (λ n e. let q = within-only NUMBER-MAX l n e in h n (q .0) (omega arith))
 
   kind-only : (l : List ℕ) (f : ℕ → Line) → ((k : ℕ) → kindText k ≡ l → (k ≡ KIND-NEW) ⊎ (k ≡ KIND-OLD) → Q (f k)) → Q (given (kindNamed l) f)
   unfolding kindNamed
@@ -76,8 +76,8 @@ module _ (Q : Line → Type 0) (bad : Q Unread) where
   unfolding angle
   angle-only [] f h = bad
   angle-only (b ∷ l) f h = pick-split (λ x. Q (givenAngle x f)) (eqb b MINUS)
-      (λ t. negative-only (within PITCH-MIN (plain l)) f (λ n e. let q = within-only PITCH-MIN l (suc n) e in h (negsuc n) (ap₂ _∷_ (sym (eqb-true b MINUS t)) (q .0)) (q .1)))
-      (λ _. positive-only (within PITCH-MAX (plain (b ∷ l))) f (λ n e. let q = within-only PITCH-MAX (b ∷ l) n e in h (pos n) (q .0) (q .1)))
+      (λ t. negative-only (within PITCH-MIN (plain l)) f (λ n e. let q = within-only PITCH-MIN l (suc n) e in h (negsuc n) (ap₂ _∷_ (sym (eqb-true b MINUS t)) (q .0)) (omega arith)))
+      (λ _. positive-only (within PITCH-MAX (plain (b ∷ l))) f (λ n e. let q = within-only PITCH-MAX (b ∷ l) n e in h (pos n) (q .0) (omega arith)))
 
 -- A text with something after its first space is what stands before it, the space, and what stands after it.
 space-or-none : (l : List ℕ) → (rest l ≡ []) ⊎ (first l ++ (SPACE ∷ rest l) ≡ l)
@@ -151,7 +151,7 @@ Inner w Unread = Unit {0}
 Inner w (Read c) = (innerText c ≡ w) × Fits c
 
 module _ (w : List ℕ) where
-  two-only : (f : ℕ → ℕ → Line) → ((n m : ℕ) → decimal n ++ (SPACE ∷ decimal m) ≡ rest w → n ≤ NARROW-MAX → m ≤ NARROW-MAX → Inner w (f n m))
+  two-only : (f : ℕ → ℕ → Line) → ((n m : ℕ) → decimal n ++ (SPACE ∷ decimal m) ≡ rest w → FitsNarrow n → FitsNarrow m → Inner w (f n m))
       → Inner w (given (narrow (first (rest w))) (λ n. given (narrow (rest (rest w))) (f n)))
   two-only f h = narrow-only (Inner w) tt (first (rest w)) _ (λ n en fn. narrow-only (Inner w) tt (rest (rest w)) (f n) (λ m em fm.
       h n m (rejoined (decimal n) (decimal m) (rest w) en em (decimal-some m)) fn fm))

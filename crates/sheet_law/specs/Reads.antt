@@ -49,9 +49,10 @@ kept-joined k b = pick-split (λ x. x ≡ take KEPT (k ++ (b ∷ []))) (ltb LINE
     (λ e. let short : length k ≤ LINE-MAX = omega (arith, ltb-false LINE-MAX (length (take KEPT k)) e, length-take KEPT k) in
     ap (λ x. x ++ (b ∷ [])) (take-all KEPT k (omega arith)) ∙ sym (take-all KEPT (k ++ (b ∷ [])) (omega (arith, length-append k (b ∷ [])))))
 
-pub over-80 : (l : List ℕ) → LINE-MAX < length l → lineOf l ≡ Unread
+-- A line over 80 bytes is unread.
+pub over-80 : (l : List ℕ) → 80 < length l → lineOf l ≡ Unread
 unfolding lineOf
-over-80 l long = rw (lt-ltb LINE-MAX (length l) long) refl
+over-80 l long = rw (lt-ltb LINE-MAX (length l) (omega arith)) refl
 
 kept-read : (k : List ℕ) → lineOf (take KEPT k) ≡ lineOf k
 kept-read k = go (ltb LINE-MAX (length k)) refl
