@@ -1,0 +1,207 @@
+-- A command's own text. A command whose arguments have their widths is read back from it, whatever they are: its text is bracketed, of at most 80 bytes, and
+-- its decimals are read back. Assumes nothing.
+use Prim.Native.Nat.{ℕ, suc, _+_, _-_, _^_, _<_, _≤_}
+use native.Mathlib.Omega.{arith}
+use mathlib.Core.Path.{_≡_, refl, _∙_}
+use mathlib.Core.Logic.{_⊎_, inl, inr}
+use mathlib.Core.List.{List, [], _∷_, _++_}
+use lib.Dec.{eqb}
+use lib.IntN.{ℤ, pos, negsuc}
+use lib.ListN.{length, length-append}
+use lib.Seq.{take-at, getD-at}
+use borrow.Author.Tests.{lt-ltb, le-ltb, ne-eqb}
+use Rattle.calls.specs.declared.Call.{Call}
+use Rattle.calls.specs.declared.Call.the-variants as call
+use Rattle.calls.specs.Base.{pick}
+use Rattle.calls.specs.RowLaws.{pick-split}
+use Rattle.calls.specs.Numbers.{NUMBER-MAX, KIND-NEW, KIND-OLD}
+use Rattle.sheet_law.specs.declared.Number.the-variants.{Fine}
+use Rattle.sheet_law.specs.declared.Angle.the-variants.{At}
+use Rattle.sheet_law.specs.declared.Word.{Word}
+use Rattle.sheet_law.specs.declared.Word.the-variants.{Enter, Look, Leave, Claim, Write, Swap, Sync, Raise, Walk, Release}
+use Rattle.sheet_law.specs.declared.Command.{Command}
+use Rattle.sheet_law.specs.declared.Command.the-variants.{Make, Run}
+use Rattle.sheet_law.specs.declared.Line.the-variants.{Read}
+use Rattle.sheet_law.specs.Text.{text, SPACE, CLOSE, MINUS, decimal}
+use Rattle.sheet_law.specs.Reading.{LINE-MAX, NARROW-MAX, PITCH-MAX, PITCH-MIN, first, rest, plain, within, narrow, wide, positive, angle, word, kindNamed, oneOf, twoOf, one, two, writing, making, command, lineOf}
+use Rattle.sheet_law.specs.Printing.{withOne, withTwo}
+use Rattle.sheet_law.specs.Decimals.{AllDigits, all-digits, plain-decimal, decimal-first, decimal-rest, decimal-length}
+
+-- The text of a kind and of a pitch.
+abbrev pub kindText : ℕ → List ℕ
+kindText k = pick (eqb k KIND-NEW) (text "new") (text "old")
+
+abbrev pub angleText : ℤ → List ℕ
+angleText (pos n) = decimal n
+angleText (negsuc n) = text "-" ++ decimal (suc n)
+
+-- What stands between the brackets: the word and its arguments, one space between.
+abbrev pub callText : Call → List ℕ
+callText (call.Enter r) = withOne (text "enter ") r
+callText (call.Look r k) = withTwo (text "look ") r k
+callText (call.Leave r) = withOne (text "leave ") r
+callText (call.Claim p s) = withTwo (text "claim ") p s
+callText (call.Write p v) = withOne (text "write ") p ++ (text " " ++ angleText v)
+callText (call.Swap p) = withOne (text "swap ") p
+callText (call.Sync p) = withOne (text "sync ") p
+callText (call.Raise p) = withOne (text "raise ") p
+callText (call.Walk p b) = withTwo (text "walk ") p b
+callText (call.Release p) = withOne (text "release ") p
+
+abbrev pub storeText : ℕ → ℕ → ℕ → ℕ → ℕ → List ℕ
+storeText k rs ps ss v = kindText k ++ (text " " ++ (decimal rs ++ (text " " ++ (decimal ps ++ (text " " ++ (decimal ss ++ (text " " ++ decimal v)))))))
+
+abbrev pub innerText : Command → List ℕ
+innerText (Make k rs ps ss v) = text "store " ++ storeText k rs ps ss v
+innerText (Run c) = callText c
+
+abbrev pub inBrackets : List ℕ → List ℕ
+inBrackets w = text "(" ++ (w ++ text ")")
+
+abbrev pub commandText : Command → List ℕ
+commandText c = inBrackets (innerText c)
+
+-- Widths: pitches signed 16 bits, versions 64, all other arguments 16, unsigned; the kind is `new` or `old`.
+abbrev pub FitsNarrow : ℕ → Type 0
+FitsNarrow n = n < 2 ^ 16
+
+abbrev pub FitsWide : ℕ → Type 0
+FitsWide n = n < 2 ^ 64
+
+abbrev pub FitsAngle : ℤ → Type 0
+FitsAngle (pos n) = n < 2 ^ 15
+FitsAngle (negsuc n) = suc n ≤ 2 ^ 15
+
+abbrev pub FitsCall : Call → Type 0
+FitsCall (call.Enter r) = FitsNarrow r
+FitsCall (call.Look r k) = FitsNarrow r × FitsNarrow k
+FitsCall (call.Leave r) = FitsNarrow r
+FitsCall (call.Claim p s) = FitsNarrow p × FitsNarrow s
+FitsCall (call.Write p v) = FitsNarrow p × FitsAngle v
+FitsCall (call.Swap p) = FitsNarrow p
+FitsCall (call.Sync p) = FitsNarrow p
+FitsCall (call.Raise p) = FitsNarrow p
+FitsCall (call.Walk p b) = FitsNarrow p × FitsNarrow b
+FitsCall (call.Release p) = FitsNarrow p
+
+abbrev pub Fits : Command → Type 0
+Fits (Make k rs ps ss v) = ((k ≡ KIND-NEW) ⊎ (k ≡ KIND-OLD)) × FitsNarrow rs × FitsNarrow ps × FitsNarrow ss × FitsWide v
+Fits (Run c) = FitsCall c
+
+-- A bracketed text is read as what stands between the brackets.
+bracketed-read : (w : List ℕ) → length w + 2 ≤ LINE-MAX → lineOf (inBrackets w) ≡ command (word (first w)) (rest w)
+unfolding lineOf
+bracketed-read w short =
+    let l : List ℕ = inBrackets w in
+    let long : length (w ++ text ")") ≡ length w + 1 = length-append w (text ")") in
+    rw (
+      le-ltb LINE-MAX (length l) (omega arith),
+      lt-ltb 1 (length l) (omega arith),
+      getD-at (text "(" ++ w) CLOSE [] 0 (length l - 1) (omega arith),
+      take-at w (text ")") (length l - 2) (omega arith),
+    ) refl
+
+-- Arguments are read back.
+narrow-back : (n : ℕ) → FitsNarrow n → narrow (decimal n) ≡ Fine n
+narrow-back n fits = rw (plain-decimal n, le-ltb NARROW-MAX n (omega arith)) refl
+
+wide-back : (n : ℕ) → FitsWide n → wide (decimal n) ≡ Fine n
+wide-back n fits = rw (plain-decimal n, le-ltb NUMBER-MAX n (omega arith)) refl
+
+kind-back : (k : ℕ) → (k ≡ KIND-NEW) ⊎ (k ≡ KIND-OLD) → (l : List ℕ) → (kindNamed (first (kindText k ++ (SPACE ∷ l))) ≡ Fine k) × (rest (kindText k ++ (SPACE ∷ l)) ≡ l)
+unfolding first rest kindNamed
+kind-back k (inl e) l = rw e (refl, refl)
+kind-back k (inr e) l = rw e (refl, refl)
+
+-- No digit is a minus.
+angle-digits : (k : List ℕ) → AllDigits k → angle k ≡ positive (within PITCH-MAX (plain k))
+unfolding angle plain
+angle-digits [] a = refl
+angle-digits (b ∷ k) a = rw (ne-eqb b MINUS (λ z. omega arith)) refl
+
+angle-back : (v : ℤ) → FitsAngle v → angle (angleText v) ≡ At v
+unfolding angle
+angle-back (pos n) fits = angle-digits (decimal n) (all-digits n) ∙ rw (plain-decimal n, le-ltb PITCH-MAX n (omega arith)) refl
+angle-back (negsuc n) fits = rw (plain-decimal (suc n), le-ltb PITCH-MIN (suc n) (omega arith)) refl
+
+-- A command's text is at most 80 bytes.
+narrow-length : (n : ℕ) → FitsNarrow n → length (decimal n) ≤ 5
+narrow-length n fits = decimal-length 5 n (omega arith) (omega arith)
+
+wide-length : (n : ℕ) → FitsWide n → length (decimal n) ≤ 20
+wide-length n fits = decimal-length 20 n (omega arith) (omega arith)
+
+angle-length : (v : ℤ) → FitsAngle v → length (angleText v) ≤ 6
+angle-length (pos n) fits = let d = decimal-length 5 n (omega arith) (omega arith) in omega arith
+angle-length (negsuc n) fits = let d = decimal-length 5 (suc n) (omega arith) (omega arith) in omega arith
+
+two-length : (m n : ℕ) (a b : List ℕ) → length a ≤ m → length b ≤ n → length (a ++ (SPACE ∷ b)) ≤ m + 1 + n
+two-length m n a b la lb = omega (arith, length-append a (SPACE ∷ b))
+
+pair-length : (n m : ℕ) → FitsNarrow n → FitsNarrow m → length (decimal n ++ (SPACE ∷ decimal m)) ≤ 11
+pair-length n m a b = two-length 5 5 (decimal n) (decimal m) (narrow-length n a) (narrow-length m b)
+
+-- A command is read back from its text.
+one-back : (w : Word) (n : ℕ) → FitsNarrow n → one w (decimal n) ≡ oneOf w n
+one-back w n f = rw (narrow-back n f) refl
+
+two-back : (w : Word) (n m : ℕ) → FitsNarrow n → FitsNarrow m → two w (decimal n ++ (SPACE ∷ decimal m)) ≡ twoOf w n m
+two-back w n m f g = rw (decimal-first n (decimal m), decimal-rest n (decimal m), narrow-back n f, narrow-back m g) refl
+
+write-back : (p : ℕ) (v : ℤ) → FitsNarrow p → FitsAngle v → writing (decimal p ++ (SPACE ∷ angleText v)) ≡ Read (Run (call.Write p v))
+write-back p v f g = rw (decimal-first p (angleText v), decimal-rest p (angleText v), narrow-back p f, angle-back v g) refl
+
+reads-call : (c : Call) → FitsCall c → lineOf (commandText (Run c)) ≡ Read (Run c)
+unfolding first rest word
+reads-call (call.Enter r) f = bracketed-read (callText (call.Enter r)) (omega (arith, narrow-length r f)) ∙ one-back Enter r f
+reads-call (call.Look r k) (f, g) = bracketed-read (callText (call.Look r k)) (omega (arith, pair-length r k f g)) ∙ two-back Look r k f g
+reads-call (call.Leave r) f = bracketed-read (callText (call.Leave r)) (omega (arith, narrow-length r f)) ∙ one-back Leave r f
+reads-call (call.Claim p s) (f, g) = bracketed-read (callText (call.Claim p s)) (omega (arith, pair-length p s f g)) ∙ two-back Claim p s f g
+reads-call (call.Write p v) (f, g) =
+    bracketed-read (callText (call.Write p v)) (omega (arith, two-length 5 6 (decimal p) (angleText v) (narrow-length p f) (angle-length v g))) ∙ write-back p v f g
+reads-call (call.Swap p) f = bracketed-read (callText (call.Swap p)) (omega (arith, narrow-length p f)) ∙ one-back Swap p f
+reads-call (call.Sync p) f = bracketed-read (callText (call.Sync p)) (omega (arith, narrow-length p f)) ∙ one-back Sync p f
+reads-call (call.Raise p) f = bracketed-read (callText (call.Raise p)) (omega (arith, narrow-length p f)) ∙ one-back Raise p f
+reads-call (call.Walk p b) (f, g) = bracketed-read (callText (call.Walk p b)) (omega (arith, pair-length p b f g)) ∙ two-back Walk p b f g
+reads-call (call.Release p) f = bracketed-read (callText (call.Release p)) (omega (arith, narrow-length p f)) ∙ one-back Release p f
+
+-- `store` with its kind and its four numbers.
+kind-length : (k : ℕ) → length (kindText k) ≡ 3
+kind-length k = pick-split (λ x. length x ≡ 3) (eqb k KIND-NEW) (λ _. refl) (λ _. refl)
+
+make-back : (k rs ps ss v : ℕ) → Fits (Make k rs ps ss v) → making (storeText k rs ps ss v) ≡ Read (Make k rs ps ss v)
+make-back k rs ps ss v (fk, fr, fp, fs, fv) =
+    let d : List ℕ = decimal v in
+    let c : List ℕ = decimal ss ++ (SPACE ∷ d) in
+    let b : List ℕ = decimal ps ++ (SPACE ∷ c) in
+    let a : List ℕ = decimal rs ++ (SPACE ∷ b) in
+    rw (
+      kind-back k fk a .0,
+      kind-back k fk a .1,
+      decimal-first rs b,
+      decimal-rest rs b,
+      decimal-first ps c,
+      decimal-rest ps c,
+      decimal-first ss d,
+      decimal-rest ss d,
+      narrow-back rs fr,
+      narrow-back ps fp,
+      narrow-back ss fs,
+      wide-back v fv,
+    ) refl
+
+store-length : (k rs ps ss v : ℕ) → Fits (Make k rs ps ss v) → length (storeText k rs ps ss v) ≤ 42
+store-length k rs ps ss v (fk, fr, fp, fs, fv) =
+    let d : List ℕ = decimal v in
+    let c : List ℕ = decimal ss ++ (SPACE ∷ d) in
+    let b : List ℕ = decimal ps ++ (SPACE ∷ c) in
+    let a : List ℕ = decimal rs ++ (SPACE ∷ b) in
+    let lc = two-length 5 20 (decimal ss) d (narrow-length ss fs) (wide-length v fv) in
+    let lb = two-length 5 26 (decimal ps) c (narrow-length ps fp) lc in
+    let la = two-length 5 32 (decimal rs) b (narrow-length rs fr) lb in
+    two-length 3 38 (kindText k) a (omega (arith, kind-length k)) la
+
+pub reads-back : (c : Command) → Fits c → lineOf (commandText c) ≡ Read c
+unfolding first rest word
+reads-back (Make k rs ps ss v) f = bracketed-read (innerText (Make k rs ps ss v)) (omega (arith, store-length k rs ps ss v f)) ∙ make-back k rs ps ss v f
+reads-back (Run c) f = reads-call c f

@@ -1,0 +1,248 @@
+-- A line is read as a command exactly if it is that command's own text and its arguments have their widths: every other line is unread, whatever is wrong with
+-- it. By going through the reading once: each step is unread, or tells what the bytes are. Assumes nothing.
+use Prim.Native.Nat.{ℕ, zero, suc, _-_, _≤_}
+use native.Mathlib.Omega.{arith}
+use mathlib.Core.Path.{_≡_, refl, sym, ap, ap₂, subst, _∙_}
+use mathlib.Core.Logic.{_≢_, _↔_, _⊎_, inl, inr}
+use mathlib.Core.Bool.{Bool, true, false, _&&_}
+use mathlib.Core.List.{List, [], _∷_, _++_}
+use lib.Dec.{eqb, ltb}
+use lib.IntN.{ℤ, pos, negsuc}
+use lib.ListN.{length, getD, take}
+use lib.Seq.{take-suc, take-length}
+use borrow.Author.Tests.{ltb-true, ltb-false, eqb-true}
+use Rattle.calls.specs.declared.Call.the-variants as call
+use Rattle.calls.specs.RowLaws.{pick-split, and-true, clash}
+use Rattle.calls.specs.Numbers.{NUMBER-MAX, KIND-NEW, KIND-OLD}
+use Rattle.sheet_law.specs.declared.Number.{Number}
+use Rattle.sheet_law.specs.declared.Number.the-variants.{Fine, Bad}
+use Rattle.sheet_law.specs.declared.Word.{Word}
+use Rattle.sheet_law.specs.declared.Word.the-variants.{Store, Enter, Look, Leave, Claim, Write, Swap, Sync, Raise, Walk, Release, Unknown}
+use Rattle.sheet_law.specs.declared.Command.{Command}
+use Rattle.sheet_law.specs.declared.Command.the-variants.{Make, Run}
+use Rattle.sheet_law.specs.declared.Line.{Line}
+use Rattle.sheet_law.specs.declared.Line.the-variants.{Read, Unread}
+use Rattle.sheet_law.specs.Text.{text, same, SPACE, OPEN, CLOSE, MINUS, decimal}
+use Rattle.sheet_law.specs.Reading.{LINE-MAX, NARROW-MAX, PITCH-MAX, PITCH-MIN, first, rest, plain, within, narrow, wide, negative, positive, angle, word, kindNamed, given, givenAngle, oneOf, twoOf, making, command, bracketed, inner, lineOf}
+use Rattle.sheet_law.specs.Decimals.{plain-decimal, plain-only}
+use Rattle.sheet_law.specs.Canonical.{kindText, angleText, innerText, inBrackets, commandText, FitsNarrow, FitsWide, FitsAngle, Fits, reads-back}
+
+-- Two texts that are found the same are.
+same-only : (l k : List ℕ) → same l k ≡ true → l ≡ k
+same-only [] [] e = refl
+same-only [] (b ∷ k) e = clash (sym e)
+same-only (a ∷ l) [] e = clash (sym e)
+same-only (a ∷ l) (b ∷ k) e = let q = and-true (eqb a b) (same l k) e in ap₂ _∷_ (eqb-true a b (q .0)) (same-only l k (q .1))
+
+-- What a number that is read tells of its text.
+within-only : (most : ℕ) (l : List ℕ) (n : ℕ) → within most (plain l) ≡ Fine n → (decimal n ≡ l) × (n ≤ most)
+within-only most l n = go (plain l) refl
+  where
+    go : (x : Number) → plain l ≡ x → within most x ≡ Fine n → (decimal n ≡ l) × (n ≤ most)
+    go Bad p e = absurd (let z : _≡_ {A = ℕ} 0 1 = cc in omega arith)
+    go (Fine m) p e = pick-split (λ x. x ≡ Fine n → (decimal n ≡ l) × (n ≤ most)) (ltb most m)
+        (λ _ d. absurd (let z : _≡_ {A = ℕ} 0 1 = cc in omega arith))
+        (λ t d. let q : m ≡ n = cc in (plain-only l n (p ∙ d), omega (arith, ltb-false most m t)))
+        e
+
+-- What is read of an argument: nothing, or one whose text it is.
+module _ (Q : Line → Type 0) (bad : Q Unread) where
+  given-only : (x : Number) (f : ℕ → Line) → ((n : ℕ) → x ≡ Fine n → Q (f n)) → Q (given x f)
+  given-only Bad f h = bad
+  given-only (Fine n) f h = h n refl
+
+  narrow-only : (l : List ℕ) (f : ℕ → Line) → ((n : ℕ) → decimal n ≡ l → FitsNarrow n → Q (f n)) → Q (given (narrow l) f)
+  narrow-only l f h = given-only (narrow l) f (λ n e. let q = within-only NARROW-MAX l n e in h n (q .0) (omega arith))
+
+  wide-only : (l : List ℕ) (f : ℕ → Line) → ((n : ℕ) → decimal n ≡ l → FitsWide n → Q (f n)) → Q (given (wide l) f)
+  wide-only l f h = given-only (wide l) f (λ n e. let q = within-only NUMBER-MAX l n e in h n (q .0) (omega arith))
+
+  kind-only : (l : List ℕ) (f : ℕ → Line) → ((k : ℕ) → kindText k ≡ l → (k ≡ KIND-NEW) ⊎ (k ≡ KIND-OLD) → Q (f k)) → Q (given (kindNamed l) f)
+  unfolding kindNamed
+  kind-only l f h = pick-split (λ x. Q (given x f)) (same l (text "new"))
+      (λ e. h KIND-NEW (sym (same-only l (text "new") e)) (inl refl))
+      (λ _. pick-split (λ x. Q (given x f)) (same l (text "old")) (λ e. h KIND-OLD (sym (same-only l (text "old") e)) (inr refl)) (λ _. bad))
+
+  negative-only : (x : Number) (f : ℤ → Line) → ((n : ℕ) → x ≡ Fine (suc n) → Q (f (negsuc n))) → Q (givenAngle (negative x) f)
+  negative-only Bad f h = bad
+  negative-only (Fine zero) f h = bad
+  negative-only (Fine (suc n)) f h = h n refl
+
+  positive-only : (x : Number) (f : ℤ → Line) → ((n : ℕ) → x ≡ Fine n → Q (f (pos n))) → Q (givenAngle (positive x) f)
+  positive-only Bad f h = bad
+  positive-only (Fine n) f h = h n refl
+
+  angle-only : (l : List ℕ) (f : ℤ → Line) → ((v : ℤ) → angleText v ≡ l → FitsAngle v → Q (f v)) → Q (givenAngle (angle l) f)
+  unfolding angle
+  angle-only [] f h = bad
+  angle-only (b ∷ l) f h = pick-split (λ x. Q (givenAngle x f)) (eqb b MINUS)
+      (λ t. negative-only (within PITCH-MIN (plain l)) f (λ n e. let q = within-only PITCH-MIN l (suc n) e in h (negsuc n) (ap₂ _∷_ (sym (eqb-true b MINUS t)) (q .0)) (omega arith)))
+      (λ _. positive-only (within PITCH-MAX (plain (b ∷ l))) f (λ n e. let q = within-only PITCH-MAX (b ∷ l) n e in h (pos n) (q .0) (omega arith)))
+
+-- A text with something after its first space is what stands before it, the space, and what stands after it.
+space-or-none : (l : List ℕ) → (rest l ≡ []) ⊎ (first l ++ (SPACE ∷ rest l) ≡ l)
+unfolding first rest
+space-or-none [] = inl refl
+space-or-none (b ∷ l) = go (eqb b SPACE) refl (space-or-none l)
+  where
+    go : (x : Bool) → eqb b SPACE ≡ x → (rest l ≡ []) ⊎ (first l ++ (SPACE ∷ rest l) ≡ l) → (rest (b ∷ l) ≡ []) ⊎ (first (b ∷ l) ++ (SPACE ∷ rest (b ∷ l)) ≡ b ∷ l)
+    go true t r = rw t (inr (ap (λ c. c ∷ l) (sym (eqb-true b SPACE t))))
+    go false t (inl e) = rw t (inl e)
+    go false t (inr e) = rw t (inr (ap (λ k. b ∷ k) e))
+
+rejoined : (a b l : List ℕ) → a ≡ first l → b ≡ rest l → b ≢ [] → a ++ (SPACE ∷ b) ≡ l
+rejoined a b l ea eb ne = go (space-or-none l)
+  where
+    go : (rest l ≡ []) ⊎ (first l ++ (SPACE ∷ rest l) ≡ l) → a ++ (SPACE ∷ b) ≡ l
+    go (inl z) = absurd (ne (eb ∙ z))
+    go (inr z) = rw (ea, eb) z
+
+-- No argument is the empty text.
+cons-some : (b : ℕ) (l : List ℕ) → b ∷ l ≢ []
+cons-some b l e = let z : _≡_ {A = ℕ} 0 1 = cc in omega arith
+
+spaced-some : (a b : List ℕ) → a ++ (SPACE ∷ b) ≢ []
+spaced-some [] b = cons-some SPACE b
+spaced-some (c ∷ a) b = cons-some c (a ++ (SPACE ∷ b))
+
+decimal-some : (n : ℕ) → decimal n ≢ []
+unfolding plain
+decimal-some n e =
+    let q : Fine n ≡ Bad = sym (plain-decimal n) ∙ ap plain e in
+    let z : _≡_ {A = ℕ} 0 1 = cc in omega arith
+
+angle-some : (v : ℤ) → angleText v ≢ []
+angle-some (pos n) = decimal-some n
+angle-some (negsuc n) = cons-some MINUS (decimal (suc n))
+
+-- The words.
+abbrev Named : List ℕ → Word → Type 0
+Named w Store = text "store" ≡ w
+Named w Enter = text "enter" ≡ w
+Named w Look = text "look" ≡ w
+Named w Leave = text "leave" ≡ w
+Named w Claim = text "claim" ≡ w
+Named w Write = text "write" ≡ w
+Named w Swap = text "swap" ≡ w
+Named w Sync = text "sync" ≡ w
+Named w Raise = text "raise" ≡ w
+Named w Walk = text "walk" ≡ w
+Named w Release = text "release" ≡ w
+Named w Unknown = Unit {0}
+
+word-named : (w : List ℕ) → Named w (word w)
+unfolding word
+word-named w =
+    pick-split (Named w) (same w (text "store")) (λ e. sym (same-only w _ e)) (λ _.
+    pick-split (Named w) (same w (text "enter")) (λ e. sym (same-only w _ e)) (λ _.
+    pick-split (Named w) (same w (text "look")) (λ e. sym (same-only w _ e)) (λ _.
+    pick-split (Named w) (same w (text "leave")) (λ e. sym (same-only w _ e)) (λ _.
+    pick-split (Named w) (same w (text "claim")) (λ e. sym (same-only w _ e)) (λ _.
+    pick-split (Named w) (same w (text "write")) (λ e. sym (same-only w _ e)) (λ _.
+    pick-split (Named w) (same w (text "swap")) (λ e. sym (same-only w _ e)) (λ _.
+    pick-split (Named w) (same w (text "sync")) (λ e. sym (same-only w _ e)) (λ _.
+    pick-split (Named w) (same w (text "raise")) (λ e. sym (same-only w _ e)) (λ _.
+    pick-split (Named w) (same w (text "walk")) (λ e. sym (same-only w _ e)) (λ _.
+    pick-split (Named w) (same w (text "release")) (λ e. sym (same-only w _ e)) (λ _. tt)))))))))))
+
+-- Between the brackets: unread, or the command's own text.
+abbrev Inner : List ℕ → Line → Type 0
+Inner w Unread = Unit {0}
+Inner w (Read c) = (innerText c ≡ w) × Fits c
+
+module _ (w : List ℕ) where
+  two-only : (f : ℕ → ℕ → Line) → ((n m : ℕ) → decimal n ++ (SPACE ∷ decimal m) ≡ rest w → FitsNarrow n → FitsNarrow m → Inner w (f n m))
+      → Inner w (given (narrow (first (rest w))) (λ n. given (narrow (rest (rest w))) (f n)))
+  two-only f h = narrow-only (Inner w) tt (first (rest w)) _ (λ n en fn. narrow-only (Inner w) tt (rest (rest w)) (f n) (λ m em fm.
+      h n m (rejoined (decimal n) (decimal m) (rest w) en em (decimal-some m)) fn fm))
+
+  store-text : (k rs ps ss v : ℕ) → text "store" ≡ first w → kindText k ≡ first (rest w) → decimal rs ≡ first (rest (rest w)) → decimal ps ≡ first (rest (rest (rest w)))
+      → decimal ss ≡ first (rest (rest (rest (rest w)))) → decimal v ≡ rest (rest (rest (rest (rest w)))) → innerText (Make k rs ps ss v) ≡ w
+  store-text k rs ps ss v e ek er ep es ev =
+      let l : List ℕ = rest w in
+      let c : List ℕ = decimal ss ++ (SPACE ∷ decimal v) in
+      let b : List ℕ = decimal ps ++ (SPACE ∷ c) in
+      let a : List ℕ = decimal rs ++ (SPACE ∷ b) in
+      let ec = rejoined (decimal ss) (decimal v) (rest (rest (rest l))) es ev (decimal-some v) in
+      let eb = rejoined (decimal ps) c (rest (rest l)) ep ec (spaced-some (decimal ss) (decimal v)) in
+      let ea = rejoined (decimal rs) b (rest l) er eb (spaced-some (decimal ps) c) in
+      rejoined (text "store") (kindText k ++ (SPACE ∷ a)) w e (rejoined (kindText k) a l ek ea (spaced-some (decimal rs) b)) (spaced-some (kindText k) a)
+
+  store-only : text "store" ≡ first w → Inner w (making (rest w))
+  store-only e =
+      kind-only (Inner w) tt (first (rest w)) _ (λ k ek fk.
+      narrow-only (Inner w) tt (first (rest (rest w))) _ (λ rs er fr.
+      narrow-only (Inner w) tt (first (rest (rest (rest w)))) _ (λ ps ep fp.
+      narrow-only (Inner w) tt (first (rest (rest (rest (rest w))))) _ (λ ss es fs.
+      wide-only (Inner w) tt (rest (rest (rest (rest (rest w))))) (λ v. Read (Make k rs ps ss v)) (λ v ev fv.
+      (store-text k rs ps ss v e ek er ep es ev, (fk, fr, fp, fs, fv)))))))
+
+  command-only : (x : Word) → Named (first w) x → Inner w (command x (rest w))
+  command-only Store e = store-only e
+  command-only Enter e = narrow-only (Inner w) tt (rest w) (oneOf Enter) (λ r d f. (rejoined (text "enter") (decimal r) w e d (decimal-some r), f))
+  command-only Look e = two-only (twoOf Look) (λ r k d f g. (rejoined (text "look") (decimal r ++ (SPACE ∷ decimal k)) w e d (spaced-some (decimal r) (decimal k)), (f, g)))
+  command-only Leave e = narrow-only (Inner w) tt (rest w) (oneOf Leave) (λ r d f. (rejoined (text "leave") (decimal r) w e d (decimal-some r), f))
+  command-only Claim e = two-only (twoOf Claim) (λ p s d f g. (rejoined (text "claim") (decimal p ++ (SPACE ∷ decimal s)) w e d (spaced-some (decimal p) (decimal s)), (f, g)))
+  command-only Write e = narrow-only (Inner w) tt (first (rest w)) _ (λ p ep f. angle-only (Inner w) tt (rest (rest w)) (λ v. Read (Run (call.Write p v))) (λ v ev g.
+      (rejoined (text "write") (decimal p ++ (SPACE ∷ angleText v)) w e (rejoined (decimal p) (angleText v) (rest w) ep ev (angle-some v)) (spaced-some (decimal p) (angleText v)), (f, g))))
+  command-only Swap e = narrow-only (Inner w) tt (rest w) (oneOf Swap) (λ p d f. (rejoined (text "swap") (decimal p) w e d (decimal-some p), f))
+  command-only Sync e = narrow-only (Inner w) tt (rest w) (oneOf Sync) (λ p d f. (rejoined (text "sync") (decimal p) w e d (decimal-some p), f))
+  command-only Raise e = narrow-only (Inner w) tt (rest w) (oneOf Raise) (λ p d f. (rejoined (text "raise") (decimal p) w e d (decimal-some p), f))
+  command-only Walk e = two-only (twoOf Walk) (λ p b d f g. (rejoined (text "walk") (decimal p ++ (SPACE ∷ decimal b)) w e d (spaced-some (decimal p) (decimal b)), (f, g)))
+  command-only Release e = narrow-only (Inner w) tt (rest w) (oneOf Release) (λ p d f. (rejoined (text "release") (decimal p) w e d (decimal-some p), f))
+  command-only Unknown e = tt
+
+-- A line in brackets is what stands between them, in brackets.
+in-brackets : (l : List ℕ) → bracketed l ≡ true → inBrackets (inner l) ≡ l
+in-brackets [] e = clash (sym e)
+in-brackets (a ∷ k) e = go (length k) refl
+  where
+    p : (ltb 1 (length (a ∷ k)) ≡ true) × (eqb a OPEN && eqb (getD (a ∷ k) (length (a ∷ k) - 1) 0) CLOSE ≡ true)
+    p = and-true (ltb 1 (length (a ∷ k))) (eqb a OPEN && eqb (getD (a ∷ k) (length (a ∷ k) - 1) 0) CLOSE) e
+
+    q : (eqb a OPEN ≡ true) × (eqb (getD (a ∷ k) (length (a ∷ k) - 1) 0) CLOSE ≡ true)
+    q = and-true (eqb a OPEN) (eqb (getD (a ∷ k) (length (a ∷ k) - 1) 0) CLOSE) (p .1)
+
+    go : (n : ℕ) → length k ≡ n → inBrackets (inner (a ∷ k)) ≡ a ∷ k
+    go zero z = absurd (omega (arith, ltb-true 1 (length (a ∷ k)) (p .0)))
+    go (suc j) z =
+        let i : length (a ∷ k) - 1 ≡ suc j = omega arith in
+        let m : length (a ∷ k) - 2 ≡ j = omega arith in
+        let last : getD k j 0 ≡ CLOSE = rw i at (eqb-true (getD (a ∷ k) (length (a ∷ k) - 1) 0) CLOSE (q .1)) in
+        let all : take (suc j) k ≡ k = ap (λ x. take x k) (sym z) ∙ take-length k in
+        let cut : take j k ++ (CLOSE ∷ []) ≡ k = ap (λ x. take j k ++ (x ∷ [])) (sym last) ∙ (sym (take-suc k j 0 (omega arith)) ∙ all) in
+        rw (m, cut) (ap (λ x. x ∷ k) (sym (eqb-true a OPEN (q .0))))
+
+-- A whole line: unread, or the command's own text.
+abbrev Own : List ℕ → Line → Type 0
+Own l Unread = Unit {0}
+Own l (Read c) = (commandText c ≡ l) × Fits c
+
+own-inner : (l w : List ℕ) → inBrackets w ≡ l → (x : Line) → Inner w x → Own l x
+own-inner l w e Unread i = tt
+own-inner l w e (Read c) i = (ap inBrackets (i .0) ∙ e, i .1)
+
+own-bracketed : (l : List ℕ) → bracketed l ≡ true → Own l (command (word (first (inner l))) (rest (inner l)))
+own-bracketed l b = let w : List ℕ = inner l in own-inner l w (in-brackets l b) (command (word (first w)) (rest w)) (command-only w (word (first w)) (word-named (first w)))
+
+own : (l : List ℕ) → Own l (lineOf l)
+unfolding lineOf
+own l = pick-split (Own l) (ltb LINE-MAX (length l)) (λ _. tt) (λ _. pick-split (Own l) (bracketed l) (own-bracketed l) (λ _. tt))
+
+-- A line that is read as a command is the command's own text, and the command fits.
+pub only-text : (l : List ℕ) (c : Command) → lineOf l ≡ Read c → commandText c ≡ l
+only-text l c e = subst (Own l) e (own l) .0
+
+pub read-fits : (l : List ℕ) (c : Command) → lineOf l ≡ Read c → Fits c
+read-fits l c e = subst (Own l) e (own l) .1
+
+-- So a line is read as a command exactly if it is the text of that command and the command fits; and it is unread exactly if it is the text of none that fits.
+pub read-exactly : (l : List ℕ) (c : Command) → (lineOf l ≡ Read c) ↔ ((commandText c ≡ l) × Fits c)
+read-exactly l c = (λ e. (only-text l c e, read-fits l c e), λ p. ap lineOf (sym (p .0)) ∙ reads-back c (p .1))
+
+pub unread-exactly : (l : List ℕ) → (lineOf l ≡ Unread) ↔ ((c : Command) → Fits c → commandText c ≢ l)
+unread-exactly l = (λ e c f z. let q : Read c ≡ Unread = sym (read-exactly l c .1 (z, f)) ∙ e in let n : _≡_ {A = ℕ} 0 1 = cc in omega arith, λ h. go h (lineOf l) refl)
+  where
+    go : ((c : Command) → Fits c → commandText c ≢ l) → (x : Line) → lineOf l ≡ x → lineOf l ≡ Unread
+    go h Unread e = e
+    go h (Read c) e = absurd (h c (read-fits l c e) (only-text l c e))

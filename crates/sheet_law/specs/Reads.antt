@@ -1,0 +1,143 @@
+-- However the input is cut into reads, the output is that of the whole sheet. What is kept between two bytes is enough: of the line that was begun its first
+-- 81 bytes, which tell a line over 80 bytes from every other. And what a line that makes nothing leaves: an unread one, a refused `store`, a call before a
+-- made store. Assumes nothing.
+use Prim.Native.Nat.{ℕ, _+_, _*_, _<_, _≤_}
+use native.Mathlib.Omega.{arith}
+use mathlib.Core.Path.{_≡_, refl, sym, ap, _∙_}
+use mathlib.Core.Bool.{Bool, true, false}
+use mathlib.Core.Option.{Option, none, some}
+use mathlib.Core.List.{List, [], _∷_, _++_, flatten, append-assoc}
+use lib.Dec.{eqb, ltb}
+use lib.ListN.{length, take, length-append, length-take, take-append-drop}
+use lib.Seq.{take-all, take-append-le}
+use borrow.Author.Tests.{lt-ltb, ltb-true, ltb-false}
+use Rattle.calls.specs.RowLaws.{pick-split}
+use Rattle.calls.specs.declared.Call.{Call}
+use Rattle.calls.specs.declared.Reply.the-variants.{Made, Refused}
+use Rattle.calls.specs.Numbers.{TABLE, NUMBER-MAX, DAMAGED}
+use Rattle.layout.specs.Layout.{kind}
+use Rattle.statement.specs.Machine.{State, state, outcome, Given, given}
+use Rattle.publication_law.specs.Steps.{makingTests, made}
+use Rattle.publication_law.specs.Rules.{Rules, making}
+use Rattle.publication_law.specs.Decide.{decide-leaves}
+use Rattle.kinds_law.specs.Kinds.{Name, rulesOf, named, anyStep, makingOf, anyMaking}
+use Rattle.sheet_law.specs.declared.Command.the-variants.{Make, Run}
+use Rattle.sheet_law.specs.declared.Line.{Line}
+use Rattle.sheet_law.specs.declared.Line.the-variants.{Read, Unread}
+use Rattle.sheet_law.specs.Text.{text, NEWLINE}
+use Rattle.sheet_law.specs.Reading.{LINE-MAX, lineOf}
+use Rattle.sheet_law.specs.Sheet.{unmade, played, known, lineFor, afterLine, saidTo, next, linesFrom, printedFor, sheet, Desk, desk, start, joined, byte, saidAt, fed, printed, ending}
+
+-- Two texts after each other.
+pub fed-append : (d : Desk) (t u : List ℕ) → fed d (t ++ u) ≡ fed (fed d t) u
+unfolding fed
+fed-append d [] u = refl
+fed-append d (b ∷ t) u = fed-append (byte d b) t u
+
+pub printed-append : (d : Desk) (t u : List ℕ) → printed d (t ++ u) ≡ printed d t ++ printed (fed d t) u
+unfolding fed printed
+printed-append d [] u = refl
+printed-append d (b ∷ t) u = ap (λ x. saidAt d b ++ x) (printed-append (byte d b) t u) ∙ sym (append-assoc (saidAt d b) (printed (byte d b) t) (printed (fed (byte d b) t) u))
+
+-- Of a line the first 81 bytes are kept, and read as the whole line would be.
+abbrev KEPT : ℕ
+KEPT = LINE-MAX + 1
+
+kept-joined : (k : List ℕ) (b : ℕ) → joined (take KEPT k) b ≡ take KEPT (k ++ (b ∷ []))
+kept-joined k b = pick-split (λ x. x ≡ take KEPT (k ++ (b ∷ []))) (ltb LINE-MAX (length (take KEPT k)))
+    (λ e. sym (take-append-le KEPT k (b ∷ []) (omega (arith, ltb-true LINE-MAX (length (take KEPT k)) e, length-take KEPT k))))
+    (λ e. let short : length k ≤ LINE-MAX = omega (arith, ltb-false LINE-MAX (length (take KEPT k)) e, length-take KEPT k) in
+    ap (λ x. x ++ (b ∷ [])) (take-all KEPT k (omega arith)) ∙ sym (take-all KEPT (k ++ (b ∷ [])) (omega (arith, length-append k (b ∷ [])))))
+
+-- A line over 80 bytes is unread.
+pub over-80 : (l : List ℕ) → 80 < length l → lineOf l ≡ Unread
+unfolding lineOf
+over-80 l long = rw (lt-ltb LINE-MAX (length l) (omega arith)) refl
+
+kept-read : (k : List ℕ) → lineOf (take KEPT k) ≡ lineOf k
+kept-read k = go (ltb LINE-MAX (length k)) refl
+  where
+    go : (x : Bool) → ltb LINE-MAX (length k) ≡ x → lineOf (take KEPT k) ≡ lineOf k
+    go true e = let long = ltb-true LINE-MAX (length k) e in over-80 (take KEPT k) (omega (arith, length-take KEPT k)) ∙ sym (over-80 k long)
+    go false e = ap lineOf (take-all KEPT k (omega (arith, ltb-false LINE-MAX (length k) e)))
+
+-- All that a desk prints for the rest of the input.
+abbrev printedToEnd : Desk → List ℕ → List ℕ
+printedToEnd d t = printed d t ++ printed (fed d t) (ending (fed d t .begun))
+
+-- The next byte ends the line or joins it.
+module _ (b : ℕ) (t : List ℕ) (n : ℕ) (k : List ℕ) (s : State) where
+  next-byte : printedToEnd (desk (next n) [] (afterLine s (lineFor s k))) t ≡ printedFor (next n) (afterLine s (lineFor s k)) (linesFrom [] t)
+      → printedToEnd (desk n (take KEPT (k ++ (b ∷ []))) s) t ≡ printedFor n s (linesFrom (k ++ (b ∷ [])) t)
+      → saidAt (desk n (take KEPT k) s) b ++ printedToEnd (byte (desk n (take KEPT k) s) b) t ≡ printedFor n s (linesFrom k (b ∷ t))
+  unfolding printedFor linesFrom
+  next-byte ends joins = go (eqb b NEWLINE) refl
+    where
+      go : (x : Bool) → eqb b NEWLINE ≡ x → saidAt (desk n (take KEPT k) s) b ++ printedToEnd (byte (desk n (take KEPT k) s) b) t ≡ printedFor n s (linesFrom k (b ∷ t))
+      go true e = rw (e, kept-read k, ends) refl
+      go false e = rw (e, kept-joined k b) joins
+
+from-desk : (t : List ℕ) (n : ℕ) (k : List ℕ) (s : State) → printedToEnd (desk n (take KEPT k) s) t ≡ printedFor n s (linesFrom k t)
+unfolding fed printed printedFor linesFrom
+from-desk [] n [] s = refl
+from-desk [] n (b ∷ k) s = rw (kept-read (b ∷ k)) refl
+from-desk (b ∷ t) n k s = append-assoc (saidAt (desk n (take KEPT k) s) b) _ _ ∙ next-byte b t n k s (from-desk t (next n) [] (afterLine s (lineFor s k))) (from-desk t n (k ++ (b ∷ [])) s)
+
+-- The reading byte by byte prints what the whole sheet's definition says.
+pub whole : (t : List ℕ) → printed start (t ++ ending (fed start t .begun)) ≡ sheet t
+unfolding sheet
+whole t = printed-append start t (ending (fed start t .begun)) ∙ from-desk t 0 [] unmade
+
+-- Printing read by read, each from the desk as the one before left it; at the end of the input the line that was begun, if any, is the last line.
+abbrev pub printedReads : Desk → List (List ℕ) → List ℕ
+printedReads d [] = printed d (ending (d .begun))
+printedReads d (r ∷ rs) = printed d r ++ printedReads (fed d r) rs
+
+reads-from : (d : Desk) (rs : List (List ℕ)) → printedReads d rs ≡ printedToEnd d (flatten rs)
+unfolding flatten fed printed
+reads-from d [] = refl
+reads-from d (r ∷ rs) =
+    rw (reads-from (fed d r) rs, printed-append d r (flatten rs), fed-append d r (flatten rs))
+    (sym (append-assoc (printed d r) (printed (fed d r) (flatten rs)) (printed (fed (fed d r) (flatten rs)) (ending (fed (fed d r) (flatten rs) .begun)))))
+
+-- However the input is cut into reads, the output is that of the whole sheet.
+pub cut : (rs : List (List ℕ)) → printedReads start rs ≡ sheet (flatten rs)
+unfolding sheet
+cut rs = reads-from start rs ∙ from-desk (flatten rs) 0 [] unmade
+
+-- Lines are numbered from 1 on, in 64 bits.
+pub next-is : (n : ℕ) → n < NUMBER-MAX → next n ≡ n + 1
+next-is n l = omega arith
+
+-- Every line is read as its bytes say: no kind lacks a call today.
+pub known-all : (s : State) (l : List ℕ) → lineFor s l ≡ lineOf l
+known-all s l = go (lineOf l)
+  where
+    go : (x : Line) → known (kind (s .words)) x ≡ x
+    go Unread = refl
+    go (Read (Make k rs ps ss v)) = refl
+    go (Read (Run c)) = refl
+
+-- An unread line makes no call: it says `unread`, and the store is the one before.
+pub unread-makes-no-call : (s : State) (l : List ℕ) → lineOf l ≡ Unread → (saidTo s (lineFor s l) ≡ text "unread") × (afterLine s (lineFor s l) ≡ s)
+unread-makes-no-call s l e = rw e (refl, refl)
+
+-- Before a made store a call gets 1, and there is still none.
+pub before-made : (c : Call) → played unmade (Run c) ≡ outcome (Refused DAMAGED) unmade
+unfolding played anyStep named
+before-made c = refl
+
+-- A refused making leaves what was lent, and a refused `store` leaves the one before.
+rules-leave : (R : Rules) (g : Given) (s : State) (n : ℕ) → making R g s .reply ≡ Refused n → making R g s .after ≡ s
+unfolding making
+rules-leave R g s n = decide-leaves (makingTests (R .kind .versions) g s) (outcome Made (made (R .kind .number) (R .freshReader) g s)) s n refl
+
+making-leaves : (o : Option Name) (g : Given) (s : State) (n : ℕ) → makingOf o g s .reply ≡ Refused n → makingOf o g s .after ≡ s
+making-leaves none g s n e = refl
+making-leaves (some k) g s n e = rules-leave (rulesOf k) g s n e
+
+pub refused-store : (s : State) (k rs ps ss v n : ℕ) → played s (Make k rs ps ss v) .reply ≡ Refused n → played s (Make k rs ps ss v) .after ≡ s
+unfolding played anyMaking
+refused-store s k rs ps ss v n e =
+    let q = making-leaves (named k) (given rs ps ss v) (state (s .words) (take (ss * TABLE) (s .entries))) n e in
+    rw (q, take-append-drop (ss * TABLE) (s .entries)) refl

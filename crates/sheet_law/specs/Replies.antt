@@ -1,0 +1,119 @@
+-- Two different replies never print the same text: a reply is read back from its text by its first word and its plain decimals. And a printed line tells its
+-- number and its reply. Assumes nothing.
+use Prim.Native.Nat.{ℕ, suc}
+use native.Mathlib.Omega.{arith}
+use mathlib.Core.Path.{_≡_, refl, sym, ap, _∙_}
+use mathlib.Core.List.{List, [], _∷_, _++_, append-cancel-right}
+use mathlib.Core.Option.{Option, none, some}
+use lib.Dec.{eqb}
+use lib.IntN.{ℤ, pos, negsuc}
+use lib.ListN.{drop}
+use borrow.Author.Tests.{ne-eqb}
+use Rattle.calls.specs.declared.Reply.{Reply}
+use Rattle.calls.specs.declared.Reply.the-variants as reply
+use Rattle.calls.specs.declared.WalkReply.{WalkReply}
+use Rattle.calls.specs.declared.WalkReply.the-variants.{Waiting, Spent, Quiet, Returned}
+use Rattle.calls.specs.Base.{pick}
+use Rattle.sheet_law.specs.declared.Number.{Number}
+use Rattle.sheet_law.specs.declared.Number.the-variants.{Fine, Bad}
+use Rattle.sheet_law.specs.declared.Angle.{Angle}
+use Rattle.sheet_law.specs.declared.Angle.the-variants.{At, Wrong}
+use Rattle.sheet_law.specs.Text.{text, same, SPACE, MINUS, decimal}
+use Rattle.sheet_law.specs.Reading.{first, rest, plain, negative, positive}
+use Rattle.sheet_law.specs.Printing.{walkText, replyText, printedLine}
+use Rattle.sheet_law.specs.Decimals.{AllDigits, all-digits, decimal-injective, plain-decimal, decimal-first, decimal-rest}
+
+-- A number, two of them and a pitch of any width, read for a reply.
+abbrev number : Number → (ℕ → Reply) → Option Reply
+number Bad f = none
+number (Fine n) f = some (f n)
+
+abbrev numbers : Number → Number → (ℕ → ℕ → Reply) → Option Reply
+numbers Bad y f = none
+numbers (Fine n) y f = number y (f n)
+
+abbrev pitch : Angle → Option Reply
+pitch Wrong = none
+pitch (At v) = some (reply.Pitch v)
+
+abbrev angleOf : List ℕ → Angle
+angleOf [] = Wrong
+angleOf (b ∷ l) = pick (eqb b MINUS) (negative (plain l)) (positive (plain (b ∷ l)))
+
+-- The reply that a text is of, if any.
+abbrev pub replyNamed : List ℕ → Option Reply
+replyNamed l =
+    pick (same (first l) (text "made")) (some reply.Made)
+    (pick (same (first l) (text "at")) (number (plain (rest l)) reply.At)
+    (pick (same (first l) (text "pitch")) (pitch (angleOf (rest l)))
+    (pick (same (first l) (text "left")) (some reply.Left)
+    (pick (same (first l) (text "claimed")) (number (plain (rest l)) reply.Claimed)
+    (pick (same (first l) (text "written")) (number (plain (rest l)) reply.Written)
+    (pick (same (first l) (text "swapped")) (number (plain (rest l)) reply.Swapped)
+    (pick (same (first l) (text "synced")) (number (plain (rest l)) reply.Synced)
+    (pick (same (first l) (text "raised")) (some reply.Raised)
+    (pick (same (first l) (text "shared")) (some reply.Shared)
+    (pick (same (first l) (text "waiting")) (number (plain (rest l)) (λ w. reply.Walked (Waiting w)))
+    (pick (same (first l) (text "spent")) (some (reply.Walked Spent))
+    (pick (same (first l) (text "quiet")) (some (reply.Walked Quiet))
+    (pick (same (first l) (text "returned")) (numbers (plain (first (rest l))) (plain (rest (rest l))) (λ a w. reply.Walked (Returned a w)))
+    (pick (same (first l) (text "freed")) (numbers (plain (first (rest l))) (plain (rest (rest l))) reply.Freed)
+    (pick (same (first l) (text "refused")) (number (plain (rest l)) reply.Refused)
+    none)))))))))))))))
+
+angle-digits : (k : List ℕ) → AllDigits k → angleOf k ≡ positive (plain k)
+unfolding plain
+angle-digits [] a = refl
+angle-digits (b ∷ k) a = rw (ne-eqb b MINUS (λ z. omega arith)) refl
+
+number-back : (n : ℕ) (f : ℕ → Reply) → number (plain (decimal n)) f ≡ some (f n)
+number-back n f = rw (plain-decimal n) refl
+
+numbers-back : (n m : ℕ) (f : ℕ → ℕ → Reply) → numbers (plain (first (decimal n ++ (SPACE ∷ decimal m)))) (plain (rest (decimal n ++ (SPACE ∷ decimal m)))) f ≡ some (f n m)
+numbers-back n m f = rw (decimal-first n (decimal m), decimal-rest n (decimal m), plain-decimal n, plain-decimal m) refl
+
+pitch-back : (v : ℤ) → replyNamed (replyText (reply.Pitch v)) ≡ some (reply.Pitch v)
+unfolding first rest
+pitch-back (pos n) = ap pitch (angle-digits (decimal n) (all-digits n)) ∙ rw (plain-decimal n) refl
+pitch-back (negsuc n) = rw (plain-decimal (suc n)) refl
+
+walk-back : (o : WalkReply) → replyNamed (walkText o) ≡ some (reply.Walked o)
+unfolding first rest
+walk-back (Waiting w) = number-back w (λ n. reply.Walked (Waiting n))
+walk-back Spent = refl
+walk-back Quiet = refl
+walk-back (Returned l w) = numbers-back l w (λ n m. reply.Walked (Returned n m))
+
+pub read-back : (a : Reply) → replyNamed (replyText a) ≡ some a
+unfolding first rest
+read-back reply.Made = refl
+read-back (reply.At n) = number-back n reply.At
+read-back (reply.Pitch v) = pitch-back v
+read-back reply.Left = refl
+read-back (reply.Claimed s) = number-back s reply.Claimed
+read-back (reply.Written n) = number-back n reply.Written
+read-back (reply.Swapped s) = number-back s reply.Swapped
+read-back (reply.Synced m) = number-back m reply.Synced
+read-back reply.Raised = refl
+read-back reply.Shared = refl
+read-back (reply.Walked o) = walk-back o
+read-back (reply.Freed s n) = numbers-back s n reply.Freed
+read-back (reply.Refused n) = number-back n reply.Refused
+
+-- Two different replies never print the same text, and no reply prints `unread`.
+pub reply-injective : (a b : Reply) → replyText a ≡ replyText b → a ≡ b
+reply-injective a b e = let q = sym (read-back a) ∙ (ap replyNamed e ∙ read-back b) in cc
+
+pub no-reply-unread : (a : Reply) → replyText a ≡ text "unread" → ⊥
+unfolding first
+no-reply-unread a e =
+    let q : some a ≡ none = sym (read-back a) ∙ ap replyNamed e in
+    let z : _≡_ {A = ℕ} 0 1 = cc in omega arith
+
+-- A printed line tells its number and what was said.
+pub line-injective : (n m : ℕ) (x y : List ℕ) → printedLine n x ≡ printedLine m y → (n ≡ m) × (x ≡ y)
+line-injective n m x y e =
+    let end : List ℕ = text ")\n" in
+    let d : decimal n ≡ decimal m = sym (decimal-first n (x ++ end)) ∙ (ap (λ l. first (drop 1 l)) e ∙ decimal-first m (y ++ end)) in
+    let r : x ++ end ≡ y ++ end = sym (decimal-rest n (x ++ end)) ∙ (ap (λ l. rest (drop 1 l)) e ∙ decimal-rest m (y ++ end)) in
+    (decimal-injective n m d, append-cancel-right x y end r)
