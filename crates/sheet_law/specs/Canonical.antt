@@ -23,7 +23,7 @@ use Rattle.sheet_law.specs.declared.Command.{Command}
 use Rattle.sheet_law.specs.declared.Command.the-variants.{Make, Run}
 use Rattle.sheet_law.specs.declared.Line.the-variants.{Read}
 use Rattle.sheet_law.specs.Text.{text, SPACE, CLOSE, MINUS, decimal}
-use Rattle.sheet_law.specs.Reading.{LINE-MAX, NARROW-MAX, PITCH-MAX, PITCH-MIN, first, rest, plain, within, narrow, wide, positive, angle, word, kindNamed, oneOf, twoOf, one, two, writing, making, command, lineOf}
+use Rattle.sheet_law.specs.Reading.{LINE-MAX, NARROW-MAX, PITCH-MAX, PITCH-MIN, first, rest, plain, within, narrow, wide, positive, angle, named, word, kindNamed, oneOf, twoOf, one, two, writing, making, command, lineOf}
 use Rattle.sheet_law.specs.Printing.{withOne, withTwo}
 use Rattle.sheet_law.specs.Decimals.{AllDigits, all-digits, plain-decimal, decimal-first, decimal-rest, decimal-length}
 
@@ -152,7 +152,7 @@ write-back : (p : ℕ) (v : ℤ) → FitsNarrow p → FitsAngle v → writing (d
 write-back p v f g = rw (decimal-first p (angleText v), decimal-rest p (angleText v), narrow-back p f, angle-back v g) refl
 
 reads-call : (c : Call) → FitsCall c → lineOf (commandText (Run c)) ≡ Read (Run c)
-unfolding first rest word
+unfolding first rest named
 reads-call (call.Enter r) f = bracketed-read (callText (call.Enter r)) (omega (arith, narrow-length r f)) ∙ one-back Enter r f
 reads-call (call.Look r k) (f, g) = bracketed-read (callText (call.Look r k)) (omega (arith, pair-length r k f g)) ∙ two-back Look r k f g
 reads-call (call.Leave r) f = bracketed-read (callText (call.Leave r)) (omega (arith, narrow-length r f)) ∙ one-back Leave r f
@@ -202,6 +202,6 @@ store-length k rs ps ss v (fk, fr, fp, fs, fv) =
     two-length 3 38 (kindText k) a (omega (arith, kind-length k)) la
 
 pub reads-back : (c : Command) → Fits c → lineOf (commandText c) ≡ Read c
-unfolding first rest word
+unfolding first rest named
 reads-back (Make k rs ps ss v) f = bracketed-read (innerText (Make k rs ps ss v)) (omega (arith, store-length k rs ps ss v f)) ∙ make-back k rs ps ss v f
 reads-back (Run c) f = reads-call c f

@@ -23,7 +23,7 @@ use Rattle.sheet_law.specs.declared.Command.the-variants.{Make, Run}
 use Rattle.sheet_law.specs.declared.Line.{Line}
 use Rattle.sheet_law.specs.declared.Line.the-variants.{Read, Unread}
 use Rattle.sheet_law.specs.Text.{text, same, SPACE, OPEN, CLOSE, MINUS, decimal}
-use Rattle.sheet_law.specs.Reading.{LINE-MAX, NARROW-MAX, PITCH-MAX, PITCH-MIN, first, rest, plain, within, narrow, wide, negative, positive, angle, word, kindNamed, given, givenAngle, oneOf, twoOf, making, command, bracketed, inner, lineOf}
+use Rattle.sheet_law.specs.Reading.{LINE-MAX, NARROW-MAX, PITCH-MAX, PITCH-MIN, first, rest, plain, within, narrow, wide, negative, positive, angle, named, word, kindNamed, given, givenAngle, oneOf, twoOf, making, command, bracketed, inner, lineOf}
 use Rattle.sheet_law.specs.Decimals.{plain-decimal, plain-only}
 use Rattle.sheet_law.specs.Canonical.{kindText, angleText, innerText, inBrackets, commandText, FitsNarrow, FitsWide, FitsAngle, Fits, reads-back}
 
@@ -131,7 +131,7 @@ Named w Release = text "release" ≡ w
 Named w Unknown = Unit {0}
 
 word-named : (w : List ℕ) → Named w (word w)
-unfolding word
+unfolding named
 word-named w =
     pick-split (Named w) (same w (text "store")) (λ e. sym (same-only w _ e)) (λ _.
     pick-split (Named w) (same w (text "enter")) (λ e. sym (same-only w _ e)) (λ _.
