@@ -1,12 +1,12 @@
-// A run sheet played on lent words and entries, from bytes to bytes, by the definition of sheet_law, however the input is cut into reads.
-// `play` is one command; `feed` takes the bytes of a read and prints a line for each line that ends in them; `finish` is for the end of the input.
-// It uses kinds, sheet_reading, sheet_printing and what lies below.
-ghost use Prim.Native.Nat.{_+_, _*_, _≤_, _<_};
+// A run sheet from bytes to bytes, by the definition of sheet_law, however the input is cut into reads, on the lent words of a store and the lent room for its entries.
+// `feed` takes the bytes of a read and prints a line for each line that ends in them; `finish` is for the end of the input.
+// It uses sheet_reading, sheet_playing, sheet_printing and what lies below.
 ghost use mathlib.Core.Path.{_≡_};
-ghost use mathlib.Core.List.{_++_};
-ghost use lib.ListN.{length, take, drop};
-ghost use Rattle.statement.specs.Machine.{state, outcome};
-ghost use Rattle.sheet_law.specs.Sheet.{played, joined, lineFor, desk, fed, printed};
+ghost use lib.ListN.{length, take};
+ghost use Rattle.statement.specs.Machine.{state};
+ghost use Rattle.sheet_law.specs.Reading.{lineOf};
+ghost use Rattle.sheet_law.specs.Sheet.{joined, desk, ending};
+ghost use Rattle.sheet.specs.Feeds.{KEPT, FeedsIn};
 use calls::Pitch;
 use sheet_law::LINE_MAX;
 use sheet_law::Line;
@@ -24,7 +24,7 @@ pub const KEPT: usize = 81;
 // Room for the entries of the largest store.
 pub const ROOM: usize = 1024;
 
-// What is kept beside the lent slices, and how far input and output went.
+// What is kept beside the lent slices, and how far the input was taken and the output printed.
 pub struct Fed {
     // how many lines were read
     pub lines: u64,
@@ -36,8 +36,9 @@ pub struct Fed {
     pub made: usize,
 }
 
-// A byte of a line joins what is kept of it.
-fn keep(kept: &mut [u8; KEPT], count: usize, b: u8) -> usize
+// A byte joins what is kept of its line.
+fn keep(kept: &mut [u8], count: usize, b: u8) -> usize
+    requires { ⌜ length (now kept) ≡ KEPT ⌝ }
     ensures { λ r. ⌜ take r (now (kept .exit)) ≡ joined (take count (now (kept .entry))) b ⌝ }
 {
     if count > LINE_MAX {
@@ -48,30 +49,44 @@ fn keep(kept: &mut [u8; KEPT], count: usize, b: u8) -> usize
 }
 
 // The line that is kept.
-fn line_in(kept: &[u8; KEPT], count: usize) -> Line {
+fn line_in(kept: &[u8], count: usize) -> Line
+    requires { ⌜ length (now kept) ≡ KEPT ⌝ }
+    ensures { λ r. ⌜ r ≡ lineOf (take count (now (kept .entry))) ⌝ }
+{
     if count > LINE_MAX {
         return Line::Unread;
     }
     parse(&kept[..count])
 }
 
+// The bytes of a read: each line that ends in them is played, and its line printed, from the start of the output on. With other than 81 bytes to keep a line in nothing is done.
 pub fn feed(
     words: &mut [u64],
     room: &mut [Pitch],
-    kept: &mut [u8; KEPT],
-    lines_before: u64,
-    count_before: usize,
+    kept: &mut [u8],
+    lines: u64,
+    count: usize,
     input: &[u8],
     out: &mut [u8],
-) -> Fed {
-    let mut lines = lines_before;
-    let mut count = count_before;
+) -> Fed
+    ensures { λ r. ⌜ FeedsIn (length (now (kept .entry))) (desk lines (take count (now (kept .entry))) (state (now (words .entry)) (now (room .entry)))) (now (input .entry)) (r .used) (desk (r .lines) (take (r .count) (now (kept .exit))) (state (now (words .exit)) (now (room .exit)))) (now (out .exit)) (r .made) ⌝ }
+{
+    if kept.len() != KEPT {
+        return Fed {
+            lines: lines,
+            count: count,
+            used: 0,
+            made: 0,
+        };
+    }
+    let mut read = lines;
+    let mut held = count;
     let mut used: usize = 0;
     let mut made: usize = 0;
     while used < input.len() {
         let b = input[used];
         if b != NEWLINE {
-            count = keep(kept, count, b);
+            held = keep(kept, held, b);
             used += 1;
             continue;
         }
@@ -79,33 +94,35 @@ pub fn feed(
             break;
         }
         used += 1;
-        lines = std::num::wrapping_add_u64(lines, 1);
-        let Line::Read(command) = line_in(kept, count) else {
-            made = print_unread(out, made, lines);
-            count = 0;
+        read = std::num::wrapping_add_u64(read, 1);
+        let Line::Read(command) = line_in(kept, held) else {
+            made = print_unread(out, made, read);
+            held = 0;
             continue;
         };
         let reply = play(words, room, command);
-        made = print_reply(out, made, lines, reply);
-        count = 0;
+        made = print_reply(out, made, read, reply);
+        held = 0;
     }
     Fed {
-        lines: lines,
-        count: count,
+        lines: read,
+        count: held,
         used: used,
         made: made,
     }
 }
 
-// The last line may lack its newline.
+// The end of the input: the last line may lack its newline.
 pub fn finish(
     words: &mut [u64],
     room: &mut [Pitch],
-    kept: &mut [u8; KEPT],
+    kept: &mut [u8],
     lines: u64,
     count: usize,
     out: &mut [u8],
-) -> Fed {
+) -> Fed
+    ensures { λ r. ⌜ FeedsIn (length (now (kept .entry))) (desk lines (take count (now (kept .entry))) (state (now (words .entry)) (now (room .entry)))) (ending (take count (now (kept .entry)))) (r .used) (desk (r .lines) (take (r .count) (now (kept .exit))) (state (now (words .exit)) (now (room .exit)))) (now (out .exit)) (r .made) ⌝ }
+{
     if count == 0 {
         return Fed {
             lines: lines,

@@ -41,6 +41,10 @@ replyText (Walked o) = walkText o
 replyText (Freed s n) = withTwo (text "freed ") s n
 replyText (Refused n) = withOne (text "refused ") n
 
+-- No printed line is longer: the longest has three numbers of 20 digits beside `( returned  )` and its newline.
+abbrev pub PRINTED-MAX : ℕ
+PRINTED-MAX = 74
+
 -- One line each: `(n reply)`, n the line number.
 abbrev pub printedLine : ℕ → List ℕ → List ℕ
 printedLine n reply = withOne (text "(") n ++ (text " " ++ (reply ++ text ")\n"))

@@ -7,7 +7,7 @@ use calls::Pitch;
 // A line has at most 80 bytes, without its newline.
 pub const LINE_MAX: usize = 80;
 
-// The longest line that is printed: two brackets, two spaces more than the reply `returned` with its two numbers, three numbers of 20 digits, and the newline.
+// No printed line is longer: the longest has three numbers of 20 digits beside `( returned  )` and its newline.
 pub const PRINTED_MAX: usize = 74;
 
 // The greatest argument of 16 bits.

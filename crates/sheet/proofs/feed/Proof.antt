@@ -1,0 +1,167 @@
+use borrow.Author.Needs.{needs}
+use native.Mathlib.Omega.{arith}
+use lib.ListN.{length, getD, set, length-set}
+use Prim.Native.Nat.{ℕ, _+_, _-_, _≤_, _<_}
+use native.Mathlib.Omega.{arith}
+use mathlib.Core.Path.{_≡_, refl, sym, _∙_, ap}
+use mathlib.Core.Logic.{inl, inr}
+use lib.ListN.{length, take}
+use Rattle.statement.specs.Machine.{state}
+use Rattle.sheet_law.specs.Sheet.{Desk, desk}
+use Rattle.sheet.specs.Feeds.{KEPT, Went}
+use Rattle.sheet.proofs.Turns.{begins, joins, ends-unread, ends-read, fits-true, fits-false}
+use Rattle.sheet.proofs.feed.Statement.{statement}
+use Rattle.sheet.proofs.feed.Tie as tie
+use Rattle.sheet.proofs.feed.Reads as reads
+use Rattle.sheet.proofs.feed.Lts as lts
+use Rattle.sheet.proofs.keep.Reads as keep-reads
+use Rattle.sheet.proofs.line_in.Reads as line-in-reads
+use Rattle.sheet_playing.proofs.play.Reads as play-reads
+use Rattle.sheet_printing.proofs.fits.Reads as fits-reads
+use Rattle.sheet_printing.proofs.print_reply.Reads as print-reply-reads
+use Rattle.sheet_printing.proofs.print_unread.Reads as print-unread-reads
+use Rattle.std.proofs.num.wrapping_add_u64.Reads as wrapping-add-u64-reads
+
+abbrev Inv-loop : tie.InvT-loop
+Inv-loop words₀ room₀ kept₀ lines count input out₀ read₀ held₀ used₀ made₀ words room kept out read held used made = (length kept ≡ KEPT) × (length words ≡ length words₀) × (length room ≡ length room₀) × (length out ≡ length out₀) × (length kept₀ ≡ KEPT) × Went (desk lines (take count kept₀) (state words₀ room₀)) input used (desk read (take held kept) (state words room)) out made
+
+abbrev μ-loop : tie.MeasureT-loop
+μ-loop words₀ room₀ kept₀ lines count input out₀ read₀ held₀ used₀ made₀ words room kept out read held used made = length input - used
+
+returns : tie.Need-returns Inv-loop μ-loop
+returns c = record { right = λ e. absurd (c .if1 .taken e); wrong = λ ne. (refl, refl, refl) }
+
+loop-holds : tie.Need-loop-holds Inv-loop μ-loop
+loop-holds c = (c .if1 .left, refl, refl, refl, c .if1 .left, begins _ _ _)
+
+shared-slice-read-b : tie.Need-shared-slice-read-b Inv-loop μ-loop
+shared-slice-read-b c = c .before .loop-test .taken
+
+keep-requires : tie.Need-keep-requires Inv-loop μ-loop
+keep-requires c κs = c .before .before .before .before .loop .inv .0
+
+add-used : tie.Need-add-used Inv-loop μ-loop
+add-used c = omega (arith, c .before .before .before .before .before .before .loop-test .taken)
+
+loop-less : tie.Need-loop-less Inv-loop μ-loop
+loop-less c = omega (arith, c .before .before .before .before .before .before .loop-test .taken)
+
+loop-again : tie.Need-loop-again Inv-loop μ-loop
+loop-again c = let k = c .before .before .before .before .before .before .before .loop in
+    (c .before .before .keep .kept .0 ∙ k .inv .0, k .inv .1, k .inv .2, k .inv .3, k .inv .4, joins _ _ (k .used) (k .read) (take (k .held) (k .kept)) (state (k .words) (k .room)) (k .out) (k .made) (k .inv .5) (c .before .before .before .before .before .before .loop-test .taken) (c .before .before .before .before .if2 .taken) _ (c .before .before .keep .ensures))
+
+fits-requires : tie.Need-fits-requires Inv-loop μ-loop
+fits-requires c κs = search needs
+
+add-used-2 : tie.Need-add-used-2 Inv-loop μ-loop
+add-used-2 c = omega (arith, c .before .before .before .before .before .loop-test .taken)
+
+wrapping-add-u64-requires : tie.Need-wrapping-add-u64-requires Inv-loop μ-loop
+wrapping-add-u64-requires c κs = search needs
+
+line-in-requires : tie.Need-line-in-requires Inv-loop μ-loop
+line-in-requires c κs = c .before .before .before .before .before .before .before .before .loop .inv .0
+
+enum-known-command : tie.Need-enum-known-command Inv-loop μ-loop
+enum-known-command c = search needs
+
+enum-told : tie.Need-enum-told Inv-loop μ-loop
+enum-told c = search needs
+
+print-unread-requires : tie.Need-print-unread-requires Inv-loop μ-loop
+print-unread-requires c κs = search needs
+
+loop-less-2 : tie.Need-loop-less-2 Inv-loop μ-loop
+loop-less-2 c = omega (arith, c .before .before .before .before .before .before .before .before .before .before .before .before .before .before .loop-test .taken)
+
+loop-again-2 : tie.Need-loop-again-2 Inv-loop μ-loop
+loop-again-2 c = let k = c .before .before .before .before .before .before .before .before .before .before .before .before .before .before .before .loop in let room = fits-true (k .made + 74) (length (k .out)) (c .before .before .before .before .before .before .before .before .before .before .fits2 .result) (c .before .before .before .before .before .before .before .before .before .before .fits2 .ensures) (c .before .before .before .before .before .before .before .before .before .if3 .left) in
+    (k .inv .0, k .inv .1, k .inv .2, c .before .before .print-unread .kept .0 ∙ k .inv .3, k .inv .4,
+    ends-unread _ _ (k .used) (k .read) (take (k .held) (k .kept)) (state (k .words) (k .room)) (k .out) (k .made) (k .inv .5) (c .before .before .before .before .before .before .before .before .before .before .before .before .before .before .loop-test .taken) (c .before .before .before .before .before .before .before .before .before .before .before .before .if2 .left) room _ _ (c .before .before .print-unread .kept .0) _ (c .before .before .before .before .before .before .before .before .wrapping-add-u64 .ensures) (sym (c .before .before .before .before .before .before .line-in .ensures) ∙ c .before .before .before .before .enum-told .given .1) (c .before .before .print-unread .ensures .put room))
+
+play-requires : tie.Need-play-requires Inv-loop μ-loop
+play-requires c κs = search needs
+
+print-reply-requires : tie.Need-print-reply-requires Inv-loop μ-loop
+print-reply-requires c κs = search needs
+
+loop-less-3 : tie.Need-loop-less-3 Inv-loop μ-loop
+loop-less-3 c = omega (arith, c .before .before .before .before .before .before .before .before .before .before .before .before .before .before .before .before .before .before .before .before .before .loop-test .taken)
+
+loop-again-3 : tie.Need-loop-again-3 Inv-loop μ-loop
+loop-again-3 c = let k = c .before .before .before .before .before .before .before .before .before .before .before .before .before .before .before .before .before .before .before .before .before .before .loop in let room = fits-true (k .made + 74) (length (k .out)) (c .before .before .before .before .before .before .before .before .before .before .before .before .before .before .before .before .before .fits2 .result) (c .before .before .before .before .before .before .before .before .before .before .before .before .before .before .before .before .before .fits2 .ensures) (c .before .before .before .before .before .before .before .before .before .before .before .before .before .before .before .before .if3 .left) in
+    (k .inv .0, c .before .before .before .before .before .before .before .play .kept .0 ∙ k .inv .1, c .before .before .before .before .before .before .before .play .kept .1 .0 ∙ k .inv .2, c .before .before .print-reply .kept .0 ∙ k .inv .3, k .inv .4,
+    ends-read _ _ (k .used) (k .read) (take (k .held) (k .kept)) (state (k .words) (k .room)) (k .out) (k .made) (k .inv .5) (c .before .before .before .before .before .before .before .before .before .before .before .before .before .before .before .before .before .before .before .before .before .loop-test .taken) (c .before .before .before .before .before .before .before .before .before .before .before .before .before .before .before .before .before .before .before .if2 .left) room _ _ (c .before .before .print-reply .kept .0) _ (c .before .before .before .before .before .before .before .before .before .before .before .before .before .before .before .wrapping-add-u64 .ensures) _ (sym (c .before .before .before .before .before .before .before .before .before .before .before .before .before .line-in .ensures) ∙ c .before .before .before .before .before .before .before .before .before .before .before .command .given .1) _ _ (c .before .before .before .before .before .before .before .play .ensures) (c .before .before .print-reply .ensures .put room))
+
+same-length : tie.Need-same-length Inv-loop μ-loop
+same-length c = c .before .loop .inv .1
+
+same-length-2 : tie.Need-same-length-2 Inv-loop μ-loop
+same-length-2 c = c .before .loop .inv .2
+
+same-length-3 : tie.Need-same-length-3 Inv-loop μ-loop
+same-length-3 c = c .before .loop .inv .0 ∙ sym (c .before .loop .inv .4)
+
+same-length-4 : tie.Need-same-length-4 Inv-loop μ-loop
+same-length-4 c = c .before .loop .inv .3
+
+returns-2 : tie.Need-returns-2 Inv-loop μ-loop
+returns-2 c = record {
+    right = λ e. record { went = c .before .loop .inv .5; stops = inl (omega (arith, c .loop-test .left, c .before .loop .inv .5 .taken)) };
+    wrong = λ ne. absurd (ne (c .before .before .if1 .left));
+    }
+
+same-length-5 : tie.Need-same-length-5 Inv-loop μ-loop
+same-length-5 c = c .before .before .before .before .before .before .loop .inv .1
+
+same-length-6 : tie.Need-same-length-6 Inv-loop μ-loop
+same-length-6 c = c .before .before .before .before .before .before .loop .inv .2
+
+same-length-7 : tie.Need-same-length-7 Inv-loop μ-loop
+same-length-7 c = c .before .before .before .before .before .before .loop .inv .0 ∙ sym (c .before .before .before .before .before .before .loop .inv .4)
+
+same-length-8 : tie.Need-same-length-8 Inv-loop μ-loop
+same-length-8 c = c .before .before .before .before .before .before .loop .inv .3
+
+returns-3 : tie.Need-returns-3 Inv-loop μ-loop
+returns-3 c = record {
+    right = λ e. record { went = c .before .before .before .before .before .before .loop .inv .5; stops = inr (fits-false (c .before .before .before .before .before .before .loop .made + 74) (length (c .before .before .before .before .before .before .loop .out)) (c .before .fits2 .result) (c .before .fits2 .ensures) (c .if3 .taken)) };
+    wrong = λ ne. absurd (ne (c .before .before .before .before .before .before .before .if1 .left));
+    }
+
+pub feed-spec : {M : Type 1} → statement M
+feed-spec =
+    tie.close
+    (tie.spec
+    Inv-loop
+    μ-loop
+    returns
+    loop-holds
+    shared-slice-read-b
+    keep-requires
+    add-used
+    loop-less
+    loop-again
+    fits-requires
+    add-used-2
+    wrapping-add-u64-requires
+    line-in-requires
+    enum-known-command
+    enum-told
+    print-unread-requires
+    loop-less-2
+    loop-again-2
+    play-requires
+    print-reply-requires
+    loop-less-3
+    loop-again-3
+    same-length
+    same-length-2
+    same-length-3
+    same-length-4
+    returns-2
+    same-length-5
+    same-length-6
+    same-length-7
+    same-length-8
+    returns-3)

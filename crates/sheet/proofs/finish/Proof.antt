@@ -1,0 +1,51 @@
+use borrow.Author.Needs.{needs}
+use native.Mathlib.Omega.{arith}
+use lib.ListN.{length, getD, set, length-set}
+use Prim.Native.Nat.{ℕ}
+use mathlib.Core.Path.{_≡_, refl, sym, ap}
+use mathlib.Core.Logic.{inl}
+use mathlib.Core.List.{List}
+use lib.ListN.{length}
+use Rattle.sheet.proofs.Turns.{begins, ending-none, ending-some}
+use Rattle.sheet.proofs.finish.Statement.{statement}
+use Rattle.sheet.proofs.finish.Tie as tie
+use Rattle.sheet.proofs.finish.Reads as reads
+use Rattle.sheet.proofs.finish.Lts as lts
+use Rattle.sheet.proofs.feed.Reads as feed-reads
+
+returns : tie.Need-returns
+returns c = record { right = λ e. record { went = begins _ _ _; stops = inl (sym (ap length (ending-none (c .before .before .before .before .args .kept .now) (c .before .before .before .before .args .count) (c .if1 .taken)))) }; wrong = λ ne. (refl, refl, refl) }
+
+slice-aggregate-feed : tie.Need-slice-aggregate-feed
+slice-aggregate-feed c = search needs
+
+feed-requires : tie.Need-feed-requires
+feed-requires c κs = search needs
+
+same-length : tie.Need-same-length
+same-length c = search needs
+
+same-length-2 : tie.Need-same-length-2
+same-length-2 c = search needs
+
+same-length-3 : tie.Need-same-length-3
+same-length-3 c = search needs
+
+same-length-4 : tie.Need-same-length-4
+same-length-4 c = search needs
+
+returns-2 : tie.Need-returns-2
+returns-2 c = record { right = λ e. rw (ending-some (c .before .before .before .before .before .before .before .before .before .before .before .before .before .before .before .before .before .args .kept .now) (c .before .before .before .before .before .before .before .before .before .before .before .before .before .before .before .before .before .args .count) e (c .before .before .before .before .before .before .before .before .before .before .before .before .before .if1 .left)) (c .before .before .before .before .before .before .before .feed .ensures .right e); wrong = c .before .before .before .before .before .before .before .feed .ensures .wrong }
+
+pub finish-spec : {M : Type 1} → statement M
+finish-spec =
+    tie.close
+    (tie.spec
+    returns
+    slice-aggregate-feed
+    feed-requires
+    same-length
+    same-length-2
+    same-length-3
+    same-length-4
+    returns-2)

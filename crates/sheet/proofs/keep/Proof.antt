@@ -1,0 +1,27 @@
+use borrow.Author.Needs.{needs}
+use native.Mathlib.Omega.{arith}
+use lib.ListN.{length, getD, set, length-set}
+use mathlib.Core.Path.{sym}
+use Rattle.sheet.proofs.Turns.{joined-full, joined-set}
+use Rattle.sheet.proofs.keep.Statement.{statement}
+use Rattle.sheet.proofs.keep.Tie as tie
+use Rattle.sheet.proofs.keep.Reads as reads
+use Rattle.sheet.proofs.keep.Lts as lts
+
+returns : tie.Need-returns
+returns c = sym (joined-full (c .before .args .kept .now) (c .before .args .count) (c .before .args .b) (c .before .pre) (c .if1 .taken))
+
+slice-write-kept : tie.Need-slice-write-kept
+slice-write-kept c = search needs
+
+add-result : tie.Need-add-result
+add-result c = search needs
+
+same-length : tie.Need-same-length
+same-length c = search needs
+
+returns-2 : tie.Need-returns-2
+returns-2 c = joined-set (c .before .args .kept .now) (c .before .args .count) (c .before .args .b) (c .before .pre) (c .if1 .left)
+
+pub keep-spec : {M : Type 1} → statement M
+keep-spec = tie.close (tie.spec returns slice-write-kept add-result same-length returns-2)
