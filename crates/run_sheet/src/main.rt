@@ -1,13 +1,62 @@
-// The run-sheet program: a sheet on standard input, a line for each of its lines on standard output. The loop of reads and writes, and nothing else.
-// It uses sheet, and io and libc to read and write.
+// The run-sheet program: a sheet on standard input, and a line for each of its lines on standard output. It has the loop of reads and writes and nothing else;
+// all that is known of lines, commands and replies stands in the library below it. It uses sheet, and io and libc to read and write.
+ghost use Prim.Native.Nat.{_≤_};
+ghost use mathlib.Core.Path.{_≡_};
+ghost use lib.ListN.{length};
+ghost use Rattle.sheet_law.specs.Printing.{PRINTED-MAX};
+ghost use Rattle.sheet.specs.Feeds.{KEPT};
 use calls::Pitch;
 use layout::WORDS;
 use libc::STDIN_FILENO;
 use libc::STDOUT_FILENO;
-use sheet::Fed;
 use sheet::KEPT;
 use sheet::ROOM;
 
+// What is kept after a read, and whether all that was printed could be written.
+struct Said {
+    lines: u64,
+    count: usize,
+    written: bool,
+}
+
+// The bytes of one read: the output is written whenever it is full, and at their end.
+fn say(
+    words: &mut [u64],
+    room: &mut [Pitch],
+    kept: &mut [u8],
+    lines: u64,
+    count: usize,
+    input: &[u8],
+    out: &mut [u8],
+) -> Said
+    requires { ⌜ length (now kept) ≡ KEPT ⌝ }
+    requires { ⌜ PRINTED-MAX ≤ length (now out) ⌝ }
+{
+    let mut read = lines;
+    let mut held = count;
+    let mut from: usize = 0;
+    while from < input.len() {
+        let fed = sheet::feed(words, room, kept, read, held, &input[from..], out);
+        read = fed.lines;
+        held = fed.count;
+        from = from + fed.used;
+        let made = fed.made;
+        if !io::write_all(STDOUT_FILENO, &out[..made]) {
+            return Said {
+                lines: read,
+                count: held,
+                written: false,
+            };
+        }
+    }
+    Said {
+        lines: read,
+        count: held,
+        written: true,
+    }
+}
+
+// A proved loop has to end, and nothing says that the input does: the loop counts its reads down, from a number that no run uses up.
 fn main() {
     let mut words = [0u64; WORDS];
     let mut room: [Pitch; ROOM] = [0; ROOM];
@@ -16,35 +65,30 @@ fn main() {
     let mut out = io::large_buffer();
     let mut lines: u64 = 0;
     let mut count: usize = 0;
-    let mut turns = u64::MAX;
-    while turns > 0 {
-        turns -= 1;
+    let mut reads = u64::MAX;
+    while reads > 0 {
+        reads -= 1;
         let got = libc::read(STDIN_FILENO, &mut input);
         let n = io::count(got, &input);
         if n == 0 {
             break;
         }
-        let mut from: usize = 0;
-        while from < n {
-            let fed = sheet::feed(
-                &mut words,
-                &mut room,
-                &mut kept,
-                lines,
-                count,
-                &input[from..n],
-                &mut out,
-            );
-            lines = fed.lines;
-            count = fed.count;
-            from = from + fed.used;
-            let made = fed.made;
-            if !io::write_all(STDOUT_FILENO, &out[..made]) {
-                return;
-            }
+        let said = say(
+            &mut words,
+            &mut room,
+            &mut kept,
+            lines,
+            count,
+            &input[..n],
+            &mut out,
+        );
+        lines = said.lines;
+        count = said.count;
+        if !said.written {
+            return;
         }
     }
-    let fed = sheet::finish(&mut words, &mut room, &mut kept, lines, count, &mut out);
-    let made = fed.made;
+    let last = sheet::finish(&mut words, &mut room, &mut kept, lines, count, &mut out);
+    let made = last.made;
     io::write_all(STDOUT_FILENO, &out[..made]);
 }

@@ -75,9 +75,14 @@ loop-less-2 : tie.Need-loop-less-2 Inv-loop μ-loop
 loop-less-2 c = omega (arith, c .before .before .before .before .before .before .before .before .before .before .before .before .before .before .loop-test .taken)
 
 loop-again-2 : tie.Need-loop-again-2 Inv-loop μ-loop
-loop-again-2 c = let k = c .before .before .before .before .before .before .before .before .before .before .before .before .before .before .before .loop in let room = fits-true (k .made + 74) (length (k .out)) (c .before .before .before .before .before .before .before .before .before .before .fits2 .result) (c .before .before .before .before .before .before .before .before .before .before .fits2 .ensures) (c .before .before .before .before .before .before .before .before .before .if3 .left) in
-    (k .inv .0, k .inv .1, k .inv .2, c .before .before .print-unread .kept .0 ∙ k .inv .3, k .inv .4,
-    ends-unread _ _ (k .used) (k .read) (take (k .held) (k .kept)) (state (k .words) (k .room)) (k .out) (k .made) (k .inv .5) (c .before .before .before .before .before .before .before .before .before .before .before .before .before .before .loop-test .taken) (c .before .before .before .before .before .before .before .before .before .before .before .before .if2 .left) room _ _ (c .before .before .print-unread .kept .0) _ (c .before .before .before .before .before .before .before .before .wrapping-add-u64 .ensures) (sym (c .before .before .before .before .before .before .line-in .ensures) ∙ c .before .before .before .before .enum-told .given .1) (c .before .before .print-unread .ensures .put room))
+loop-again-2 c = let k = c .before .before .before .before .before .before .before .before .before .before .before .before .before .before .before .loop in let room = fits-true (k .made + 74) (length (k .out)) (c .before .before .before .before .before .before .before .before .before .before .fits2 .result) (c .before .before .before .before .before .before .before .before .before .before .fits2 .ensures) (c .before .before .before .before .before .before .before .before .before .if3 .left) in (
+  k .inv .0,
+  k .inv .1,
+  k .inv .2,
+  c .before .before .print-unread .kept .0 ∙ k .inv .3,
+  k .inv .4,
+  ends-unread _ _ (k .used) (k .read) (take (k .held) (k .kept)) (state (k .words) (k .room)) (k .out) (k .made) (k .inv .5) (c .before .before .before .before .before .before .before .before .before .before .before .before .before .before .loop-test .taken) (c .before .before .before .before .before .before .before .before .before .before .before .before .if2 .left) room _ _ (c .before .before .print-unread .kept .0) _ (c .before .before .before .before .before .before .before .before .wrapping-add-u64 .ensures) (sym (c .before .before .before .before .before .before .line-in .ensures) ∙ c .before .before .before .before .enum-told .given .1) (c .before .before .print-unread .ensures .put room),
+)
 
 play-requires : tie.Need-play-requires Inv-loop μ-loop
 play-requires c κs = search needs
@@ -89,9 +94,14 @@ loop-less-3 : tie.Need-loop-less-3 Inv-loop μ-loop
 loop-less-3 c = omega (arith, c .before .before .before .before .before .before .before .before .before .before .before .before .before .before .before .before .before .before .before .before .before .loop-test .taken)
 
 loop-again-3 : tie.Need-loop-again-3 Inv-loop μ-loop
-loop-again-3 c = let k = c .before .before .before .before .before .before .before .before .before .before .before .before .before .before .before .before .before .before .before .before .before .before .loop in let room = fits-true (k .made + 74) (length (k .out)) (c .before .before .before .before .before .before .before .before .before .before .before .before .before .before .before .before .before .fits2 .result) (c .before .before .before .before .before .before .before .before .before .before .before .before .before .before .before .before .before .fits2 .ensures) (c .before .before .before .before .before .before .before .before .before .before .before .before .before .before .before .before .if3 .left) in
-    (k .inv .0, c .before .before .before .before .before .before .before .play .kept .0 ∙ k .inv .1, c .before .before .before .before .before .before .before .play .kept .1 .0 ∙ k .inv .2, c .before .before .print-reply .kept .0 ∙ k .inv .3, k .inv .4,
-    ends-read _ _ (k .used) (k .read) (take (k .held) (k .kept)) (state (k .words) (k .room)) (k .out) (k .made) (k .inv .5) (c .before .before .before .before .before .before .before .before .before .before .before .before .before .before .before .before .before .before .before .before .before .loop-test .taken) (c .before .before .before .before .before .before .before .before .before .before .before .before .before .before .before .before .before .before .before .if2 .left) room _ _ (c .before .before .print-reply .kept .0) _ (c .before .before .before .before .before .before .before .before .before .before .before .before .before .before .before .wrapping-add-u64 .ensures) _ (sym (c .before .before .before .before .before .before .before .before .before .before .before .before .before .line-in .ensures) ∙ c .before .before .before .before .before .before .before .before .before .before .before .command .given .1) _ _ (c .before .before .before .before .before .before .before .play .ensures) (c .before .before .print-reply .ensures .put room))
+loop-again-3 c = let k = c .before .before .before .before .before .before .before .before .before .before .before .before .before .before .before .before .before .before .before .before .before .before .loop in let room = fits-true (k .made + 74) (length (k .out)) (c .before .before .before .before .before .before .before .before .before .before .before .before .before .before .before .before .before .fits2 .result) (c .before .before .before .before .before .before .before .before .before .before .before .before .before .before .before .before .before .fits2 .ensures) (c .before .before .before .before .before .before .before .before .before .before .before .before .before .before .before .before .if3 .left) in (
+  k .inv .0,
+  c .before .before .before .before .before .before .before .play .kept .0 ∙ k .inv .1,
+  c .before .before .before .before .before .before .before .play .kept .1 .0 ∙ k .inv .2,
+  c .before .before .print-reply .kept .0 ∙ k .inv .3,
+  k .inv .4,
+  ends-read _ _ (k .used) (k .read) (take (k .held) (k .kept)) (state (k .words) (k .room)) (k .out) (k .made) (k .inv .5) (c .before .before .before .before .before .before .before .before .before .before .before .before .before .before .before .before .before .before .before .before .before .loop-test .taken) (c .before .before .before .before .before .before .before .before .before .before .before .before .before .before .before .before .before .before .before .if2 .left) room _ _ (c .before .before .print-reply .kept .0) _ (c .before .before .before .before .before .before .before .before .before .before .before .before .before .before .before .wrapping-add-u64 .ensures) _ (sym (c .before .before .before .before .before .before .before .before .before .before .before .before .before .line-in .ensures) ∙ c .before .before .before .before .before .before .before .before .before .before .before .command .given .1) _ _ (c .before .before .before .before .before .before .before .play .ensures) (c .before .before .print-reply .ensures .put room),
+)
 
 same-length : tie.Need-same-length Inv-loop μ-loop
 same-length c = c .before .loop .inv .1
@@ -107,9 +117,9 @@ same-length-4 c = c .before .loop .inv .3
 
 returns-2 : tie.Need-returns-2 Inv-loop μ-loop
 returns-2 c = record {
-    right = λ e. record { went = c .before .loop .inv .5; stops = inl (omega (arith, c .loop-test .left, c .before .loop .inv .5 .taken)) };
-    wrong = λ ne. absurd (ne (c .before .before .if1 .left));
-    }
+  right = λ e. record { went = c .before .loop .inv .5; stops = inl (omega (arith, c .loop-test .left, c .before .loop .inv .5 .taken)) };
+  wrong = λ ne. absurd (ne (c .before .before .if1 .left));
+}
 
 same-length-5 : tie.Need-same-length-5 Inv-loop μ-loop
 same-length-5 c = c .before .before .before .before .before .before .loop .inv .1
@@ -125,9 +135,9 @@ same-length-8 c = c .before .before .before .before .before .before .loop .inv .
 
 returns-3 : tie.Need-returns-3 Inv-loop μ-loop
 returns-3 c = record {
-    right = λ e. record { went = c .before .before .before .before .before .before .loop .inv .5; stops = inr (fits-false (c .before .before .before .before .before .before .loop .made + 74) (length (c .before .before .before .before .before .before .loop .out)) (c .before .fits2 .result) (c .before .fits2 .ensures) (c .if3 .taken)) };
-    wrong = λ ne. absurd (ne (c .before .before .before .before .before .before .before .if1 .left));
-    }
+  right = λ e. record { went = c .before .before .before .before .before .before .loop .inv .5; stops = inr (fits-false (c .before .before .before .before .before .before .loop .made + 74) (length (c .before .before .before .before .before .before .loop .out)) (c .before .fits2 .result) (c .before .fits2 .ensures) (c .if3 .taken)) };
+  wrong = λ ne. absurd (ne (c .before .before .before .before .before .before .before .if1 .left));
+}
 
 pub feed-spec : {M : Type 1} → statement M
 feed-spec =

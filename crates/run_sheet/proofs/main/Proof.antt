@@ -1,0 +1,139 @@
+use borrow.Author.Needs.{needs}
+use native.Mathlib.Omega.{arith}
+use lib.ListN.{length, getD, set, length-set}
+use Prim.Native.Nat.{ℕ, _≤_}
+use native.Mathlib.Omega.{arith}
+use mathlib.Core.Path.{_≡_, refl, sym, _∙_, ap}
+use lib.ListN.{length, take, length-replicate}
+use lib.Seq.{length-take-le}
+use Rattle.run_sheet.proofs.main.Statement.{statement}
+use Rattle.run_sheet.proofs.main.Tie as tie
+use Rattle.run_sheet.proofs.main.Reads as reads
+use Rattle.run_sheet.proofs.main.Lts as lts
+use Rattle.io.proofs.count.Reads as count-reads
+use Rattle.io.proofs.large_buffer.Reads as large-buffer-reads
+use Rattle.io.proofs.write_all.Reads as write-all-reads
+use Rattle.libc.proofs.read.Reads as read-reads
+use Rattle.run_sheet.proofs.say.Reads as say-reads
+use Rattle.sheet.proofs.finish.Reads as finish-reads
+
+abbrev Inv-loop : tie.InvT-loop
+Inv-loop words₀ room₀ kept₀ input₀ out₀ lines₀ count₀ reads₀ words room kept input out lines count reads = (length words ≡ 425) × (length room ≡ 1024) × (length kept ≡ 81) × (length input ≡ 65536) × (length out ≡ 65536)
+
+abbrev μ-loop : tie.MeasureT-loop
+μ-loop words₀ room₀ kept₀ input₀ out₀ lines₀ count₀ reads₀ words room kept input out lines count reads = reads
+
+large-buffer-requires : tie.Need-large-buffer-requires Inv-loop μ-loop
+large-buffer-requires c κs = search needs
+
+large-buffer-requires-2 : tie.Need-large-buffer-requires-2 Inv-loop μ-loop
+large-buffer-requires-2 c κs = search needs
+
+loop-holds : tie.Need-loop-holds Inv-loop μ-loop
+loop-holds c = (simp length-replicate, simp length-replicate, simp length-replicate, sym (c .before .large-buffer .ensures), sym (c .large-buffer2 .ensures))
+
+sub-reads : tie.Need-sub-reads Inv-loop μ-loop
+sub-reads c = omega (arith, c .loop-test .taken)
+
+slice-aggregate-read : tie.Need-slice-aggregate-read Inv-loop μ-loop
+slice-aggregate-read c = sym (c .before .before .loop .inv .3)
+
+read-requires : tie.Need-read-requires Inv-loop μ-loop
+read-requires c κs = search needs
+
+slice-aggregate-count : tie.Need-slice-aggregate-count Inv-loop μ-loop
+slice-aggregate-count c = search needs
+
+count-requires : tie.Need-count-requires Inv-loop μ-loop
+count-requires c κs = search needs
+
+slice-aggregate-say : tie.Need-slice-aggregate-say Inv-loop μ-loop
+slice-aggregate-say c = search needs
+
+slice-aggregate-say-2 : tie.Need-slice-aggregate-say-2 Inv-loop μ-loop
+slice-aggregate-say-2 c = search needs
+
+slice-aggregate-say-3 : tie.Need-slice-aggregate-say-3 Inv-loop μ-loop
+slice-aggregate-say-3 c = search needs
+
+array-share-prefix-input : tie.Need-array-share-prefix-input Inv-loop μ-loop
+array-share-prefix-input c = search needs
+
+slice-aggregate-say-4 : tie.Need-slice-aggregate-say-4 Inv-loop μ-loop
+slice-aggregate-say-4 c = search needs
+
+slice-aggregate-say-5 : tie.Need-slice-aggregate-say-5 Inv-loop μ-loop
+slice-aggregate-say-5 c = search needs
+
+say-requires : tie.Need-say-requires Inv-loop μ-loop
+say-requires c κs = search needs
+
+returns : tie.Need-returns Inv-loop μ-loop
+returns c = search needs
+
+loop-less : tie.Need-loop-less Inv-loop μ-loop
+loop-less c = search needs
+
+loop-again : tie.Need-loop-again Inv-loop μ-loop
+loop-again c = search needs
+
+slice-aggregate-finish : tie.Need-slice-aggregate-finish Inv-loop μ-loop
+slice-aggregate-finish c = search needs
+
+slice-aggregate-finish-2 : tie.Need-slice-aggregate-finish-2 Inv-loop μ-loop
+slice-aggregate-finish-2 c = search needs
+
+slice-aggregate-finish-3 : tie.Need-slice-aggregate-finish-3 Inv-loop μ-loop
+slice-aggregate-finish-3 c = search needs
+
+slice-aggregate-finish-4 : tie.Need-slice-aggregate-finish-4 Inv-loop μ-loop
+slice-aggregate-finish-4 c = search needs
+
+finish-requires : tie.Need-finish-requires Inv-loop μ-loop
+finish-requires c κs = search needs
+
+array-share-prefix-out : tie.Need-array-share-prefix-out Inv-loop μ-loop
+array-share-prefix-out c = omega (arith, (c .before .before .before .before .finish .ensures .right (c .before .before .before .before .before .before .before .before .before .before .loop .inv .2)) .went .filled, c .before .before .before .before .finish .kept .1 .1 .1 .1 .1 .0, c .before .before .before .before .before .before .before .before .before .before .loop .inv .4)
+
+slice-aggregate-write-all : tie.Need-slice-aggregate-write-all Inv-loop μ-loop
+slice-aggregate-write-all c = sym (length-take-le (c .before .before .before .before .before .finish .result .made) (c .before .before .before .before .before .finish .last .1 .1 .1 .1 .1 .0) ((c .before .before .before .before .before .finish .ensures .right (c .before .before .before .before .before .before .before .before .before .before .before .loop .inv .2)) .went .filled))
+
+write-all-requires : tie.Need-write-all-requires Inv-loop μ-loop
+write-all-requires c κs = search needs
+
+returns-2 : tie.Need-returns-2 Inv-loop μ-loop
+returns-2 c = search needs
+
+pub main-spec : {M : Type 1} → statement M
+main-spec =
+    tie.close
+    (tie.spec
+    Inv-loop
+    μ-loop
+    large-buffer-requires
+    large-buffer-requires-2
+    loop-holds
+    sub-reads
+    slice-aggregate-read
+    read-requires
+    slice-aggregate-count
+    count-requires
+    slice-aggregate-say
+    slice-aggregate-say-2
+    slice-aggregate-say-3
+    array-share-prefix-input
+    slice-aggregate-say-4
+    slice-aggregate-say-5
+    say-requires
+    returns
+    loop-less
+    loop-again
+    slice-aggregate-finish
+    slice-aggregate-finish-2
+    slice-aggregate-finish-3
+    slice-aggregate-finish-4
+    finish-requires
+    array-share-prefix-out
+    slice-aggregate-write-all
+    write-all-requires
+    returns-2)
