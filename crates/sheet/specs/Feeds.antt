@@ -1,4 +1,5 @@
 -- What feeding a desk comes to. Where it stops in the input is left open: it stops early only if the longest line would no longer fit into the output. Assumes nothing.
+-- From the desk d, `used` bytes of the input were taken; e is the desk after them, and the first `made` bytes of the output are what was printed for them.
 use Prim.Native.Nat.{ℕ, zero, suc, _+_, _≤_, _<_}
 use native.Mathlib.Omega.{arith}
 use mathlib.Core.Path.{_≡_, ap}
@@ -10,7 +11,6 @@ use Rattle.sheet_law.specs.Reading.{LINE-MAX}
 use Rattle.sheet_law.specs.Printing.{PRINTED-MAX}
 use Rattle.sheet_law.specs.Sheet.{Desk, fed, printed}
 
--- From the desk d, `used` bytes of the input were taken; e is the desk after them, and the first `made` bytes of the output are what was printed for them.
 pub record Went (d : Desk) (input : List ℕ) (used : ℕ) (e : Desk) (out : List ℕ) (made : ℕ) : Type 0 where
   pub taken : used ≤ length input
   pub filled : made ≤ length out

@@ -1,21 +1,11 @@
+-- The arrays keep their lengths, and each turn leaves one read fewer. Assumes nothing.
 use borrow.Author.Needs.{needs}
 use native.Mathlib.Omega.{arith}
-use lib.ListN.{length, getD, set, length-set}
-use Prim.Native.Nat.{ℕ, _≤_}
-use native.Mathlib.Omega.{arith}
-use mathlib.Core.Path.{_≡_, refl, sym, _∙_, ap}
-use lib.ListN.{length, take, length-replicate}
+use lib.ListN.{length, length-replicate}
+use mathlib.Core.Path.{_≡_, sym}
 use lib.Seq.{length-take-le}
 use Rattle.run_sheet.proofs.main.Statement.{statement}
 use Rattle.run_sheet.proofs.main.Tie as tie
-use Rattle.run_sheet.proofs.main.Reads as reads
-use Rattle.run_sheet.proofs.main.Lts as lts
-use Rattle.io.proofs.count.Reads as count-reads
-use Rattle.io.proofs.large_buffer.Reads as large-buffer-reads
-use Rattle.io.proofs.write_all.Reads as write-all-reads
-use Rattle.libc.proofs.read.Reads as read-reads
-use Rattle.run_sheet.proofs.say.Reads as say-reads
-use Rattle.sheet.proofs.finish.Reads as finish-reads
 
 abbrev Inv-loop : tie.InvT-loop
 Inv-loop words₀ room₀ kept₀ input₀ out₀ lines₀ count₀ reads₀ words room kept input out lines count reads = (length words ≡ 425) × (length room ≡ 1024) × (length kept ≡ 81) × (length input ≡ 65536) × (length out ≡ 65536)

@@ -1,20 +1,15 @@
+-- Each turn feeds some of what is left of the read. Assumes nothing.
 use borrow.Author.Needs.{needs}
 use native.Mathlib.Omega.{arith}
-use lib.ListN.{length, getD, set, length-set}
-use Prim.Native.Nat.{ℕ, _+_, _-_, _≤_, _<_}
-use native.Mathlib.Omega.{arith}
-use mathlib.Core.Path.{_≡_, refl, sym, _∙_, ap}
-use lib.ListN.{length, take}
+use lib.ListN.{length}
+use Prim.Native.Nat.{_+_, _-_, _≤_, _<_}
+use mathlib.Core.Path.{_≡_, refl, sym, _∙_}
 use lib.Seq.{length-take-le}
 use Rattle.sheet_law.specs.Printing.{PRINTED-MAX}
 use Rattle.sheet.specs.Feeds.{KEPT}
 use Rattle.run_sheet.proofs.Parts.{taken-within, taken-some}
 use Rattle.run_sheet.proofs.say.Statement.{statement}
 use Rattle.run_sheet.proofs.say.Tie as tie
-use Rattle.run_sheet.proofs.say.Reads as reads
-use Rattle.run_sheet.proofs.say.Lts as lts
-use Rattle.io.proofs.write_all.Reads as write-all-reads
-use Rattle.sheet.proofs.feed.Reads as feed-reads
 
 abbrev Inv-loop : tie.InvT-loop
 Inv-loop words₀ room₀ kept₀ lines count input out₀ read₀ held₀ from₀ words room kept out read held from = (length words ≡ length words₀) × (length room ≡ length room₀) × (length kept ≡ length kept₀) × (length out ≡ length out₀) × (from ≤ length input) × (length kept₀ ≡ KEPT) × (PRINTED-MAX ≤ length out₀)

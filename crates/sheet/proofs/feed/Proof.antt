@@ -1,26 +1,16 @@
+-- At every turn the desk and the output are what the bytes so far make of them; a turn is one byte. Assumes nothing.
 use borrow.Author.Needs.{needs}
 use native.Mathlib.Omega.{arith}
-use lib.ListN.{length, getD, set, length-set}
-use Prim.Native.Nat.{ℕ, _+_, _-_, _≤_, _<_}
-use native.Mathlib.Omega.{arith}
-use mathlib.Core.Path.{_≡_, refl, sym, _∙_, ap}
-use mathlib.Core.Logic.{inl, inr}
 use lib.ListN.{length, take}
+use Prim.Native.Nat.{_+_, _-_}
+use mathlib.Core.Path.{_≡_, refl, sym, _∙_}
+use mathlib.Core.Logic.{inl, inr}
 use Rattle.statement.specs.Machine.{state}
-use Rattle.sheet_law.specs.Sheet.{Desk, desk}
+use Rattle.sheet_law.specs.Sheet.{desk}
 use Rattle.sheet.specs.Feeds.{KEPT, Went}
 use Rattle.sheet.proofs.Turns.{begins, joins, ends-unread, ends-read, fits-true, fits-false}
 use Rattle.sheet.proofs.feed.Statement.{statement}
 use Rattle.sheet.proofs.feed.Tie as tie
-use Rattle.sheet.proofs.feed.Reads as reads
-use Rattle.sheet.proofs.feed.Lts as lts
-use Rattle.sheet.proofs.keep.Reads as keep-reads
-use Rattle.sheet.proofs.line_in.Reads as line-in-reads
-use Rattle.sheet_playing.proofs.play.Reads as play-reads
-use Rattle.sheet_printing.proofs.fits.Reads as fits-reads
-use Rattle.sheet_printing.proofs.print_reply.Reads as print-reply-reads
-use Rattle.sheet_printing.proofs.print_unread.Reads as print-unread-reads
-use Rattle.std.proofs.num.wrapping_add_u64.Reads as wrapping-add-u64-reads
 
 abbrev Inv-loop : tie.InvT-loop
 Inv-loop words₀ room₀ kept₀ lines count input out₀ read₀ held₀ used₀ made₀ words room kept out read held used made = (length kept ≡ KEPT) × (length words ≡ length words₀) × (length room ≡ length room₀) × (length out ≡ length out₀) × (length kept₀ ≡ KEPT) × Went (desk lines (take count kept₀) (state words₀ room₀)) input used (desk read (take held kept) (state words room)) out made

@@ -1,17 +1,11 @@
+-- A line that was begun is fed a newline; where none was, nothing is left to say. Assumes nothing.
 use borrow.Author.Needs.{needs}
-use native.Mathlib.Omega.{arith}
-use lib.ListN.{length, getD, set, length-set}
-use Prim.Native.Nat.{ℕ}
-use mathlib.Core.Path.{_≡_, refl, sym, ap}
-use mathlib.Core.Logic.{inl}
-use mathlib.Core.List.{List}
 use lib.ListN.{length}
+use mathlib.Core.Path.{refl, sym, ap}
+use mathlib.Core.Logic.{inl}
 use Rattle.sheet.proofs.Turns.{begins, ending-none, ending-some}
 use Rattle.sheet.proofs.finish.Statement.{statement}
 use Rattle.sheet.proofs.finish.Tie as tie
-use Rattle.sheet.proofs.finish.Reads as reads
-use Rattle.sheet.proofs.finish.Lts as lts
-use Rattle.sheet.proofs.feed.Reads as feed-reads
 
 returns : tie.Need-returns
 returns c = record { right = λ e. record { went = begins _ _ _; stops = inl (sym (ap length (ending-none (c .before .before .before .before .args .kept .now) (c .before .before .before .before .args .count) (c .if1 .taken)))) }; wrong = λ ne. (refl, refl, refl) }

@@ -1,13 +1,10 @@
+-- Either the room holds so many tables, or it is all lent. Assumes nothing.
 use borrow.Author.Needs.{needs}
-use native.Mathlib.Omega.{arith}
-use lib.ListN.{length, getD, set, length-set}
 use native.Mathlib.Omega.{arith}
 use mathlib.Core.Logic.{inl, inr}
 use mathlib.Core.Path.{refl}
 use Rattle.sheet_playing.proofs.part.Statement.{statement}
 use Rattle.sheet_playing.proofs.part.Tie as tie
-use Rattle.sheet_playing.proofs.part.Reads as reads
-use Rattle.sheet_playing.proofs.part.Lts as lts
 
 mul-result : tie.Need-mul-result
 mul-result c = search needs

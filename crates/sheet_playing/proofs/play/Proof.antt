@@ -1,9 +1,7 @@
+-- The call is on the part of the room that the definition lends, and the rest of the room is joined to it again. Assumes nothing.
 use borrow.Author.Needs.{needs}
-use native.Mathlib.Omega.{arith}
-use lib.ListN.{length, getD, set, length-set}
-use mathlib.Core.Path.{_≡_, refl, sym, _∙_, ap}
-use lib.ListN.{length, take, drop}
-use lib.Seq.{length-take-le, length-front}
+use mathlib.Core.Path.{sym, _∙_, ap}
+use lib.Seq.{length-take-le}
 use Rattle.sheet_law.specs.declared.Command.{Command}
 use Rattle.sheet_law.specs.Sheet.{played}
 use Rattle.statement.specs.Machine.{State, state, given}
@@ -14,12 +12,6 @@ use Rattle.calls.specs.Numbers.{TABLE}
 use Rattle.layout.specs.Layout.{slots}
 use Rattle.sheet_playing.proofs.play.Statement.{statement}
 use Rattle.sheet_playing.proofs.play.Tie as tie
-use Rattle.sheet_playing.proofs.play.Reads as reads
-use Rattle.sheet_playing.proofs.play.Lts as lts
-use Rattle.kinds.proofs.make.Reads as make-reads
-use Rattle.kinds.proofs.run.Reads as run-reads
-use Rattle.layout.proofs.slots_of.Reads as slots-of-reads
-use Rattle.sheet_playing.proofs.part.Reads as part-reads
 
 enum-known-command : tie.Need-enum-known-command
 enum-known-command c = search needs

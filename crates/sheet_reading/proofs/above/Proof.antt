@@ -1,12 +1,9 @@
+-- A number below 2^15 is the same pitch. Assumes nothing.
 use borrow.Author.Needs.{needs}
-use native.Mathlib.Omega.{arith}
-use lib.ListN.{length, getD, set, length-set}
 use mir.Syntax.{w16}
 use mir.ValLaws.{toZ-pos}
 use Rattle.sheet_reading.proofs.above.Statement.{statement}
 use Rattle.sheet_reading.proofs.above.Tie as tie
-use Rattle.sheet_reading.proofs.above.Reads as reads
-use Rattle.sheet_reading.proofs.above.Lts as lts
 
 cast-result : tie.Need-cast-result
 cast-result c = search needs

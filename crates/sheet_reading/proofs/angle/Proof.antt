@@ -1,20 +1,12 @@
+-- The first byte tells whether a minus stands before the size. Assumes nothing.
 use borrow.Author.Needs.{needs}
-use native.Mathlib.Omega.{arith}
-use lib.ListN.{length, getD, set, length-set}
 use Prim.Native.Nat.{ℕ}
-use native.Mathlib.Omega.{arith}
-use mathlib.Core.Path.{_≡_, refl, sym, _∙_, ap}
+use mathlib.Core.Path.{sym, _∙_, ap}
 use mathlib.Core.List.{List}
-use mir.Syntax.{w16}
-use mir.ValLaws.{toZ-ofZ}
 use Rattle.sheet_law.specs.Reading.{plain, within, negative as negative-of}
 use Rattle.sheet_reading.proofs.Bytes.{tail, angle-empty, angle-minus, angle-plain}
 use Rattle.sheet_reading.proofs.angle.Statement.{statement}
 use Rattle.sheet_reading.proofs.angle.Tie as tie
-use Rattle.sheet_reading.proofs.angle.Reads as reads
-use Rattle.sheet_reading.proofs.angle.Lts as lts
-use Rattle.sheet_reading.proofs.negative.Reads as negative-reads
-use Rattle.sheet_reading.proofs.positive.Reads as positive-reads
 
 returns : tie.Need-returns
 returns c = sym (angle-empty (c .before .before .args .s .now) (c .if1 .taken))

@@ -1,16 +1,13 @@
+-- The pitch is one less than the opposite of the number. Assumes nothing.
 use borrow.Author.Needs.{needs}
-use native.Mathlib.Omega.{arith}
-use lib.ListN.{length, getD, set, length-set}
-use mathlib.Core.Path.{_≡_, refl, _∙_, sym, ap}
-use lib.IntN.{ℤ, pos, negsuc, _-ℤ_}
+use mathlib.Core.Path.{_≡_, _∙_, ap}
+use lib.IntN.{ℤ, negsuc, _-ℤ_}
 use mir.Syntax.{w16}
 use mir.Val.{SFits, toZ}
 use mir.ValLaws.{toZ-pos, toZ-ofZ}
 use Rattle.sheet_reading.proofs.Bytes.{one-less}
 use Rattle.sheet_reading.proofs.below.Statement.{statement}
 use Rattle.sheet_reading.proofs.below.Tie as tie
-use Rattle.sheet_reading.proofs.below.Reads as reads
-use Rattle.sheet_reading.proofs.below.Lts as lts
 
 is : (c : tie.Start) → negsuc 0 -ℤ toZ w16 (c .args .v) ≡ negsuc (c .args .v)
 is c = ap (λ (z : ℤ). negsuc 0 -ℤ z) (toZ-pos w16 _ (c .pre)) ∙ one-less (c .args .v)

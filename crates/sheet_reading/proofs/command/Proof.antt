@@ -1,15 +1,8 @@
+-- By cases on the word: each has its own function below. Assumes nothing.
 use borrow.Author.Needs.{needs}
-use native.Mathlib.Omega.{arith}
-use lib.ListN.{length, getD, set, length-set}
-use mathlib.Core.Path.{_≡_, refl}
+use mathlib.Core.Path.{refl}
 use Rattle.sheet_reading.proofs.command.Statement.{statement}
 use Rattle.sheet_reading.proofs.command.Tie as tie
-use Rattle.sheet_reading.proofs.command.Reads as reads
-use Rattle.sheet_reading.proofs.command.Lts as lts
-use Rattle.sheet_reading.proofs.making.Reads as making-reads
-use Rattle.sheet_reading.proofs.one.Reads as one-reads
-use Rattle.sheet_reading.proofs.two.Reads as two-reads
-use Rattle.sheet_reading.proofs.writing.Reads as writing-reads
 
 enum-told : tie.Need-enum-told
 enum-told c = search needs

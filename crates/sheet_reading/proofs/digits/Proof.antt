@@ -1,18 +1,14 @@
+-- What is read so far stands for the digits before place i; a number that 64 bits do not hold only grows. Assumes nothing.
 use borrow.Author.Needs.{needs}
 use native.Mathlib.Omega.{arith}
-use lib.ListN.{length, getD, set, length-set}
-use Prim.Native.Nat.{ℕ, _+_, _-_, _*_, _<_, _≤_}
-use mathlib.Core.Path.{_≡_, refl, _∙_, sym, ap}
-use native.Mathlib.Omega.{arith}
 use lib.ListN.{length, drop}
+use Prim.Native.Nat.{_-_, _≤_}
+use mathlib.Core.Path.{_≡_, refl, _∙_, sym, ap}
 use Rattle.sheet_law.specs.declared.Number.{Number}
 use Rattle.sheet_law.specs.Reading.{digits as digits-of, within}
 use Rattle.sheet_reading.proofs.Bytes.{digits-end, digits-low, digits-high, digits-next, too-wide, within-fine}
 use Rattle.sheet_reading.proofs.digits.Statement.{statement}
 use Rattle.sheet_reading.proofs.digits.Tie as tie
-use Rattle.sheet_reading.proofs.digits.Reads as reads
-use Rattle.sheet_reading.proofs.digits.Lts as lts
-use Rattle.sheet_reading.proofs.wide.Reads as wide-reads
 
 abbrev wide-enough : Number → Number
 wide-enough x = within 18446744073709551615 x

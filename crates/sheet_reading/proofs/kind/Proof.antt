@@ -1,13 +1,9 @@
+-- Each test is the one of the definition. Assumes nothing.
 use borrow.Author.Needs.{needs}
-use native.Mathlib.Omega.{arith}
-use lib.ListN.{length, getD, set, length-set}
 use mathlib.Core.Path.{sym, _∙_}
 use Rattle.sheet_law.specs.Reading.{kindNamed}
 use Rattle.sheet_reading.proofs.kind.Statement.{statement}
 use Rattle.sheet_reading.proofs.kind.Tie as tie
-use Rattle.sheet_reading.proofs.kind.Reads as reads
-use Rattle.sheet_reading.proofs.kind.Lts as lts
-use Rattle.sheet_reading.proofs.same.Reads as same-reads
 
 slice-aggregate-same : tie.Need-slice-aggregate-same
 slice-aggregate-same c = search needs

@@ -1,21 +1,15 @@
+-- What was read after the minus is a size of at most 2^15. Assumes nothing.
 use borrow.Author.Needs.{needs}
 use native.Mathlib.Omega.{arith}
-use lib.ListN.{length, getD, set, length-set}
-use Prim.Native.Nat.{ℕ, suc, _-_}
-use native.Mathlib.Omega.{arith}
-use mathlib.Core.Path.{_≡_, refl, sym, _∙_, ap}
+use Prim.Native.Nat.{_-_}
+use mathlib.Core.Path.{sym, _∙_, ap}
 use mir.Syntax.{w16}
 use mir.ValLaws.{toZ-ofZ}
-use Rattle.sheet_law.specs.declared.Number.{Number}
 use Rattle.sheet_law.specs.declared.Angle.the-variants.{At}
-use Rattle.sheet_law.specs.Reading.{plain, within, negative as negative-of}
+use Rattle.sheet_law.specs.Reading.{plain, negative as negative-of}
 use Rattle.sheet_reading.proofs.Bytes.{within-most, negative-zero, negative-other}
 use Rattle.sheet_reading.proofs.negative.Statement.{statement}
 use Rattle.sheet_reading.proofs.negative.Tie as tie
-use Rattle.sheet_reading.proofs.negative.Reads as reads
-use Rattle.sheet_reading.proofs.negative.Lts as lts
-use Rattle.sheet_reading.proofs.below.Reads as below-reads
-use Rattle.sheet_reading.proofs.number.Reads as number-reads
 
 number-requires : tie.Need-number-requires
 number-requires c κs = search needs

@@ -1,19 +1,13 @@
+-- A text without a leading zero is its digits, and a bound within 64 bits is tested on what they come to. Assumes nothing.
 use borrow.Author.Needs.{needs}
 use native.Mathlib.Omega.{arith}
-use lib.ListN.{length, getD, set, length-set}
 use mathlib.Core.Logic.{⊎-elim}
-use Prim.Native.Nat.{ℕ, _<_, _≤_}
-use mathlib.Core.Path.{_≡_, refl, _∙_, sym, ap}
-use native.Mathlib.Omega.{arith}
+use mathlib.Core.Path.{_≡_, _∙_, sym, ap}
 use Rattle.sheet_law.specs.declared.Number.{Number}
-use Rattle.sheet_law.specs.declared.Number.the-variants.{Fine, Bad}
 use Rattle.sheet_law.specs.Reading.{digits as digits-of, plain, within}
 use Rattle.sheet_reading.proofs.Bytes.{plain-empty, plain-zero, plain-digits, within-fine, within-bad, within-is, within-less}
 use Rattle.sheet_reading.proofs.number.Statement.{statement}
 use Rattle.sheet_reading.proofs.number.Tie as tie
-use Rattle.sheet_reading.proofs.number.Reads as reads
-use Rattle.sheet_reading.proofs.number.Lts as lts
-use Rattle.sheet_reading.proofs.digits.Reads as digits-reads
 
 plain-is : (c : tie.Joined2) → plain (c .before .before .before .args .s .now) ≡ digits-of 0 (c .before .before .before .args .s .now)
 plain-is c = plain-digits (c .before .before .before .args .s .now) (c .before .if1 .left) (⊎-elim (λ t h. t .2 .left) (λ t h. absurd (omega (arith, t .left))) (c .if2 .came))

@@ -1,22 +1,12 @@
+-- The argument is read as the definition reads it, and fits 16 bits. Assumes nothing.
 use borrow.Author.Needs.{needs}
 use native.Mathlib.Omega.{arith}
-use lib.ListN.{length, getD, set, length-set}
-use Prim.Native.Nat.{ℕ, _-_, _≤_}
-use native.Mathlib.Omega.{arith}
-use mathlib.Core.Path.{_≡_, refl, sym, _∙_, ap}
-use mathlib.Core.List.{List}
-use lib.ListN.{length, take, drop}
-use lib.Seq.{length-take-le}
-use Rattle.sheet_law.specs.declared.Number.{Number}
-use Rattle.sheet_law.specs.declared.Number.the-variants.{Fine, Bad}
-use Rattle.sheet_law.specs.Reading.{first, rest, plain, narrow, wide, kindNamed, angle as angle-of}
-use Rattle.sheet_reading.proofs.Bytes.{read-part, tail-is, within-most}
+use Prim.Native.Nat.{_-_}
+use mathlib.Core.Path.{refl, sym, _∙_}
+use Rattle.sheet_law.specs.Reading.{plain}
+use Rattle.sheet_reading.proofs.Bytes.{within-most}
 use Rattle.sheet_reading.proofs.one.Statement.{statement}
 use Rattle.sheet_reading.proofs.one.Tie as tie
-use Rattle.sheet_reading.proofs.one.Reads as reads
-use Rattle.sheet_reading.proofs.one.Lts as lts
-use Rattle.sheet_reading.proofs.number.Reads as number-reads
-use Rattle.sheet_reading.proofs.one_of.Reads as one-of-reads
 
 number-requires : tie.Need-number-requires
 number-requires c κs = search needs

@@ -1,22 +1,16 @@
+-- The tests are those of the definition, and what stands between the brackets is cut as there. Assumes nothing.
 use borrow.Author.Needs.{needs}
 use native.Mathlib.Omega.{arith}
-use lib.ListN.{length, getD, set, length-set}
-use Prim.Native.Nat.{ℕ, _-_, _≤_}
-use native.Mathlib.Omega.{arith}
-use mathlib.Core.Path.{_≡_, refl, sym, _∙_, ap}
-use mathlib.Core.List.{List}
 use lib.ListN.{length, take, drop}
+use Prim.Native.Nat.{ℕ, _-_}
+use mathlib.Core.Path.{_≡_, sym, _∙_, ap}
+use mathlib.Core.List.{List}
 use lib.Seq.{length-take-le}
 use Rattle.sheet_law.specs.declared.Word.{Word}
 use Rattle.sheet_law.specs.Reading.{first, rest, word as word-of, command as command-of, inner}
 use Rattle.sheet_reading.proofs.Bytes.{tail-is, line-long, line-brief, line-unopened, line-unclosed, line-whole, inner-is}
 use Rattle.sheet_reading.proofs.parse.Statement.{statement}
 use Rattle.sheet_reading.proofs.parse.Tie as tie
-use Rattle.sheet_reading.proofs.parse.Reads as reads
-use Rattle.sheet_reading.proofs.parse.Lts as lts
-use Rattle.sheet_reading.proofs.command.Reads as command-reads
-use Rattle.sheet_reading.proofs.cut.Reads as cut-reads
-use Rattle.sheet_reading.proofs.word.Reads as word-reads
 
 between : (c : tie.After-inner) → take (length (c .before .before .before .before .before .before .before .before .args .line .now) - 1 - 1) (drop 1 (c .before .before .before .before .before .before .before .before .args .line .now)) ≡ inner (c .before .before .before .before .before .before .before .before .args .line .now)
 between c = inner-is (c .before .before .before .before .before .before .before .before .args .line .now) (c .before .before .before .before .before .before .if1 .left) (c .before .before .before .before .before .if2 .left)

@@ -1,20 +1,14 @@
+-- What was read is at most 2^15 - 1. Assumes nothing.
 use borrow.Author.Needs.{needs}
 use native.Mathlib.Omega.{arith}
-use lib.ListN.{length, getD, set, length-set}
-use Prim.Native.Nat.{ℕ}
-use native.Mathlib.Omega.{arith}
-use mathlib.Core.Path.{_≡_, refl, sym, _∙_, ap}
+use mathlib.Core.Path.{sym, _∙_, ap}
 use mir.Syntax.{w16}
 use mir.ValLaws.{toZ-ofZ}
 use Rattle.sheet_law.specs.declared.Angle.the-variants.{At}
-use Rattle.sheet_law.specs.Reading.{plain, within, positive as positive-of}
+use Rattle.sheet_law.specs.Reading.{plain, positive as positive-of}
 use Rattle.sheet_reading.proofs.Bytes.{within-most}
 use Rattle.sheet_reading.proofs.positive.Statement.{statement}
 use Rattle.sheet_reading.proofs.positive.Tie as tie
-use Rattle.sheet_reading.proofs.positive.Reads as reads
-use Rattle.sheet_reading.proofs.positive.Lts as lts
-use Rattle.sheet_reading.proofs.above.Reads as above-reads
-use Rattle.sheet_reading.proofs.number.Reads as number-reads
 
 number-requires : tie.Need-number-requires
 number-requires c κs = search needs

@@ -1,23 +1,15 @@
+-- The text is cut as in the definition, and both arguments fit 16 bits. Assumes nothing.
 use borrow.Author.Needs.{needs}
 use native.Mathlib.Omega.{arith}
-use lib.ListN.{length, getD, set, length-set}
-use Prim.Native.Nat.{ℕ, _-_, _≤_}
-use native.Mathlib.Omega.{arith}
-use mathlib.Core.Path.{_≡_, refl, sym, _∙_, ap}
-use mathlib.Core.List.{List}
 use lib.ListN.{length, take, drop}
+use Prim.Native.Nat.{_-_}
+use mathlib.Core.Path.{_≡_, refl, sym}
 use lib.Seq.{length-take-le}
-use Rattle.sheet_law.specs.declared.Number.{Number}
 use Rattle.sheet_law.specs.declared.Number.the-variants.{Fine, Bad}
-use Rattle.sheet_law.specs.Reading.{first, rest, plain, narrow, wide, kindNamed, angle as angle-of}
+use Rattle.sheet_law.specs.Reading.{first, rest, plain, narrow}
 use Rattle.sheet_reading.proofs.Bytes.{read-part, tail-is, within-most}
 use Rattle.sheet_reading.proofs.two.Statement.{statement}
 use Rattle.sheet_reading.proofs.two.Tie as tie
-use Rattle.sheet_reading.proofs.two.Reads as reads
-use Rattle.sheet_reading.proofs.two.Lts as lts
-use Rattle.sheet_reading.proofs.cut.Reads as cut-reads
-use Rattle.sheet_reading.proofs.number.Reads as number-reads
-use Rattle.sheet_reading.proofs.two_of.Reads as two-of-reads
 
 first-read : (c : tie.After-known-told2) → narrow (first (c .before .before .before .before .before .before .before .before .before .before .before .before .args .s .now)) ≡ Fine (c .before .before .before .before .before .before .n .given .0 .0)
 first-read c = read-part narrow (c .before .before .before .before .before .before .before .before .number .result) (take (c .before .before .before .before .before .before .before .before .before .before .cut .result .end) (c .before .before .before .before .before .before .before .before .before .before .before .before .args .s .now)) (first (c .before .before .before .before .before .before .before .before .before .before .before .before .args .s .now)) (Fine (c .before .before .before .before .before .before .n .given .0 .0)) (c .before .before .before .before .before .before .before .before .number .ensures) (c .before .before .before .before .before .before .before .before .before .before .cut .ensures .2) (c .before .before .before .before .before .before .n .given .1)

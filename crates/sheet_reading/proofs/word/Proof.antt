@@ -1,14 +1,10 @@
+-- The tests go down the rows of the table of words. Assumes nothing.
 use borrow.Author.Needs.{needs}
-use native.Mathlib.Omega.{arith}
-use lib.ListN.{length, getD, set, length-set}
 use mathlib.Core.Path.{sym, _∙_}
 use Rattle.sheet_law.specs.declared.Word.the-variants.{Store, Enter, Look, Leave, Claim, Write, Swap, Sync, Raise, Walk, Release}
 use Rattle.sheet_reading.proofs.Bytes.{named-here, named-next, named-none}
 use Rattle.sheet_reading.proofs.word.Statement.{statement}
 use Rattle.sheet_reading.proofs.word.Tie as tie
-use Rattle.sheet_reading.proofs.word.Reads as reads
-use Rattle.sheet_reading.proofs.word.Lts as lts
-use Rattle.sheet_reading.proofs.same.Reads as same-reads
 
 slice-aggregate-same : tie.Need-slice-aggregate-same
 slice-aggregate-same c = search needs

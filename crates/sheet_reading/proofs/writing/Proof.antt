@@ -1,28 +1,17 @@
+-- The text is cut as in the definition; a pitch that was read is the same number in 16 bits. Assumes nothing.
 use borrow.Author.Needs.{needs}
 use native.Mathlib.Omega.{arith}
-use lib.ListN.{length, getD, set, length-set}
-use Prim.Native.Nat.{ℕ, _-_, _≤_}
-use native.Mathlib.Omega.{arith}
+use Prim.Native.Nat.{_-_}
 use mathlib.Core.Path.{_≡_, refl, sym, _∙_, ap}
-use mathlib.Core.List.{List}
-use lib.ListN.{length, take, drop}
+use lib.ListN.{take}
 use lib.Seq.{length-take-le}
-use Rattle.sheet_law.specs.declared.Number.{Number}
 use Rattle.sheet_law.specs.declared.Number.the-variants.{Fine, Bad}
-use Rattle.sheet_law.specs.Reading.{first, rest, plain, narrow, wide, kindNamed, angle as angle-of}
+use Rattle.sheet_law.specs.Reading.{first, rest, plain, narrow, angle as angle-of}
 use Rattle.sheet_reading.proofs.Bytes.{read-part, tail-is, within-most}
-use lib.IntN.{ℤ}
 use mir.Syntax.{w16}
 use mir.ValLaws.{toZ-ofZ}
-use Rattle.sheet_law.specs.declared.Angle.{Angle}
-use Rattle.sheet_law.specs.declared.Angle.the-variants.{At, Wrong}
 use Rattle.sheet_reading.proofs.writing.Statement.{statement}
 use Rattle.sheet_reading.proofs.writing.Tie as tie
-use Rattle.sheet_reading.proofs.writing.Reads as reads
-use Rattle.sheet_reading.proofs.writing.Lts as lts
-use Rattle.sheet_reading.proofs.angle.Reads as angle-reads
-use Rattle.sheet_reading.proofs.cut.Reads as cut-reads
-use Rattle.sheet_reading.proofs.number.Reads as number-reads
 
 first-read : (c : tie.After-known-told) → narrow (first (c .before .before .before .before .before .before .before .args .s .now)) ≡ Fine (c .before .p .given .0 .0)
 first-read c = read-part narrow (c .before .before .before .number .result) (take (c .before .before .before .before .before .cut .result .end) (c .before .before .before .before .before .before .before .args .s .now)) (first (c .before .before .before .before .before .before .before .args .s .now)) (Fine (c .before .p .given .0 .0)) (c .before .before .before .number .ensures) (c .before .before .before .before .before .cut .ensures .2) (c .before .p .given .1)
