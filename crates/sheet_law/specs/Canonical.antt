@@ -1,5 +1,5 @@
--- A command's own text. A command whose arguments have their widths is read back from it, whatever they are: its text is bracketed, of at most 80 bytes, and
--- its decimals are read back. Assumes nothing.
+-- A command's own text. A command whose arguments have their widths is read back from it, whatever they are: its text is bracketed, its decimals are read back,
+-- and it is at most 50 bytes. Assumes nothing.
 use Prim.Native.Nat.{ℕ, suc, _+_, _-_, _^_, _<_, _≤_}
 use native.Mathlib.Omega.{arith}
 use mathlib.Core.Path.{_≡_, refl, _∙_}
@@ -124,24 +124,7 @@ unfolding angle
 angle-back (pos n) fits = angle-digits (decimal n) (all-digits n) ∙ rw (plain-decimal n, le-ltb PITCH-MAX n (omega arith)) refl
 angle-back (negsuc n) fits = rw (plain-decimal (suc n), le-ltb PITCH-MIN (suc n) (omega arith)) refl
 
--- A command's text is at most 80 bytes.
-narrow-length : (n : ℕ) → FitsNarrow n → length (decimal n) ≤ 5
-narrow-length n fits = decimal-length 5 n (omega arith) (omega arith)
-
-wide-length : (n : ℕ) → FitsWide n → length (decimal n) ≤ 20
-wide-length n fits = decimal-length 20 n (omega arith) (omega arith)
-
-angle-length : (v : ℤ) → FitsAngle v → length (angleText v) ≤ 6
-angle-length (pos n) fits = let d = decimal-length 5 n (omega arith) (omega arith) in omega arith
-angle-length (negsuc n) fits = let d = decimal-length 5 (suc n) (omega arith) (omega arith) in omega arith
-
-two-length : (m n : ℕ) (a b : List ℕ) → length a ≤ m → length b ≤ n → length (a ++ (SPACE ∷ b)) ≤ m + 1 + n
-two-length m n a b la lb = omega (arith, length-append a (SPACE ∷ b))
-
-pair-length : (n m : ℕ) → FitsNarrow n → FitsNarrow m → length (decimal n ++ (SPACE ∷ decimal m)) ≤ 11
-pair-length n m a b = two-length 5 5 (decimal n) (decimal m) (narrow-length n a) (narrow-length m b)
-
--- A command is read back from its text.
+-- What stands between the brackets is read back.
 one-back : (w : Word) (n : ℕ) → FitsNarrow n → one w (decimal n) ≡ oneOf w n
 one-back w n f = rw (narrow-back n f) refl
 
@@ -151,26 +134,21 @@ two-back w n m f g = rw (decimal-first n (decimal m), decimal-rest n (decimal m)
 write-back : (p : ℕ) (v : ℤ) → FitsNarrow p → FitsAngle v → writing (decimal p ++ (SPACE ∷ angleText v)) ≡ Read (Run (call.Write p v))
 write-back p v f g = rw (decimal-first p (angleText v), decimal-rest p (angleText v), narrow-back p f, angle-back v g) refl
 
-reads-call : (c : Call) → FitsCall c → lineOf (commandText (Run c)) ≡ Read (Run c)
+call-back : (c : Call) → FitsCall c → command (word (first (callText c))) (rest (callText c)) ≡ Read (Run c)
 unfolding first rest named
-reads-call (call.Enter r) f = bracketed-read (callText (call.Enter r)) (omega (arith, narrow-length r f)) ∙ one-back Enter r f
-reads-call (call.Look r k) (f, g) = bracketed-read (callText (call.Look r k)) (omega (arith, pair-length r k f g)) ∙ two-back Look r k f g
-reads-call (call.Leave r) f = bracketed-read (callText (call.Leave r)) (omega (arith, narrow-length r f)) ∙ one-back Leave r f
-reads-call (call.Claim p s) (f, g) = bracketed-read (callText (call.Claim p s)) (omega (arith, pair-length p s f g)) ∙ two-back Claim p s f g
-reads-call (call.Write p v) (f, g) =
-    bracketed-read (callText (call.Write p v)) (omega (arith, two-length 5 6 (decimal p) (angleText v) (narrow-length p f) (angle-length v g))) ∙ write-back p v f g
-reads-call (call.Swap p) f = bracketed-read (callText (call.Swap p)) (omega (arith, narrow-length p f)) ∙ one-back Swap p f
-reads-call (call.Sync p) f = bracketed-read (callText (call.Sync p)) (omega (arith, narrow-length p f)) ∙ one-back Sync p f
-reads-call (call.Raise p) f = bracketed-read (callText (call.Raise p)) (omega (arith, narrow-length p f)) ∙ one-back Raise p f
-reads-call (call.Walk p b) (f, g) = bracketed-read (callText (call.Walk p b)) (omega (arith, pair-length p b f g)) ∙ two-back Walk p b f g
-reads-call (call.Release p) f = bracketed-read (callText (call.Release p)) (omega (arith, narrow-length p f)) ∙ one-back Release p f
+call-back (call.Enter r) f = one-back Enter r f
+call-back (call.Look r k) (f, g) = two-back Look r k f g
+call-back (call.Leave r) f = one-back Leave r f
+call-back (call.Claim p s) (f, g) = two-back Claim p s f g
+call-back (call.Write p v) (f, g) = write-back p v f g
+call-back (call.Swap p) f = one-back Swap p f
+call-back (call.Sync p) f = one-back Sync p f
+call-back (call.Raise p) f = one-back Raise p f
+call-back (call.Walk p b) (f, g) = two-back Walk p b f g
+call-back (call.Release p) f = one-back Release p f
 
--- `store` with its kind and its four numbers.
-kind-length : (k : ℕ) → length (kindText k) ≡ 3
-kind-length k = pick-split (λ x. length x ≡ 3) (eqb k KIND-NEW) (λ _. refl) (λ _. refl)
-
-make-back : (k rs ps ss v : ℕ) → Fits (Make k rs ps ss v) → making (storeText k rs ps ss v) ≡ Read (Make k rs ps ss v)
-make-back k rs ps ss v (fk, fr, fp, fs, fv) =
+store-back : (k rs ps ss v : ℕ) → Fits (Make k rs ps ss v) → making (storeText k rs ps ss v) ≡ Read (Make k rs ps ss v)
+store-back k rs ps ss v (fk, fr, fp, fs, fv) =
     let d : List ℕ = decimal v in
     let c : List ℕ = decimal ss ++ (SPACE ∷ d) in
     let b : List ℕ = decimal ps ++ (SPACE ∷ c) in
@@ -190,18 +168,60 @@ make-back k rs ps ss v (fk, fr, fp, fs, fv) =
       wide-back v fv,
     ) refl
 
+inner-back : (c : Command) → Fits c → command (word (first (innerText c))) (rest (innerText c)) ≡ Read c
+unfolding first rest named
+inner-back (Make k rs ps ss v) f = store-back k rs ps ss v f
+inner-back (Run c) f = call-back c f
+
+-- A command's text is at most 50 bytes.
+narrow-length : (n : ℕ) → FitsNarrow n → length (decimal n) ≤ 5
+narrow-length n fits = decimal-length 5 n (omega arith) (omega arith)
+
+wide-length : (n : ℕ) → FitsWide n → length (decimal n) ≤ 20
+wide-length n fits = decimal-length 20 n (omega arith) (omega arith)
+
+angle-length : (v : ℤ) → FitsAngle v → length (angleText v) ≤ 6
+angle-length (pos n) fits = let d = decimal-length 5 n (omega arith) (omega arith) in omega arith
+angle-length (negsuc n) fits = let d = decimal-length 5 (suc n) (omega arith) (omega arith) in omega arith
+
+kind-length : (k : ℕ) → length (kindText k) ≤ 3
+kind-length k = pick-split (λ x. length x ≤ 3) (eqb k KIND-NEW) (λ _. omega arith) (λ _. omega arith)
+
+spaced-length : (m n : ℕ) (a b : List ℕ) → length a ≤ m → length b ≤ n → length (a ++ (SPACE ∷ b)) ≤ m + 1 + n
+spaced-length m n a b la lb = omega (arith, length-append a (SPACE ∷ b))
+
+pair-length : (n m : ℕ) → FitsNarrow n → FitsNarrow m → length (decimal n ++ (SPACE ∷ decimal m)) ≤ 11
+pair-length n m a b = spaced-length 5 5 (decimal n) (decimal m) (narrow-length n a) (narrow-length m b)
+
+call-length : (c : Call) → FitsCall c → length (callText c) ≤ 48
+call-length (call.Enter r) f = omega (arith, narrow-length r f)
+call-length (call.Look r k) (f, g) = omega (arith, pair-length r k f g)
+call-length (call.Leave r) f = omega (arith, narrow-length r f)
+call-length (call.Claim p s) (f, g) = omega (arith, pair-length p s f g)
+call-length (call.Write p v) (f, g) = omega (arith, spaced-length 5 6 (decimal p) (angleText v) (narrow-length p f) (angle-length v g))
+call-length (call.Swap p) f = omega (arith, narrow-length p f)
+call-length (call.Sync p) f = omega (arith, narrow-length p f)
+call-length (call.Raise p) f = omega (arith, narrow-length p f)
+call-length (call.Walk p b) (f, g) = omega (arith, pair-length p b f g)
+call-length (call.Release p) f = omega (arith, narrow-length p f)
+
 store-length : (k rs ps ss v : ℕ) → Fits (Make k rs ps ss v) → length (storeText k rs ps ss v) ≤ 42
 store-length k rs ps ss v (fk, fr, fp, fs, fv) =
-    let d : List ℕ = decimal v in
-    let c : List ℕ = decimal ss ++ (SPACE ∷ d) in
+    let c : List ℕ = decimal ss ++ (SPACE ∷ decimal v) in
     let b : List ℕ = decimal ps ++ (SPACE ∷ c) in
     let a : List ℕ = decimal rs ++ (SPACE ∷ b) in
-    let lc = two-length 5 20 (decimal ss) d (narrow-length ss fs) (wide-length v fv) in
-    let lb = two-length 5 26 (decimal ps) c (narrow-length ps fp) lc in
-    let la = two-length 5 32 (decimal rs) b (narrow-length rs fr) lb in
-    two-length 3 38 (kindText k) a (omega (arith, kind-length k)) la
+    let lc = spaced-length 5 20 (decimal ss) (decimal v) (narrow-length ss fs) (wide-length v fv) in
+    let lb = spaced-length 5 26 (decimal ps) c (narrow-length ps fp) lc in
+    let la = spaced-length 5 32 (decimal rs) b (narrow-length rs fr) lb in
+    spaced-length 3 38 (kindText k) a (kind-length k) la
 
+inner-length : (c : Command) → Fits c → length (innerText c) ≤ 48
+inner-length (Make k rs ps ss v) f = omega (arith, store-length k rs ps ss v f)
+inner-length (Run c) f = call-length c f
+
+pub text-length : (c : Command) → Fits c → length (commandText c) ≤ 50
+text-length c f = omega (arith, inner-length c f, length-append (innerText c) (text ")"))
+
+-- A command is read back from its text.
 pub reads-back : (c : Command) → Fits c → lineOf (commandText c) ≡ Read c
-unfolding first rest named
-reads-back (Make k rs ps ss v) f = bracketed-read (innerText (Make k rs ps ss v)) (omega (arith, store-length k rs ps ss v f)) ∙ make-back k rs ps ss v f
-reads-back (Run c) f = reads-call c f
+reads-back c f = bracketed-read (innerText c) (omega (arith, inner-length c f)) ∙ inner-back c f

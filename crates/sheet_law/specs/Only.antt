@@ -25,7 +25,7 @@ use Rattle.sheet_law.specs.declared.Line.the-variants.{Read, Unread}
 use Rattle.sheet_law.specs.Text.{text, same, SPACE, OPEN, CLOSE, MINUS, decimal}
 use Rattle.sheet_law.specs.Reading.{LINE-MAX, NARROW-MAX, PITCH-MAX, PITCH-MIN, first, rest, plain, within, narrow, wide, negative, positive, angle, named, word, kindNamed, given, givenAngle, oneOf, twoOf, making, command, bracketed, inner, lineOf}
 use Rattle.sheet_law.specs.Decimals.{plain-decimal, plain-only}
-use Rattle.sheet_law.specs.Canonical.{kindText, angleText, innerText, inBrackets, commandText, FitsNarrow, FitsWide, FitsAngle, Fits, reads-back}
+use Rattle.sheet_law.specs.Canonical.{kindText, angleText, innerText, inBrackets, commandText, FitsNarrow, FitsWide, FitsAngle, Fits, text-length, reads-back}
 
 -- Two texts that are found the same are.
 same-only : (l k : List ℕ) → same l k ≡ true → l ≡ k
@@ -246,3 +246,7 @@ unread-exactly l = (λ e c f z. let q : Read c ≡ Unread = sym (read-exactly l 
     go : ((c : Command) → Fits c → commandText c ≢ l) → (x : Line) → lineOf l ≡ x → lineOf l ≡ Unread
     go h Unread e = e
     go h (Read c) e = absurd (h c (read-fits l c e) (only-text l c e))
+
+-- A line that is read is at most 50 bytes, so that it is never one over 80.
+pub read-short : (l : List ℕ) (c : Command) → lineOf l ≡ Read c → length l ≤ 50
+read-short l c e = rw (sym (only-text l c e)) (text-length c (read-fits l c e))

@@ -49,16 +49,15 @@ kept-joined k b = pick-split (λ x. x ≡ take KEPT (k ++ (b ∷ []))) (ltb LINE
     (λ e. let short : length k ≤ LINE-MAX = omega (arith, ltb-false LINE-MAX (length (take KEPT k)) e, length-take KEPT k) in
     ap (λ x. x ++ (b ∷ [])) (take-all KEPT k (omega arith)) ∙ sym (take-all KEPT (k ++ (b ∷ [])) (omega (arith, length-append k (b ∷ [])))))
 
--- A line over 80 bytes is unread.
-pub over-80 : (l : List ℕ) → 80 < length l → lineOf l ≡ Unread
+too-long : (l : List ℕ) → LINE-MAX < length l → lineOf l ≡ Unread
 unfolding lineOf
-over-80 l long = rw (lt-ltb LINE-MAX (length l) (omega arith)) refl
+too-long l long = rw (lt-ltb LINE-MAX (length l) long) refl
 
 kept-read : (k : List ℕ) → lineOf (take KEPT k) ≡ lineOf k
 kept-read k = go (ltb LINE-MAX (length k)) refl
   where
     go : (x : Bool) → ltb LINE-MAX (length k) ≡ x → lineOf (take KEPT k) ≡ lineOf k
-    go true e = let long = ltb-true LINE-MAX (length k) e in over-80 (take KEPT k) (omega (arith, length-take KEPT k)) ∙ sym (over-80 k long)
+    go true e = let long = ltb-true LINE-MAX (length k) e in too-long (take KEPT k) (omega (arith, length-take KEPT k)) ∙ sym (too-long k long)
     go false e = ap lineOf (take-all KEPT k (omega (arith, ltb-false LINE-MAX (length k) e)))
 
 -- All that a desk prints for the rest of the input.
@@ -104,6 +103,10 @@ reads-from d (r ∷ rs) =
 pub cut : (rs : List (List ℕ)) → printedReads start rs ≡ sheet (flatten rs)
 unfolding sheet
 cut rs = reads-from start rs ∙ from-desk (flatten rs) 0 [] unmade
+
+-- A line over 80 bytes is unread.
+pub over-80 : (l : List ℕ) → 80 < length l → lineOf l ≡ Unread
+over-80 l long = too-long l long
 
 -- Lines are numbered from 1 on, in 64 bits.
 pub next-is : (n : ℕ) → n < NUMBER-MAX → next n ≡ n + 1
