@@ -1,13 +1,14 @@
 // A reply to its bytes: the line that a run sheet prints for it, by the definition of sheet_law, put into a lent buffer.
 // The public functions take any buffer and any place in it, and write nothing where the longest line would not fit.
 // It uses calls and sheet_law.
-ghost use Prim.Native.Nat.{_+_, _≤_, _<_};
+ghost use Prim.Native.Nat.{_+_, _≤_};
 ghost use mathlib.Core.Path.{_≡_};
-ghost use mathlib.Core.List.{_++_};
-ghost use lib.ListN.{length, take, drop};
+ghost use lib.Dec.{leb};
+ghost use lib.ListN.{length, drop};
 ghost use lib.IntN.{natAbs};
-ghost use Rattle.sheet_law.specs.Text.{text, decimal as Text·decimal};
+ghost use Rattle.sheet_law.specs.Text.{text, lastDigit, decimal};
 ghost use Rattle.sheet_law.specs.Printing.{withOne, withTwo, pitchText, walkText, replyText, printedLine};
+ghost use Rattle.sheet_printing.specs.Buffer.{Added, Printed};
 use calls::Pitch;
 use calls::Reply;
 use calls::WalkReply;
@@ -21,7 +22,7 @@ const DIGIT_0: u64 = 48;
 // Puts a text at a place of the buffer, and says where the next byte goes.
 fn put(out: &mut [u8], at: usize, s: &[u8]) -> usize
     requires { ⌜ at + length (now s) ≤ length (now out) ⌝ }
-    ensures { λ r. ⌜ (r ≡ at + length (now (s .entry))) × (take r (now (out .exit)) ≡ take at (now (out .entry)) ++ now (s .entry)) ⌝ }
+    ensures { λ r. ⌜ Added (length (now (s .entry))) (now (s .entry)) (now (out .entry)) at (now (out .exit)) r ⌝ }
 {
     let mut i: usize = 0;
     while i < s.len() {
@@ -38,21 +39,18 @@ struct Spelled {
 }
 
 fn digit(n: u64) -> u8
-    ensures { λ r. ⌜ r ≡ 48 + n % 10 ⌝ }
+    ensures { λ r. ⌜ r ≡ lastDigit n ⌝ }
 {
     (DIGIT_0 + n % 10) as u8
 }
 
-fn spelled(n: u64) -> Spelled
-    ensures { λ r. ⌜ (r .from ≤ 20) × (length (r .bytes) ≡ 20) × (drop (r .from) (r .bytes) ≡ Text·decimal n) ⌝ }
+fn spell(n: u64) -> Spelled
+    ensures { λ r. ⌜ (length (r .bytes) ≡ 20) × (r .from ≤ 20) × (drop (r .from) (r .bytes) ≡ decimal n) ⌝ }
 {
     let mut bytes = [0u8; DIGITS];
     let mut left = n;
     let mut at: usize = DIGITS;
     loop {
-        if at == 0 {
-            break;
-        }
         at -= 1;
         bytes[at] = digit(left);
         left = left / 10;
@@ -68,10 +66,9 @@ fn spelled(n: u64) -> Spelled
 
 fn put_number(out: &mut [u8], at: usize, n: u64) -> usize
     requires { ⌜ at + 20 ≤ length (now out) ⌝ }
-    ensures small { λ r. ⌜ r ≤ at + 20 ⌝ }
-    ensures { λ r. ⌜ (r ≡ at + length (Text·decimal n)) × (take r (now (out .exit)) ≡ take at (now (out .entry)) ++ Text·decimal n) ⌝ }
+    ensures { λ r. ⌜ Added 20 (decimal n) (now (out .entry)) at (now (out .exit)) r ⌝ }
 {
-    let digits = spelled(n);
+    let digits = spell(n);
     let bytes = digits.bytes;
     let from = digits.from;
     let all: &[u8] = &bytes;
@@ -81,8 +78,7 @@ fn put_number(out: &mut [u8], at: usize, n: u64) -> usize
 // A word with one number, and with two.
 fn put_one(out: &mut [u8], at: usize, s: &[u8], a: u64) -> usize
     requires { ⌜ at + (length (now s) + 20) ≤ length (now out) ⌝ }
-    ensures small { λ r. ⌜ r ≤ at + (length (now (s .entry)) + 20) ⌝ }
-    ensures { λ r. ⌜ (r ≡ at + length (withOne (now (s .entry)) a)) × (take r (now (out .exit)) ≡ take at (now (out .entry)) ++ withOne (now (s .entry)) a) ⌝ }
+    ensures { λ r. ⌜ Added (length (now (s .entry)) + 20) (withOne (now (s .entry)) a) (now (out .entry)) at (now (out .exit)) r ⌝ }
 {
     let next = put(out, at, s);
     put_number(out, next, a)
@@ -90,8 +86,7 @@ fn put_one(out: &mut [u8], at: usize, s: &[u8], a: u64) -> usize
 
 fn put_two(out: &mut [u8], at: usize, s: &[u8], a: u64, b: u64) -> usize
     requires { ⌜ at + (length (now s) + 41) ≤ length (now out) ⌝ }
-    ensures small { λ r. ⌜ r ≤ at + (length (now (s .entry)) + 41) ⌝ }
-    ensures { λ r. ⌜ (r ≡ at + length (withTwo (now (s .entry)) a b)) × (take r (now (out .exit)) ≡ take at (now (out .entry)) ++ withTwo (now (s .entry)) a b) ⌝ }
+    ensures { λ r. ⌜ Added (length (now (s .entry)) + 41) (withTwo (now (s .entry)) a b) (now (out .entry)) at (now (out .exit)) r ⌝ }
 {
     let next = put_one(out, at, s, a);
     put_one(out, next, b" ", b)
@@ -110,8 +105,7 @@ fn size(v: Pitch) -> u64
 
 fn put_pitch(out: &mut [u8], at: usize, v: Pitch) -> usize
     requires { ⌜ at + 50 ≤ length (now out) ⌝ }
-    ensures small { λ r. ⌜ r ≤ at + 50 ⌝ }
-    ensures { λ r. ⌜ (r ≡ at + length (pitchText v)) × (take r (now (out .exit)) ≡ take at (now (out .entry)) ++ pitchText v) ⌝ }
+    ensures { λ r. ⌜ Added 50 (pitchText v) (now (out .entry)) at (now (out .exit)) r ⌝ }
 {
     if v < 0 {
         put_one(out, at, b"pitch -", size(v))
@@ -122,8 +116,7 @@ fn put_pitch(out: &mut [u8], at: usize, v: Pitch) -> usize
 
 fn put_walk(out: &mut [u8], at: usize, o: WalkReply) -> usize
     requires { ⌜ at + 50 ≤ length (now out) ⌝ }
-    ensures small { λ r. ⌜ r ≤ at + 50 ⌝ }
-    ensures { λ r. ⌜ (r ≡ at + length (walkText o)) × (take r (now (out .exit)) ≡ take at (now (out .entry)) ++ walkText o) ⌝ }
+    ensures { λ r. ⌜ Added 50 (walkText o) (now (out .entry)) at (now (out .exit)) r ⌝ }
 {
     match o {
         WalkReply::Waiting(w) => put_one(out, at, b"waiting ", w),
@@ -135,8 +128,7 @@ fn put_walk(out: &mut [u8], at: usize, o: WalkReply) -> usize
 
 fn put_reply(out: &mut [u8], at: usize, a: Reply) -> usize
     requires { ⌜ at + 50 ≤ length (now out) ⌝ }
-    ensures small { λ r. ⌜ r ≤ at + 50 ⌝ }
-    ensures { λ r. ⌜ (r ≡ at + length (replyText a)) × (take r (now (out .exit)) ≡ take at (now (out .entry)) ++ replyText a) ⌝ }
+    ensures { λ r. ⌜ Added 50 (replyText a) (now (out .entry)) at (now (out .exit)) r ⌝ }
 {
     match a {
         Reply::Made => put(out, at, b"made"),
@@ -168,7 +160,7 @@ pub fn fits(out: &[u8], at: usize) -> bool
 
 // The line for a reply, and for a line that is unread.
 pub fn print_reply(out: &mut [u8], at: usize, n: u64, a: Reply) -> usize
-    ensures { λ r. ⌜ (at + 74 ≤ length (now (out .entry)) → (r ≤ at + 74) × (take r (now (out .exit)) ≡ take at (now (out .entry)) ++ printedLine n (replyText a))) × (length (now (out .entry)) < at + 74 → (r ≡ at) × (now (out .exit) ≡ now (out .entry))) ⌝ }
+    ensures { λ r. ⌜ Printed (printedLine n (replyText a)) (now (out .entry)) at (now (out .exit)) r ⌝ }
 {
     if !fits(out, at) {
         return at;
@@ -180,7 +172,7 @@ pub fn print_reply(out: &mut [u8], at: usize, n: u64, a: Reply) -> usize
 }
 
 pub fn print_unread(out: &mut [u8], at: usize, n: u64) -> usize
-    ensures { λ r. ⌜ (at + 74 ≤ length (now (out .entry)) → (r ≤ at + 74) × (take r (now (out .exit)) ≡ take at (now (out .entry)) ++ printedLine n (text "unread"))) × (length (now (out .entry)) < at + 74 → (r ≡ at) × (now (out .exit) ≡ now (out .entry))) ⌝ }
+    ensures { λ r. ⌜ Printed (printedLine n (text "unread")) (now (out .entry)) at (now (out .exit)) r ⌝ }
 {
     if !fits(out, at) {
         return at;
