@@ -1,15 +1,13 @@
-use borrow.Author.Needs.{needs}
-use native.Mathlib.Omega.{arith}
-use lib.ListN.{length, getD, set, length-set}
+-- The test of `fits`, with the length taken to the other side of the order. Assumes nothing.
 use Prim.Native.Nat.{ℕ, _+_, _-_, _≤_}
+use native.Mathlib.Omega.{arith}
 use mathlib.Core.Bool.{Bool, true, false}
 use mathlib.Core.Path.{_≡_, refl, sym, _∙_}
+use lib.ListN.{length}
 use lib.Dec.{leb}
 use borrow.Author.Tests.{leb-true, leb-false, le-leb, lt-leb}
 use Rattle.sheet_printing.proofs.fits.Statement.{statement}
 use Rattle.sheet_printing.proofs.fits.Tie as tie
-use Rattle.sheet_printing.proofs.fits.Reads as reads
-use Rattle.sheet_printing.proofs.fits.Lts as lts
 
 moved : (a m n : ℕ) → m ≤ n → leb a (n - m) ≡ leb (a + m) n
 moved a m n h = go (leb a (n - m)) refl

@@ -1,15 +1,13 @@
-use borrow.Author.Needs.{needs}
-use native.Mathlib.Omega.{arith}
-use lib.ListN.{length, getD, set, length-set}
+-- A turn of the loop of `put` adds one byte: up to the next place the buffer is what it was, and then the bytes passed. Assumes nothing.
 use Prim.Native.Nat.{_+_, _-_, _≤_}
+use native.Mathlib.Omega.{arith}
+use borrow.Author.Needs.{needs}
 use mathlib.Core.Path.{_≡_}
 use mathlib.Core.List.{_++_}
-use lib.ListN.{take}
+use lib.ListN.{length, length-set, take}
 use Rattle.sheet_printing.proofs.Puts.{none-put, one-more, all-put}
 use Rattle.sheet_printing.proofs.put.Statement.{statement}
 use Rattle.sheet_printing.proofs.put.Tie as tie
-use Rattle.sheet_printing.proofs.put.Reads as reads
-use Rattle.sheet_printing.proofs.put.Lts as lts
 
 abbrev Inv-loop : tie.InvT-loop
 Inv-loop out₀ at s i₀ out i = (i ≤ length s) × (length out ≡ length out₀) × (take (at + i) out ≡ take at out₀ ++ take i s)

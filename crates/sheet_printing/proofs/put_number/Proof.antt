@@ -1,18 +1,14 @@
-use borrow.Author.Needs.{needs}
-use native.Mathlib.Omega.{arith}
-use lib.ListN.{length, getD, set, length-set}
+-- What `put_number` puts is the end of the array, which `spell` ensures to be the decimal. Assumes nothing.
 use Prim.Native.Nat.{ℕ, _-_}
+use native.Mathlib.Omega.{arith}
+use borrow.Author.Needs.{needs}
 use mathlib.Core.Path.{_≡_, _∙_}
 use mathlib.Core.List.{List}
-use lib.ListN.{take, drop, length-drop}
+use lib.ListN.{length, take, drop, length-drop}
 use lib.Seq.{take-all}
 use Rattle.sheet_printing.proofs.Puts.{known-as}
 use Rattle.sheet_printing.proofs.put_number.Statement.{statement}
 use Rattle.sheet_printing.proofs.put_number.Tie as tie
-use Rattle.sheet_printing.proofs.put_number.Reads as reads
-use Rattle.sheet_printing.proofs.put_number.Lts as lts
-use Rattle.sheet_printing.proofs.put.Reads as put-reads
-use Rattle.sheet_printing.proofs.spell.Reads as spell-reads
 
 end : (l : List ℕ) (n : ℕ) → take (length l - n) (drop n l) ≡ drop n l
 end l n = take-all (length l - n) (drop n l) (rw length-drop (omega arith))

@@ -1,13 +1,8 @@
+-- A word and a decimal, one after the other. Assumes nothing.
 use borrow.Author.Needs.{needs}
-use native.Mathlib.Omega.{arith}
-use lib.ListN.{length, getD, set, length-set}
 use Rattle.sheet_printing.proofs.Puts.{then}
 use Rattle.sheet_printing.proofs.put_one.Statement.{statement}
 use Rattle.sheet_printing.proofs.put_one.Tie as tie
-use Rattle.sheet_printing.proofs.put_one.Reads as reads
-use Rattle.sheet_printing.proofs.put_one.Lts as lts
-use Rattle.sheet_printing.proofs.put.Reads as put-reads
-use Rattle.sheet_printing.proofs.put_number.Reads as put-number-reads
 
 put-requires : tie.Need-put-requires
 put-requires c κs = search needs

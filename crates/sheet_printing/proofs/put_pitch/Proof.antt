@@ -1,14 +1,12 @@
-use borrow.Author.Needs.{needs}
+-- The word of `put_pitch` goes by the sign and its number is the size, as in the text of a pitch. Assumes nothing.
 use native.Mathlib.Omega.{arith}
-use lib.ListN.{length, getD, set, length-set}
-use Prim.Native.Nat.{ℕ}
+use borrow.Author.Needs.{needs}
 use mathlib.Core.Bool.{true, false}
 use mathlib.Core.Path.{_≡_, refl, ap, _∙_}
 use lib.IntN.{ℤ, pos, negsuc, natAbs}
 use lib.Signed.{ltZ}
 use borrow.Author.Tests.{ltb-true}
 use mir.Syntax.{w16}
-use mir.Val.{SFits, toZ, ofZ}
 use mir.ValLaws.{toZ-ofZ}
 use Rattle.calls.specs.RowLaws.{clash}
 use Rattle.sheet_law.specs.Text.{text}
@@ -16,10 +14,6 @@ use Rattle.sheet_law.specs.Printing.{withOne, pitchText}
 use Rattle.sheet_printing.proofs.Puts.{known-as}
 use Rattle.sheet_printing.proofs.put_pitch.Statement.{statement}
 use Rattle.sheet_printing.proofs.put_pitch.Tie as tie
-use Rattle.sheet_printing.proofs.put_pitch.Reads as reads
-use Rattle.sheet_printing.proofs.put_pitch.Lts as lts
-use Rattle.sheet_printing.proofs.put_one.Reads as put-one-reads
-use Rattle.sheet_printing.proofs.size.Reads as size-reads
 
 below : (v : ℤ) → ltZ v (pos 0) ≡ true → withOne (text "pitch -") (natAbs v) ≡ pitchText v
 below (pos n) t = absurd (omega (arith, ltb-true n 0 t))

@@ -1,14 +1,12 @@
-use borrow.Author.Needs.{needs}
-use native.Mathlib.Omega.{arith}
-use lib.ListN.{length, getD, set, length-set}
+-- A word with a decimal, a space and a decimal, one after the other. Assumes nothing.
 use Prim.Native.Nat.{_+_}
+use native.Mathlib.Omega.{arith}
+use borrow.Author.Needs.{needs}
 use mathlib.Core.Path.{refl}
+use lib.ListN.{length}
 use Rattle.sheet_printing.proofs.Puts.{then, known-as}
 use Rattle.sheet_printing.proofs.put_two.Statement.{statement}
 use Rattle.sheet_printing.proofs.put_two.Tie as tie
-use Rattle.sheet_printing.proofs.put_two.Reads as reads
-use Rattle.sheet_printing.proofs.put_two.Lts as lts
-use Rattle.sheet_printing.proofs.put_one.Reads as put-one-reads
 
 put-one-requires : tie.Need-put-one-requires
 put-one-requires c κs = search needs

@@ -1,16 +1,11 @@
-use borrow.Author.Needs.{needs}
+-- Each arm of `put_walk` puts the text of its own variant. Assumes nothing.
 use native.Mathlib.Omega.{arith}
-use lib.ListN.{length, getD, set, length-set}
+use borrow.Author.Needs.{needs}
 use mathlib.Core.Path.{sym, ap}
 use Rattle.sheet_law.specs.Printing.{walkText}
 use Rattle.sheet_printing.proofs.Puts.{known-as}
 use Rattle.sheet_printing.proofs.put_walk.Statement.{statement}
 use Rattle.sheet_printing.proofs.put_walk.Tie as tie
-use Rattle.sheet_printing.proofs.put_walk.Reads as reads
-use Rattle.sheet_printing.proofs.put_walk.Lts as lts
-use Rattle.sheet_printing.proofs.put.Reads as put-reads
-use Rattle.sheet_printing.proofs.put_one.Reads as put-one-reads
-use Rattle.sheet_printing.proofs.put_two.Reads as put-two-reads
 
 enum-known-o : tie.Need-enum-known-o
 enum-known-o c = search needs

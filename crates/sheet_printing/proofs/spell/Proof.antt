@@ -1,16 +1,13 @@
-use borrow.Author.Needs.{needs}
-use native.Mathlib.Omega.{arith}
-use lib.ListN.{length, getD, set, length-set}
+-- The loop of `spell` keeps the digits of what is left before those written as the decimal; what is left is below ten to the power of the bytes that are free. Assumes nothing.
 use Prim.Native.Nat.{suc, _≤_, _<_}
+use native.Mathlib.Omega.{arith}
+use borrow.Author.Needs.{needs}
 use mathlib.Core.Path.{_≡_, refl}
-use lib.ListN.{drop}
+use lib.ListN.{length, length-set, drop}
 use Rattle.sheet_law.specs.Text.{digitsBefore, decimal}
 use Rattle.sheet_printing.proofs.Spelling.{tens, twenty, tenth, room-left, spelled-next, spelled-last}
 use Rattle.sheet_printing.proofs.spell.Statement.{statement}
 use Rattle.sheet_printing.proofs.spell.Tie as tie
-use Rattle.sheet_printing.proofs.spell.Reads as reads
-use Rattle.sheet_printing.proofs.spell.Lts as lts
-use Rattle.sheet_printing.proofs.digit.Reads as digit-reads
 
 abbrev Inv-loop : tie.InvT-loop
 Inv-loop n bytes₀ left₀ at₀ bytes left at = (0 < at) × (at ≤ 20) × (length bytes ≡ 20) × (left < tens at) × (digitsBefore (suc left) left (drop at bytes) ≡ decimal n)
