@@ -1,0 +1,228 @@
+/* The run sheet by hand in C: reads the lines of standard input with fgets, plays them on a store by hand and prints one line each with printf.
+   run-sheet measures the proved program beside it. */
+#include "baseline.h"
+
+#include <inttypes.h>
+#include <stdbool.h>
+#include <stdio.h>
+#include <string.h>
+
+/* A line of 80 bytes, its newline and the NUL that fgets puts behind it. */
+enum { LINE_BYTES = 80, LINE_SIZE = LINE_BYTES + 2 };
+
+/* Calls with one argument stand before LOOK. */
+enum call { ENTER, LEAVE, SWAP, SYNC, RAISE, RELEASE, LOOK, CLAIM, WALK, WRITE };
+
+static uint64_t words[RAHUVYTE_WORDS];
+/* Room for any number of slots that can be written on a sheet: making refuses what is too many. */
+static int16_t entries[RAHUVYTE_ENTRIES(UINT16_MAX)];
+static size_t entries_len;
+
+#define STORE words, RAHUVYTE_WORDS, entries, entries_len
+
+/* A decimal of at most max, without leading zeros: behind a first 0 the caller meets the next digit where it wants a space or a bracket. */
+static inline bool decimal(const char **at, uint32_t max, uint32_t *n)
+{
+    const char *p = *at;
+    uint32_t value = (uint32_t)(*p++ - '0'), digit;
+    if (value > 9)
+        return false;
+    if (value != 0) {
+        for (; (digit = (uint32_t)(*p - '0')) <= 9; p++) {
+            value = value * 10 + digit;
+            if (value > max)
+                return false;
+        }
+    }
+    *at = p;
+    *n = value;
+    return true;
+}
+
+/* The same of 64 bits. */
+static bool version_of(const char **at, uint64_t *n)
+{
+    const char *p = *at;
+    uint64_t value = (uint64_t)(*p++ - '0'), digit;
+    if (value > 9)
+        return false;
+    if (value != 0) {
+        for (; (digit = (uint64_t)(*p - '0')) <= 9; p++)
+            if (__builtin_mul_overflow(value, 10, &value) || __builtin_add_overflow(value, digit, &value))
+                return false;
+    }
+    *at = p;
+    *n = value;
+    return true;
+}
+
+/* A pitch of 16 bits; -0 is none. */
+static inline bool pitch_of(const char **at, int32_t *v)
+{
+    const bool negative = **at == '-';
+    uint32_t n;
+    *at += negative;
+    if (!decimal(at, negative ? -INT16_MIN : INT16_MAX, &n) || (negative && n == 0))
+        return false;
+    *v = negative ? -(int32_t)n : (int32_t)n;
+    return true;
+}
+
+/* Whether the line ends here with its bracket. The last line may lack its newline: then the NUL of fgets comes next, and behind it the newlines that were
+   there before the line. A NUL byte of the line itself has at most one newline behind it. */
+static inline bool closed(const char *p)
+{
+    return p[0] == ')' && (p[1] == '\n' || (p[1] == '\0' && p[2] == '\n' && p[3] == '\n'));
+}
+
+/* The call that the line names, and where its arguments begin. */
+static inline bool named(const char *line, enum call *call, const char **at)
+{
+#define IS(word, is) \
+    if (memcmp(line, "(" word " ", sizeof word + 1) == 0) { \
+        *call = is; \
+        *at = line + sizeof word + 1; \
+        return true; \
+    }
+    switch (line[1]) {
+    case 'c':
+        IS("claim", CLAIM)
+        return false;
+    case 'e':
+        IS("enter", ENTER)
+        return false;
+    case 'l':
+        IS("look", LOOK)
+        IS("leave", LEAVE)
+        return false;
+    case 'r':
+        IS("release", RELEASE)
+        IS("raise", RAISE)
+        return false;
+    case 's':
+        IS("swap", SWAP)
+        IS("sync", SYNC)
+        return false;
+    case 'w':
+        IS("write", WRITE)
+        IS("walk", WALK)
+        return false;
+    default:
+        return false;
+    }
+#undef IS
+}
+
+static struct rahuvyte_reply called(enum call call, uint16_t name, uint16_t second, int16_t pitch)
+{
+    switch (call) {
+    case ENTER: return c_enter(STORE, name);
+    case LEAVE: return c_leave(STORE, name);
+    case SWAP: return c_swap(STORE, name);
+    case SYNC: return c_sync(STORE, name);
+    case RAISE: return c_raise(STORE, name);
+    case RELEASE: return c_release(STORE, name);
+    case LOOK: return c_look(STORE, name, second);
+    case CLAIM: return c_claim(STORE, name, second);
+    case WALK: return c_walk(STORE, name, second);
+    default: return c_write(STORE, name, pitch);
+    }
+}
+
+/* Makes a store by a line's arguments; a refused one leaves the store before. */
+static bool made(const char *at, struct rahuvyte_reply *reply)
+{
+    const bool is_new = memcmp(at, "new ", 4) == 0;
+    uint32_t sizes[3];
+    uint64_t version;
+    if (!is_new && memcmp(at, "old ", 4) != 0)
+        return false;
+    at += 4;
+    for (int i = 0; i < 3; i++)
+        if (!decimal(&at, UINT16_MAX, &sizes[i]) || *at++ != ' ')
+            return false;
+    if (!version_of(&at, &version) || !closed(at))
+        return false;
+    const size_t lent = RAHUVYTE_ENTRIES(sizes[2]);
+    *reply = c_make(words, RAHUVYTE_WORDS, entries, lent, is_new ? RAHUVYTE_KIND_NEW : RAHUVYTE_KIND_OLD,
+                    (uint16_t)sizes[0], (uint16_t)sizes[1], (uint16_t)sizes[2], version);
+    if (reply->code == RAHUVYTE_MADE)
+        entries_len = lent;
+    return true;
+}
+
+/* Plays a line; false if it is unread. */
+static bool played(const char *line, struct rahuvyte_reply *reply)
+{
+    const char *at;
+    enum call call;
+    uint32_t name, second = 0;
+    int32_t pitch = 0;
+    if (!named(line, &call, &at))
+        return memcmp(line, "(store ", 7) == 0 && made(line + 7, reply);
+    if (!decimal(&at, UINT16_MAX, &name))
+        return false;
+    if (call >= LOOK) {
+        if (*at++ != ' ')
+            return false;
+        if (call == WRITE ? !pitch_of(&at, &pitch) : !decimal(&at, UINT16_MAX, &second))
+            return false;
+    }
+    if (!closed(at))
+        return false;
+    *reply = called(call, (uint16_t)name, (uint16_t)second, (int16_t)pitch);
+    return true;
+}
+
+#define N "(%" PRIu64 " "
+#define VALUE " %" PRIu64
+
+static void print(uint64_t n, const struct rahuvyte_reply *reply)
+{
+    const uint64_t first = reply->first, second = reply->second;
+    switch (reply->code) {
+    case RAHUVYTE_MADE: printf(N "made)\n", n); break;
+    case RAHUVYTE_AT: printf(N "at" VALUE ")\n", n, first); break;
+    case RAHUVYTE_PITCH: printf(N "pitch %d)\n", n, rahuvyte_pitch_of(*reply)); break;
+    case RAHUVYTE_LEFT: printf(N "left)\n", n); break;
+    case RAHUVYTE_CLAIMED: printf(N "claimed" VALUE ")\n", n, first); break;
+    case RAHUVYTE_WRITTEN: printf(N "written" VALUE ")\n", n, first); break;
+    case RAHUVYTE_SWAPPED: printf(N "swapped" VALUE ")\n", n, first); break;
+    case RAHUVYTE_SYNCED: printf(N "synced" VALUE ")\n", n, first); break;
+    case RAHUVYTE_RAISED: printf(N "raised)\n", n); break;
+    case RAHUVYTE_SHARED: printf(N "shared)\n", n); break;
+    case RAHUVYTE_WAITING: printf(N "waiting" VALUE ")\n", n, first); break;
+    case RAHUVYTE_SPENT: printf(N "spent)\n", n); break;
+    case RAHUVYTE_QUIET: printf(N "quiet)\n", n); break;
+    case RAHUVYTE_RETURNED: printf(N "returned" VALUE VALUE ")\n", n, first, second); break;
+    case RAHUVYTE_FREED: printf(N "freed" VALUE VALUE ")\n", n, first, second); break;
+    default: printf(N "refused" VALUE ")\n", n, reply->code);
+    }
+}
+
+/* Reads the next line. Of one over 80 bytes the rest is skipped: what is left of it has no newline and is unread. */
+static bool next_line(char *line)
+{
+    int c;
+    memset(line, '\n', LINE_SIZE);
+    if (fgets(line, LINE_SIZE, stdin) == NULL)
+        return false;
+    if (line[LINE_SIZE - 1] == '\0' && line[LINE_SIZE - 2] != '\n')
+        do
+            c = getc(stdin);
+        while (c != '\n' && c != EOF);
+    return true;
+}
+
+int main(void)
+{
+    char line[LINE_SIZE];
+    struct rahuvyte_reply reply;
+    for (uint64_t n = 1; next_line(line); n++) {
+        if (played(line, &reply))
+            print(n, &reply);
+        else
+            printf(N "unread)\n", n);
+    }
+    return ferror(stdin) || fclose(stdout) == EOF;
+}

@@ -1,0 +1,156 @@
+/* Writes a run sheet drawn from a seed: a store, then readers that enter, look and leave and publishers that go through their publications, most calls in their turn,
+   a few refused and a few lines unread. A store by hand plays along and tells whose turn it is. */
+#include "baseline.h"
+
+#include <stdio.h>
+#include <stdlib.h>
+#include <string.h>
+
+/* docs/LAYOUT.md: where the place of the first reader and of the first publisher stands, and the words of a record. */
+enum { FIRST_READER = 9, READER_WORDS = 5, FIRST_PUBLISHER = 329, PUBLISHER_WORDS = 6 };
+
+static uint64_t words[RAHUVYTE_WORDS];
+static int16_t entries[RAHUVYTE_ENTRIES(RAHUVYTE_SLOTS_MAX)];
+static size_t entries_len;
+static uint16_t readers, publishers, slots;
+static uint64_t state;
+
+#define ONE(call, a) (printf("(" #call " %d)\n", a), (void)c_##call(words, RAHUVYTE_WORDS, entries, entries_len, a))
+#define TWO(call, a, b) (printf("(" #call " %d %d)\n", a, b), (void)c_##call(words, RAHUVYTE_WORDS, entries, entries_len, a, b))
+
+static uint16_t below(uint64_t n)
+{
+    state ^= state << 13;
+    state ^= state >> 7;
+    state ^= state << 17;
+    return (uint16_t)(state % n);
+}
+
+static int16_t pitch(void)
+{
+    return (int16_t)(below(10001) - 500);
+}
+
+/* A reader goes on: it enters, looks a few times, and leaves. */
+static void reader_goes_on(uint16_t r)
+{
+    const uint16_t k = below(RAHUVYTE_TABLE);
+    if (words[FIRST_READER + READER_WORDS * r] != 5)
+        ONE(enter, r);
+    else if (below(4) != 0)
+        TWO(look, r, k);
+    else
+        ONE(leave, r);
+}
+
+/* A publisher that waits asks only now and then; between, a reader in an open section goes on, if there is one. */
+static void publisher_asks(uint16_t p)
+{
+    const uint16_t b = below(RAHUVYTE_READERS_MAX + 1);
+    uint16_t r = below(readers);
+    if (below(8) == 0) {
+        TWO(walk, p, b);
+        return;
+    }
+    for (uint16_t i = 1; i < readers && words[FIRST_READER + READER_WORDS * r] < 4; i++)
+        r = (uint16_t)((r + 1) % readers);
+    reader_goes_on(r);
+}
+
+/* A publisher goes on: it claims a slot at random, writes, swaps, synchronises, raises, walks and releases. The old store walks before the raise too. */
+static void publisher_goes_on(uint16_t p)
+{
+    const uint16_t slot = below(slots);
+    const int16_t v = pitch();
+    switch (words[FIRST_PUBLISHER + PUBLISHER_WORDS * p]) {
+    case 0: TWO(claim, p, slot); break;
+    case 33: ONE(swap, p); break;
+    case 34: ONE(sync, p); break;
+    case 35:
+        if (words[0] == RAHUVYTE_KIND_OLD)
+            publisher_asks(p);
+        else
+            ONE(raise, p);
+        break;
+    case 36: ONE(raise, p); break;
+    case 37: publisher_asks(p); break;
+    case 38: ONE(release, p); break;
+    default: TWO(write, p, v);
+    }
+}
+
+/* In the old store the publisher whose turn it is goes on until its release; in the new one any does. */
+static uint16_t publisher_in_turn(void)
+{
+    static uint16_t p;
+    if (words[0] == RAHUVYTE_KIND_NEW || words[FIRST_PUBLISHER + PUBLISHER_WORDS * p] == 0)
+        p = below(publishers);
+    return p;
+}
+
+/* A call out of turn, mostly. */
+static void stray(void)
+{
+    const uint16_t name = below(80), second = below(40);
+    const int16_t v = (int16_t)(pitch() * 3);
+    switch (below(11)) {
+    case 0: ONE(enter, name); break;
+    case 1: TWO(look, name, second); break;
+    case 2: ONE(leave, name); break;
+    case 3: TWO(claim, name, second); break;
+    case 4: TWO(write, name, v); break;
+    case 5: ONE(swap, name); break;
+    case 6: ONE(sync, name); break;
+    case 7: ONE(raise, name); break;
+    case 8: TWO(walk, name, second); break;
+    case 9: ONE(release, name); break;
+    default: puts("(store new 65 16 32 0)");
+    }
+}
+
+static void unread(void)
+{
+    static const char *const lines[] = {
+        "", "(enter 3", "(enter  3)", "(enter 03)", "(enter 65536)", "enter 3", "(Enter 3)", "(look 3)", "(look 3 4 5)", "(leave -1)", "(leave 3) ",
+        "(claim 1, 2)", "(write 1 -0)", "(write 1 90.00)", "(write 1 32768)", "(walk 2 100000)", "(swap)", "(publish 1)", "(store rest 3 3 4 0)",
+        "; blade 1 at 12 m/s", "; ---------------------------------------------------------------------------------------------------- second visit",
+    };
+    puts(lines[below(sizeof lines / sizeof lines[0])]);
+}
+
+static void line(void)
+{
+    const uint16_t draw = below(64);
+    if (draw == 0)
+        unread();
+    else if (draw == 1)
+        stray();
+    else if (draw % 2 == 0)
+        reader_goes_on(below(readers));
+    else
+        publisher_goes_on(publisher_in_turn());
+}
+
+/* sheet_lines new|old READERS PUBLISHERS SLOTS LINES SEED */
+int main(int argc, char **argv)
+{
+    if (argc != 7) {
+        fprintf(stderr, "sheet_lines new|old READERS PUBLISHERS SLOTS LINES SEED\n");
+        return 2;
+    }
+    const uint16_t kind = strcmp(argv[1], "old") == 0 ? RAHUVYTE_KIND_OLD : RAHUVYTE_KIND_NEW;
+    const long lines = atol(argv[5]);
+    readers = (uint16_t)atoi(argv[2]);
+    publishers = (uint16_t)atoi(argv[3]);
+    slots = (uint16_t)atoi(argv[4]);
+    state = strtoull(argv[6], NULL, 10) * 2 + 1;
+    entries_len = RAHUVYTE_ENTRIES(slots);
+    if (c_make(words, RAHUVYTE_WORDS, entries, entries_len, kind, readers, publishers, slots, 0).code != RAHUVYTE_MADE) {
+        fprintf(stderr, "sheet_lines: there is no such store\n");
+        return 2;
+    }
+    printf("(store %s %d %d %d 0)\n", kind == RAHUVYTE_KIND_OLD ? "old" : "new", readers, publishers, slots);
+    for (long i = 1; i < lines; i++)
+        line();
+    return fclose(stdout) == EOF;
+}
