@@ -7,6 +7,7 @@
 pub mod call;
 pub mod damage;
 pub mod demand3;
+pub mod examples;
 pub mod layout;
 pub mod lent;
 pub mod making;
@@ -14,6 +15,7 @@ pub mod publisher;
 pub mod random;
 pub mod reader;
 pub mod rules;
+pub mod sheet;
 pub mod shelf;
 pub mod store;
 pub mod turns;
