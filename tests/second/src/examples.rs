@@ -396,9 +396,10 @@ const NEW_AFTER: &[Line] = &[
     (b"(walk 0 1)", "spent"),
     (b"(walk 0 5)", "waiting 1"),
     (b"(enter 1)", "at 5"),
+    (b"(store new 0 1 2 0)", "refused 2"),
     (b"(look 1 31)", "pitch -500"),
     (b"(look 1 32)", "refused 13"),
-    (b"(walk 0 65535)", "waiting 1"),
+    (b"(walk 0 256)", "waiting 1"),
     (b"(leave 1)", "left"),
     (b"(walk 0 9)", "returned 4 2"),
     (b"(release 0)", "freed 0 1"),
@@ -504,10 +505,10 @@ fn long_lines() -> Example {
     table.named("long lines")
 }
 
-/// From one version below the last to the last.
+/// From one version below the last to the last, and a fresh store after it.
 fn last_version(name: &'static str, kind: &str, last: u64) -> Example {
-    let store = format!("(store {kind} 1 1 2 {})", last - 1);
-    let mut table = Table::default().says(store.as_bytes(), "made");
+    let store = |version| format!("(store {kind} 1 1 2 {version})");
+    let mut table = Table::default().says(store(last - 1).as_bytes(), "made");
     table = table.publishes(0, 1, 1, 0);
     table = table.says(b"(sync 0)", &format!("synced {last}"));
     table = match kind {
@@ -520,7 +521,16 @@ fn last_version(name: &'static str, kind: &str, last: u64) -> Example {
     };
     table = table.says(b"(release 0)", "freed 0 1");
     table = table.publishes(0, 0, -1, 1);
-    table.says(b"(sync 0)", "refused 32").named(name)
+    table = table.says(b"(sync 0)", "refused 32");
+    table = table.says(store(0).as_bytes(), "made");
+    let places: &[u64] = match kind {
+        "new" => &[1, 2, 3, 4, 5],
+        _ => &[1, 4, 5],
+    };
+    for place in places {
+        table = table.says(b"(enter 0)", &format!("at {place}"));
+    }
+    table.says(b"(look 0 31)", "pitch 9000").named(name)
 }
 
 /// Sheets of lines by themselves.
