@@ -7,13 +7,17 @@
 pub mod call;
 pub mod damage;
 pub mod demand3;
+pub mod edits;
+pub mod examples;
 pub mod layout;
 pub mod lent;
 pub mod making;
+pub mod misread;
 pub mod publisher;
 pub mod random;
 pub mod reader;
 pub mod rules;
+pub mod sheet;
 pub mod shelf;
 pub mod store;
 pub mod turns;

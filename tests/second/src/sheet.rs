@@ -1,0 +1,274 @@
+//! The run sheet: a text in, a printed line for each of its lines out.
+
+use crate::call::{Call, Reply};
+use crate::making::make;
+use crate::rules::Rules;
+use crate::store::{Kind, Store, TABLE};
+
+/// A line of more bytes than this, without its newline, is unread.
+pub const LONGEST: usize = 80;
+
+/// The lines of a text, without their newlines. The last may lack its
+/// newline; after a last newline there is no further line.
+pub fn lines(text: &[u8]) -> impl Iterator<Item = &[u8]> {
+    text.split_inclusive(|&byte| byte == b'\n')
+        .map(|line| line.strip_suffix(b"\n").unwrap_or(line))
+}
+
+/// The call that a line asks for; none if the line is unread. Both kinds of
+/// store have all ten calls, so that no line is unread for its kind alone.
+pub fn read(line: &[u8]) -> Option<Call> {
+    if line.len() > LONGEST {
+        return None;
+    }
+    let inside = line.strip_prefix(b"(")?.strip_suffix(b")")?;
+    let parts: Vec<&[u8]> = inside.split(|&byte| byte == b' ').collect();
+    let call = match parts[..] {
+        [b"store", kind, readers, publishers, slots, version] => Call::Make {
+            kind: kind_number(kind)?,
+            readers: argument(readers)?,
+            publishers: argument(publishers)?,
+            slots: argument(slots)?,
+            version: decimal(version)?,
+        },
+        [b"look", r, k] => Call::Look {
+            r: argument(r)?,
+            k: argument(k)?,
+        },
+        [b"claim", p, s] => Call::Claim {
+            p: argument(p)?,
+            s: argument(s)?,
+        },
+        [b"write", p, v] => Call::Write {
+            p: argument(p)?,
+            v: pitch(v)?,
+        },
+        [b"walk", p, b] => Call::Walk {
+            p: argument(p)?,
+            b: argument(b)?,
+        },
+        [word, name] => by_name_alone(word, argument(name)?)?,
+        _ => return None,
+    };
+    Some(call)
+}
+
+/// The calls that take a reader or a publisher and nothing else.
+fn by_name_alone(word: &[u8], n: u16) -> Option<Call> {
+    match word {
+        b"enter" => Some(Call::Enter { r: n }),
+        b"leave" => Some(Call::Leave { r: n }),
+        b"swap" => Some(Call::Swap { p: n }),
+        b"sync" => Some(Call::Sync { p: n }),
+        b"raise" => Some(Call::Raise { p: n }),
+        b"release" => Some(Call::Release { p: n }),
+        _ => None,
+    }
+}
+
+fn kind_number(word: &[u8]) -> Option<u16> {
+    let kind = match word {
+        b"new" => Kind::New,
+        b"old" => Kind::Old,
+        _ => return None,
+    };
+    Some(kind.number() as u16)
+}
+
+/// A plain decimal of 64 bits without leading zeros.
+fn decimal(digits: &[u8]) -> Option<u64> {
+    match digits {
+        [] | [b'0', _, ..] => None,
+        _ => digits.iter().try_fold(0u64, |number, digit| {
+            let unit = digit.is_ascii_digit().then(|| u64::from(digit - b'0'))?;
+            number.checked_mul(10)?.checked_add(unit)
+        }),
+    }
+}
+
+/// A plain decimal of 16 bits, unsigned.
+fn argument(digits: &[u8]) -> Option<u16> {
+    u16::try_from(decimal(digits)?).ok()
+}
+
+/// A plain decimal of 16 bits, signed, with a minus if it is negative.
+fn pitch(text: &[u8]) -> Option<i16> {
+    let Some(digits) = text.strip_prefix(b"-") else {
+        return i16::try_from(decimal(text)?).ok();
+    };
+    match i64::try_from(decimal(digits)?).ok()? {
+        0 => None,
+        below_zero => i16::try_from(-below_zero).ok(),
+    }
+}
+
+/// A made store with the entries lent beside it.
+#[derive(Clone)]
+pub struct Made {
+    pub store: Store,
+    pub entries: Vec<i16>,
+}
+
+/// What a sheet has come to: the store last made, if there is one.
+pub struct Sheet {
+    pub made: Option<Made>,
+    rules: Rules,
+}
+
+impl Sheet {
+    pub fn new(rules: Rules) -> Sheet {
+        Sheet { made: None, rules }
+    }
+
+    /// The kind of the made store.
+    pub fn kind(&self) -> Option<Kind> {
+        self.made.as_ref().map(|made| made.store.kind)
+    }
+
+    /// The reply to a line; none if it is unread, and then no call is made.
+    pub fn reply(&mut self, line: &[u8]) -> Option<Reply> {
+        let call = read(line)?;
+        Some(self.call(&call))
+    }
+
+    /// A call. Before a made store all but making get 1.
+    pub fn call(&mut self, call: &Call) -> Reply {
+        if let Call::Make { .. } = call {
+            return self.make(call);
+        }
+        match &mut self.made {
+            Some(made) => made.store.call(&mut made.entries, call, self.rules),
+            None => Reply::Refused(1),
+        }
+    }
+
+    /// Lends exactly slots x 32 entries. If refused, the store before stays.
+    fn make(&mut self, call: &Call) -> Reply {
+        let Call::Make {
+            kind,
+            readers,
+            publishers,
+            slots,
+            version,
+        } = *call
+        else {
+            unreachable!("only a making comes here");
+        };
+        let kind = Kind::from_number(u64::from(kind)).expect("the sheet knows this kind");
+        let mut entries = vec![0; usize::from(slots) * TABLE];
+        let lent = &mut entries;
+        match make(kind, readers, publishers, slots, version, lent, self.rules) {
+            Ok(store) => {
+                self.made = Some(Made { store, entries });
+                Reply::Made
+            }
+            Err(refusal) => Reply::Refused(refusal.0),
+        }
+    }
+}
+
+/// The printed line, with its newline, for line number n.
+pub fn printed(n: u64, reply: Option<Reply>) -> String {
+    match reply {
+        Some(reply) => format!("({n} {reply})\n"),
+        None => format!("({n} unread)\n"),
+    }
+}
+
+/// The whole sheet, with the rules of the calls as given.
+pub fn play_by(rules: Rules, text: &[u8]) -> Vec<u8> {
+    let mut sheet = Sheet::new(rules);
+    let mut output = Vec::new();
+    for (n, line) in (1..).zip(lines(text)) {
+        output.extend_from_slice(printed(n, sheet.reply(line)).as_bytes());
+    }
+    output
+}
+
+/// The whole sheet, as document 01 has it.
+pub fn play(text: &[u8]) -> Vec<u8> {
+    play_by(Rules::AS_WRITTEN, text)
+}
+
+#[cfg(test)]
+mod tests {
+    use super::*;
+    use crate::examples;
+
+    #[test]
+    fn examples_print_as_worked_out_by_hand() {
+        for example in examples::all() {
+            let output = play(&example.input);
+            let printed = String::from_utf8_lossy(&output);
+            let due = String::from_utf8_lossy(&example.output);
+            for (line, due) in printed.lines().zip(due.lines()) {
+                assert_eq!(line, due, "in {}", example.name);
+            }
+            assert_eq!(output, example.output, "in {}", example.name);
+        }
+    }
+
+    /// Calls print as on the sheet, so that reading what they print gives
+    /// them back.
+    #[test]
+    fn every_call_is_read_as_it_prints() {
+        let make = |kind, version| Call::Make {
+            kind,
+            readers: 64,
+            publishers: 0,
+            slots: u16::MAX,
+            version,
+        };
+        let mut calls = vec![make(1, 0), make(2, u64::MAX)];
+        for n in [0, 1, 9, 10, 65_535] {
+            calls.extend([Call::Enter { r: n }, Call::Look { r: n, k: 31 }]);
+            calls.extend([Call::Leave { r: n }, Call::Claim { p: 2, s: n }]);
+            calls.extend([Call::Swap { p: n }, Call::Sync { p: n }]);
+            calls.extend([Call::Raise { p: n }, Call::Walk { p: 3, b: n }]);
+            calls.push(Call::Release { p: n });
+        }
+        for v in [i16::MIN, -500, -10, -1, 0, 1, 9500, i16::MAX] {
+            calls.push(Call::Write { p: 4, v });
+        }
+        for call in calls {
+            assert_eq!(read(call.to_string().as_bytes()), Some(call), "{call}");
+        }
+    }
+
+    /// No line of more than 50 bytes is well shaped.
+    #[test]
+    fn the_longest_call_has_50_bytes() {
+        let line = b"(store new 65535 65535 65535 18446744073709551615)";
+        assert_eq!(line.len(), 50);
+        assert!(read(line).is_some());
+    }
+
+    #[test]
+    fn widths_end_where_document_01_says() {
+        assert_eq!(argument(b"65535"), Some(65_535));
+        assert_eq!(argument(b"65536"), None);
+        assert_eq!(decimal(b"18446744073709551615"), Some(u64::MAX));
+        assert_eq!(decimal(b"18446744073709551616"), None);
+        assert_eq!(decimal(b"28446744073709551615"), None);
+        assert_eq!(decimal(b"100000000000000000000"), None);
+        assert_eq!(pitch(b"32767"), Some(32_767));
+        assert_eq!(pitch(b"32768"), None);
+        assert_eq!(pitch(b"-32768"), Some(-32_768));
+        assert_eq!(pitch(b"-32769"), None);
+        assert_eq!(pitch(b"-18446744073709551615"), None);
+        assert_eq!(pitch(b"9223372036854775808"), None);
+        assert_eq!((pitch(b"0"), pitch(b"-0")), (Some(0), None));
+    }
+
+    #[test]
+    fn lines_are_the_bytes_between_newlines() {
+        let of = |text| lines(text).collect::<Vec<&[u8]>>();
+        assert!(of(b"").is_empty());
+        assert_eq!(of(b"\n"), [b""]);
+        assert_eq!(of(b"a"), [b"a"]);
+        assert_eq!(of(b"a\n"), [b"a"]);
+        assert_eq!(of(b"a\r\nb"), [&b"a\r"[..], b"b"]);
+        assert_eq!(of(b"\n\na"), [&b""[..], b"", b"a"]);
+        assert_eq!(of(b"a\n\n"), [&b"a"[..], b""]);
+    }
+}

@@ -1,0 +1,85 @@
+//! One rule of the second implementation altered, of the sheet or of the
+//! calls on it.
+
+use crate::compare::{Difference, Heard};
+use crate::program::Ended;
+use second::misread::{self, Misreading};
+use second::rules::{Alteration, Rules};
+use second::sheet::play_by;
+
+#[derive(Clone, Copy)]
+pub enum Altered {
+    Sheet(&'static Misreading),
+    Call(Alteration),
+}
+
+impl Altered {
+    /// Every alteration that can show on a sheet.
+    pub fn all() -> Vec<Altered> {
+        let calls = Alteration::all().into_iter().filter(|&a| shows(a));
+        misread::all()
+            .map(Altered::Sheet)
+            .chain(calls.map(Altered::Call))
+            .collect()
+    }
+
+    pub fn by_name(name: &str) -> Option<Altered> {
+        Altered::all().into_iter().find(|a| a.name() == name)
+    }
+
+    pub fn name(self) -> String {
+        match self {
+            Altered::Sheet(misreading) => misreading.name.to_string(),
+            Altered::Call(alteration) => alteration.name(),
+        }
+    }
+
+    pub fn text(self) -> String {
+        match self {
+            Altered::Sheet(misreading) => misreading.text.to_string(),
+            Altered::Call(alteration) => alteration.text(),
+        }
+    }
+
+    fn play(self, text: &[u8]) -> Vec<u8> {
+        match self {
+            Altered::Sheet(misreading) => misreading.play(text),
+            Altered::Call(alteration) => play_by(Rules::altered(alteration), text),
+        }
+    }
+
+    /// The first difference from what the program printed.
+    pub fn found(self, heard: &[Heard]) -> Option<Difference> {
+        heard.iter().find_map(|sheet| {
+            let ended = Ended {
+                output: sheet.output.clone(),
+                fault: None,
+            };
+            Difference::of(&sheet.name, &sheet.text, &ended, &self.play(&sheet.text))
+        })
+    }
+}
+
+/// Whether an alteration of the calls can show on a sheet.
+fn shows(alteration: Alteration) -> bool {
+    use Alteration as A;
+    let hidden = match alteration {
+        // No sheet spoils a store or lends entries of a wrong length.
+        A::Untested(_) | A::NameBeforeSpoiled | A::OldLastUnsigned => true,
+        A::OldPlaceTwo | A::NewPlace36 | A::MarkPastLast => true,
+        A::PickedAlwaysTested | A::HeldAlwaysTested => true,
+        A::LongerEntriesPass | A::MakingLengthFirst => true,
+        // Words lent by C, and numbers beyond the sizes.
+        A::RefusedMakingClears | A::FreshWithinSizeOnly => true,
+        A::SpoiledBeyondSizes | A::HoldersBeyondSizes => true,
+        // Numbers that no call looks at.
+        A::FreshOldPublished | A::OldSyncKeepsNext | A::ReleaseClearsHeld => true,
+        // From a fresh store the version is never below mark - 1.
+        A::RaisesWhenBehind => true,
+        // Nearly 2^64 looks or releases.
+        A::LooksBeforeTurn | A::OldAsksOneLook => true,
+        A::SumBelowHighest | A::SumNotTested | A::ReleasesSaturate => true,
+        _ => false,
+    };
+    !hidden
+}

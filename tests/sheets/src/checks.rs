@@ -1,0 +1,200 @@
+//! Tests of the comparison itself: that it can find what it is for.
+
+use crate::altered::Altered;
+use crate::compare::{shown, Difference, Heard};
+use crate::pieces::{some_ways, Cut, Way, LARGEST};
+use crate::program::Ended;
+use crate::seen::Seen;
+use crate::shapes::SHAPES;
+use crate::writer::{random_of, write, HUGE_LINE, MANY_LINES, NO_LINES, ORDINARY};
+use second::random::Random;
+use second::sheet::{lines, play, read};
+
+fn difference(text: &[u8], output: &[u8], fault: Option<&str>) -> Option<String> {
+    let ended = Ended {
+        output: output.to_vec(),
+        fault: fault.map(str::to_string),
+    };
+    Difference::of("a test", text, &ended, &play(text)).map(|found| found.to_string())
+}
+
+#[test]
+fn a_difference_is_told_with_its_line() {
+    let text = b"(store new 1 1 2 0)\n(enter 0)\n\xff";
+    let due = b"(1 made)\n(2 at 1)\n(3 unread)\n";
+    assert_eq!(difference(text, due, None), None);
+    let told = difference(text, b"(1 made)\n(2 at 2)\n(3 unread)\n", None).expect("unlike");
+    assert!(
+        told.contains("sheet:    a test\nline 2: (enter 0)\n"),
+        "{told}"
+    );
+    assert!(
+        told.contains("program:  (2 at 2)\\n\nsecond:   (2 at 1)\\n\n"),
+        "{told}"
+    );
+    let told = difference(text, b"(1 made)\n(2 at 1)\n", None).expect("unlike");
+    assert!(
+        told.contains("line 3: \\xff\nprogram:  nothing\n"),
+        "{told}"
+    );
+    let told = difference(text, &[&due[..], b"\n"].concat(), None).expect("unlike");
+    assert!(
+        told.contains("program:  \\n\nsecond:   nothing\n"),
+        "{told}"
+    );
+    let told = difference(text, &due[..due.len() - 1], None).expect("unlike");
+    assert!(
+        told.contains("program:  (3 unread)\nsecond:   (3 unread)\\n\n"),
+        "{told}"
+    );
+    let told = difference(text, due, Some("it does not end")).expect("a fault");
+    assert!(
+        told.contains("the outputs are alike\nprogram:  it does not end\n"),
+        "{told}"
+    );
+}
+
+#[test]
+fn long_lines_are_shown_in_part() {
+    assert_eq!(shown(b"(enter\t0)\xff"), "(enter\\t0)\\xff");
+    let told = shown(&[b'x'; 1000]);
+    assert!(told.len() < 200 && told.contains(" [840 bytes] "), "{told}");
+}
+
+#[test]
+fn a_run_that_saw_nothing_lacks_everything() {
+    let missing = Seen::default().missing();
+    let lacks = |what: &str| missing.iter().any(|line| line == what);
+    assert!(lacks("the reply unread") && lacks("the reply quiet"));
+    assert!(lacks("refusal 1") && !lacks("refusal 5") && !lacks("refusal 33"));
+    assert!(lacks("old claim: refused 31") && !lacks("new claim: refused 31"));
+    assert!(lacks("new raise: shared") && !lacks("old raise: shared"));
+    assert!(lacks("walk before a made store: refused 1"));
+    assert!(lacks("an unread line: -0") && lacks("a sheet by a file"));
+}
+
+#[test]
+fn what_was_seen_is_not_missing() {
+    let mut seen = Seen::default();
+    let text = b"(enter 0)\n(store old 1 1 2 0)\n(store new 0 1 2 0)\n(enter 1)\n-";
+    seen.note(text, &play(text));
+    let missing = seen.missing();
+    let found = [
+        "refusal 1",
+        "refusal 2",
+        "refusal 10",
+        "the reply made",
+        "the reply refused",
+        "the reply unread",
+        "enter before a made store: refused 1",
+        "old store: made",
+        "old store: made with the smallest sizes",
+        "new store: refused 2",
+        "old enter: refused 10",
+        "a store of the other kind refused after one",
+        "a sheet without its last newline",
+    ];
+    for what in found {
+        assert!(!missing.iter().any(|line| line == what), "{what}");
+    }
+    assert_eq!(missing.len() + found.len(), Seen::default().missing().len());
+    assert_eq!((seen.sheets, seen.lines), (1, 5));
+}
+
+#[test]
+fn sheets_come_from_their_seeds() {
+    for number in [HUGE_LINE, ORDINARY, ORDINARY + 7] {
+        assert_eq!(write(5, number).text, write(5, number).text);
+        assert_ne!(write(5, number).text, write(6, number).text);
+    }
+    assert!(write(5, NO_LINES).text.is_empty());
+    assert!(lines(&write(5, HUGE_LINE).text).any(|line| line.len() > 300_000));
+    let many = write(5, MANY_LINES).text;
+    assert!(lines(&many).count() > 65_536);
+    assert!(play(&many[..LARGEST]).len() > 2 * LARGEST);
+}
+
+#[test]
+fn every_shape_is_unread_or_was_a_number_of_chance() {
+    let mut random = Random::from_seed(2);
+    for shape in SHAPES {
+        let all = [&b"(look 0 7)"[..], b"(write 1 -20)", b"(store old 1 1 2 5)"];
+        let mut unread = 0;
+        for _ in 0..100 {
+            let line = shape.of(random.pick(&all), &mut random);
+            unread += u64::from(read(&line).is_none());
+        }
+        let least = match shape.name {
+            "a number at a border" | "a number too wide" => 20,
+            "a byte changed" | "a byte doubled" | "two bytes exchanged" => 20,
+            "a byte dropped" | "a byte inserted" | "a minus" => 20,
+            _ => 100,
+        };
+        assert!(unread >= least, "{}: {unread} of 100 unread", shape.name);
+    }
+}
+
+#[test]
+fn pieces_are_the_text_and_never_too_long() {
+    for number in [HUGE_LINE, NO_LINES, ORDINARY, ORDINARY + 1] {
+        let text = write(1, number).text;
+        let mut random = random_of(1, number);
+        let cuts = [
+            Cut::Whole,
+            Cut::UpTo(20),
+            Cut::UpTo(1 << 40),
+            Cut::BeforeNewlines,
+            Cut::AfterNewlines,
+            Cut::BeforeBrackets,
+            Cut::Near80,
+        ];
+        for cut in cuts {
+            let pieces = Way::Datagrams(cut).pieces(&text, &mut random);
+            assert_eq!(pieces.concat(), text, "{cut:?}");
+            assert!(pieces
+                .iter()
+                .all(|piece| (1..=LARGEST).contains(&piece.len())));
+        }
+    }
+    let text = b"(a)\n(b)\n\n";
+    let mut random = Random::from_seed(1);
+    let mut pieces = |cut| Way::Pipe(cut).pieces(text, &mut random);
+    assert_eq!(pieces(Cut::Bytes).len(), 9);
+    assert_eq!(
+        pieces(Cut::BeforeNewlines),
+        [&b"(a)"[..], b"\n(b)", b"\n", b"\n"]
+    );
+    assert_eq!(pieces(Cut::AfterNewlines), [&b"(a)\n"[..], b"(b)\n", b"\n"]);
+    assert_eq!(pieces(Cut::BeforeBrackets), [&b"(a)\n"[..], b"(b)\n\n"]);
+}
+
+#[test]
+fn small_texts_often_go_byte_by_byte() {
+    let mut random = Random::from_seed(1);
+    let mut by_bytes = |text: &[u8]| {
+        let ways = (0..100).flat_map(|number| some_ways(number, text, &mut random));
+        ways.filter(|&way| way == Way::Datagrams(Cut::Bytes))
+            .count()
+    };
+    assert!(by_bytes(&[b'x'; 100]) > 20);
+    assert_eq!(by_bytes(&[b'x'; 100_000]), 0);
+}
+
+/// An alteration is found where it shows, and not where it doesn't.
+#[test]
+fn alterations_are_found_in_what_was_heard() {
+    let heard = |text: &[u8]| Heard {
+        name: "a test".to_string(),
+        text: text.to_vec(),
+        output: play(text),
+    };
+    let sheets = [
+        heard(b"(enter 0)\n"),
+        heard(b"(store new 1 1 2 0)\n(enter 00)\n"),
+    ];
+    let found = |name| Altered::by_name(name).expect("its name").found(&sheets);
+    let zeros = found("leading-zeros").expect("it shows");
+    assert_eq!((zeros.line_number, zeros.sheet), (2, "a test".to_string()));
+    assert!(found("leading-zeros-in-pitches").is_none());
+    assert!(found("current-is-free").is_none());
+}

@@ -1,0 +1,104 @@
+//! Outputs that cannot be written and an input that cannot be read: the
+//! program must end.
+
+use crate::program::Running;
+use std::fs::{File, OpenOptions};
+use std::io::{self, PipeWriter, Read, Write};
+use std::path::Path;
+use std::process::{Command, Stdio};
+
+const LINES: &[u8] = b"(store new 1 1 2 0)\n(enter 0)\n(look 0 0)\n";
+
+/// What comes to the standard input.
+#[derive(Clone, Copy, PartialEq, Eq, Debug)]
+enum Input {
+    /// A few lines and the end.
+    Few,
+    /// A few lines, and no end.
+    FewAndOpen,
+    /// Lines without end.
+    Endless,
+}
+
+/// Where the standard output goes.
+#[derive(Clone, Copy, PartialEq, Eq, Debug)]
+enum Output {
+    /// A device that has no room.
+    Full,
+    /// A pipe that nobody reads any more.
+    Closed,
+    /// A pipe that is closed after the first bytes.
+    ClosedLater,
+}
+
+/// Every failed write and the failed read; the number of them.
+pub fn all(program: &Path) -> Result<u64, String> {
+    let mut count = 0;
+    for input in [Input::Few, Input::FewAndOpen, Input::Endless] {
+        for output in [Output::Full, Output::Closed] {
+            failed_write(program, input, output)?;
+            count += 1;
+        }
+    }
+    failed_write(program, Input::Endless, Output::ClosedLater)?;
+    failed_read(program)?;
+    Ok(count + 2)
+}
+
+fn failed_write(program: &Path, input: Input, output: Output) -> Result<(), String> {
+    let told = |error: String| format!("{input:?} input, {output:?} output: {error}");
+    play(program, input, output).map_err(told)
+}
+
+fn play(program: &Path, input: Input, output: Output) -> Result<(), String> {
+    let (stdin, feeds) = io::pipe().map_err(|error| error.to_string())?;
+    let (stdout, reads) = output_of(output).map_err(|error| error.to_string())?;
+    let mut command = Command::new(program);
+    let mut running = Running::start(command.stdin(stdin).stdout(stdout))?;
+    drop(command);
+    std::thread::scope(|scope| {
+        let feeding = scope.spawn(move || feed(feeds, input));
+        if let Some(mut reads) = reads {
+            // Some bytes, whatever they are, and then nobody reads.
+            let _ = reads.read(&mut [0; 10]);
+        }
+        let ended = running.ended();
+        drop(running);
+        drop(feeding.join());
+        ended.map(|_| ())
+    })
+}
+
+/// The standard output, and the pipe's other end if it is to be read.
+fn output_of(output: Output) -> io::Result<(Stdio, Option<io::PipeReader>)> {
+    if output == Output::Full {
+        let full = OpenOptions::new().write(true).open("/dev/full")?;
+        return Ok((full.into(), None));
+    }
+    let (reads, writes) = io::pipe()?;
+    let reads = (output == Output::ClosedLater).then_some(reads);
+    Ok((writes.into(), reads))
+}
+
+/// Feeds until the program has ended, and gives back a pipe to keep open.
+fn feed(mut pipe: PipeWriter, input: Input) -> Option<PipeWriter> {
+    let many = LINES.repeat(1000);
+    match input {
+        Input::Few | Input::FewAndOpen => drop(pipe.write_all(LINES)),
+        Input::Endless => while pipe.write_all(&many).is_ok() {},
+    }
+    (input == Input::FewAndOpen).then_some(pipe)
+}
+
+/// A folder cannot be read as a file.
+fn failed_read(program: &Path) -> Result<(), String> {
+    let folder = File::open(std::env::temp_dir()).map_err(|error| error.to_string())?;
+    let mut command = Command::new(program);
+    let mut running = Running::start(command.stdin(folder).stdout(Stdio::piped()))?;
+    while running.more()? {}
+    running.ended()?;
+    match running.output.is_empty() {
+        true => Ok(()),
+        false => Err("it printed something for an input that it cannot read".to_string()),
+    }
+}

@@ -1,0 +1,296 @@
+//! Random sheets. The same seed and number give the same sheet.
+
+use crate::shapes::{any_byte, SHAPES};
+use second::call::{Call, Reply};
+use second::layout::{pack, publisher_at, PUBLISHERS, WORDS};
+use second::random::Random;
+use second::rules::Rules;
+use second::sheet::{read, Sheet};
+use second::store::Kind;
+use second::turns::{in_turn, Actor, Scheduler};
+
+/// The sheet with a line of several hundred thousand bytes.
+pub const HUGE_LINE: u64 = 0;
+/// The sheet of more than 65536 lines, most of them empty.
+pub const MANY_LINES: u64 = 1;
+/// The sheet of no lines.
+pub const NO_LINES: u64 = 2;
+/// From here on the sheets are ordinary.
+pub const ORDINARY: u64 = 3;
+/// From here on the sheets are short enough to be talked through.
+pub const TALK: u64 = 1 << 40;
+
+/// How often 32 may be the reply before another store is made.
+const PATIENCE: u64 = 10;
+
+/// A sheet, with how often each shape of unread line is in it.
+pub struct Written {
+    pub text: Vec<u8>,
+    pub shapes: Vec<u64>,
+}
+
+/// The random numbers of this sheet.
+pub fn random_of(seed: u64, number: u64) -> Random {
+    let mut mixed = Random::from_seed(seed);
+    Random::from_seed(mixed.word() ^ Random::from_seed(number).word())
+}
+
+/// The sheet of this number.
+pub fn write(seed: u64, number: u64) -> Written {
+    let mut random = random_of(seed, number);
+    let mut writer = Writer::new(&mut random);
+    match number {
+        HUGE_LINE => writer.huge_line(),
+        MANY_LINES => writer.many_lines(),
+        NO_LINES => {}
+        TALK.. => writer.calls(400),
+        _ => writer.ordinary(),
+    }
+    writer.written()
+}
+
+struct Writer<'a> {
+    random: &'a mut Random,
+    sheet: Sheet,
+    scheduler: Scheduler,
+    /// Misshapen lines in a thousand.
+    misshapen: u64,
+    /// Whether publishers often go on side by side.
+    together: bool,
+    /// How often this store has refused with 32.
+    at_the_last: u64,
+    written: Written,
+}
+
+impl<'a> Writer<'a> {
+    fn new(random: &'a mut Random) -> Writer<'a> {
+        let scheduler = Scheduler::new(random);
+        let misshapen = random.pick(&[0, 10, 60, 150, 400]);
+        let together = random.one_in(2);
+        let written = Written {
+            text: Vec::new(),
+            shapes: vec![0; SHAPES.len()],
+        };
+        Writer {
+            random,
+            sheet: Sheet::new(Rules::AS_WRITTEN),
+            scheduler,
+            misshapen,
+            together,
+            at_the_last: 0,
+            written,
+        }
+    }
+
+    /// The sheet, half of the time without its last newline.
+    fn written(mut self) -> Written {
+        if self.random.one_in(2) {
+            self.written.text.pop();
+        }
+        self.written
+    }
+
+    /// Adds these bytes and a newline, and plays them here too.
+    fn add(&mut self, bytes: &[u8]) {
+        for line in bytes.split(|&byte| byte == b'\n') {
+            let reply = self.sheet.reply(line);
+            self.at_the_last += u64::from(reply == Some(Reply::Refused(32)));
+        }
+        self.written.text.extend_from_slice(bytes);
+        self.written.text.push(b'\n');
+    }
+
+    fn ordinary(&mut self) {
+        if self.random.one_in(3) {
+            for _ in 0..self.random.below(20) {
+                self.before_a_made_store();
+            }
+        }
+        let lines = self.random.pick(&[2, 30, 200, 600, 1500, 2500]);
+        self.calls(lines);
+    }
+
+    /// A made store, and this many lines after it.
+    fn calls(&mut self, lines: u64) {
+        self.store();
+        for _ in 0..lines {
+            self.line();
+        }
+    }
+
+    /// Calls before and after a line of several hundred thousand bytes.
+    fn huge_line(&mut self) {
+        self.calls(50);
+        let call = self.next_call();
+        let length = 300_000 + self.random.below(300_000);
+        let mut huge: Vec<u8> = (0..length).map(|_| any_byte(self.random)).collect();
+        huge.extend_from_slice(call.to_string().as_bytes());
+        self.add(&huge);
+        for _ in 0..500 {
+            self.line();
+        }
+    }
+
+    /// Few bytes to read, and many to print.
+    fn many_lines(&mut self) {
+        self.store();
+        for _ in 0..70_000 {
+            match self.random.below(4) {
+                0 => self.line(),
+                _ => self.add(b""),
+            }
+        }
+    }
+
+    fn before_a_made_store(&mut self) {
+        match self.random.below(6) {
+            0 => self.refused_store(),
+            1 => self.misshapen(),
+            _ => {
+                let call = self.next_call();
+                self.add(call.to_string().as_bytes());
+            }
+        }
+    }
+
+    fn line(&mut self) {
+        if self.at_the_last > PATIENCE {
+            return self.store();
+        }
+        match self.random.below(1000) {
+            0..=5 => self.refused_store(),
+            6..=8 => self.store(),
+            n if n < 9 + self.misshapen => self.misshapen(),
+            _ => {
+                let call = self.next_call();
+                self.add(call.to_string().as_bytes());
+            }
+        }
+    }
+
+    /// A call that suits the store as it is now, or nearly.
+    fn next_call(&mut self) -> Call {
+        let mut words = [0; WORDS];
+        if let Some(made) = &self.sheet.made {
+            pack(&made.store, &mut words);
+        }
+        if self.random.one_in(20) {
+            if let Some(call) = claim_of_a_held_slot(&words) {
+                return call;
+            }
+        }
+        match furthest_behind(&words) {
+            Some(p) if self.together && self.random.one_in(2) => {
+                in_turn(&words, Actor::Publisher(p), self.random)
+            }
+            _ => self.scheduler.next(&words, self.random),
+        }
+    }
+
+    fn store(&mut self) {
+        let kind = self.random.pick(&[Kind::New, Kind::Old]);
+        let store = some_store(kind, self.random);
+        self.add(store.to_string().as_bytes());
+        self.scheduler = Scheduler::new(self.random);
+        self.at_the_last = 0;
+    }
+
+    /// A `store` with one or two of its arguments out of range.
+    fn refused_store(&mut self) {
+        let kind = self.random.pick(&[Kind::New, Kind::Old]);
+        let mut store = some_store(kind, self.random);
+        for _ in 0..1 + self.random.below(2) {
+            out_of_range(kind, &mut store, self.random);
+        }
+        self.add(store.to_string().as_bytes());
+    }
+
+    /// A misshapen line, made from a call or from a `store`.
+    fn misshapen(&mut self) {
+        let call = match self.random.below(6) {
+            0 => {
+                let kind = self.random.pick(&[Kind::New, Kind::Old]);
+                some_store(kind, self.random)
+            }
+            _ => self.next_call(),
+        };
+        let shape = self.random.below(SHAPES.len() as u64) as usize;
+        let line = SHAPES[shape].of(call.to_string().as_bytes(), self.random);
+        let unread = |line: &[u8]| read(line).is_none();
+        let all_unread = line.split(|&byte| byte == b'\n').all(unread);
+        self.written.shapes[shape] += u64::from(all_unread);
+        self.add(&line);
+    }
+}
+
+/// The busy publisher with the most steps before it.
+fn furthest_behind(words: &[u64; WORDS]) -> Option<u16> {
+    let place = |p: &u16| words[publisher_at(usize::from(*p))];
+    let publishers = 0..words[PUBLISHERS] as u16;
+    publishers.filter(|p| place(p) != 0).min_by_key(place)
+}
+
+/// A CLAIM by an idle publisher of the slot that the one furthest on holds.
+fn claim_of_a_held_slot(words: &[u64; WORDS]) -> Option<Call> {
+    let place = |p: &u16| words[publisher_at(usize::from(*p))];
+    let publishers = || 0..words[PUBLISHERS] as u16;
+    let p = publishers().find(|p| place(p) == 0)?;
+    let holder = publishers().filter(|p| place(p) != 0).max_by_key(place)?;
+    let s = words[publisher_at(usize::from(holder)) + 1] as u16;
+    Some(Call::Claim { p, s })
+}
+
+/// An accepted making.
+fn some_store(kind: Kind, random: &mut Random) -> Call {
+    let any_readers = 1 + random.below(64) as u16;
+    let any_publishers = 1 + random.below(16) as u16;
+    let any_slots = 2 + random.below(31) as u16;
+    let (readers, publishers, slots) = match random.below(10) {
+        0 => (64, 16, 32),
+        1 => (1, 1, 2),
+        _ => (
+            random.pick(&[1, 2, 2, 3, 5, any_readers]),
+            random.pick(&[1, 2, 2, 3, 4, any_publishers]),
+            random.pick(&[2, 3, 3, 4, 6, any_slots]),
+        ),
+    };
+    Call::Make {
+        kind: kind.number() as u16,
+        readers,
+        publishers,
+        slots,
+        version: first_version(kind, random),
+    }
+}
+
+fn first_version(kind: Kind, random: &mut Random) -> u64 {
+    let last = kind.last();
+    match random.below(10) {
+        0 => last,
+        1 => last - 1,
+        2 => last - random.below(8),
+        3 => random.below(100),
+        4 => random.word() % last,
+        _ => 0,
+    }
+}
+
+/// Puts one of the arguments out of its range.
+fn out_of_range(kind: Kind, store: &mut Call, random: &mut Random) {
+    let Call::Make {
+        readers,
+        publishers,
+        slots,
+        version,
+        ..
+    } = store
+    else {
+        return;
+    };
+    match random.below(4) {
+        0 => *readers = random.pick(&[0, 65, 66, 256, 65_535]),
+        1 => *publishers = random.pick(&[0, 17, 18, 256, 65_535]),
+        2 => *slots = random.pick(&[0, 1, 33, 34, 256, 65_535]),
+        _ => *version = random.pick(&[kind.last() + 1, u64::MAX]),
+    }
+}
