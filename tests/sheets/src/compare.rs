@@ -170,15 +170,12 @@ impl Comparison {
         let text = written.text;
         let name = format!("number {number} of seed {}", self.seed);
         let due = play(&text);
+        let mut output = Vec::new();
         for way in ways {
-            self.hold(&name, &text, way, &due, &mut random)?;
+            output = self.hold(&name, &text, way, &due, &mut random)?;
         }
-        self.seen.note(&text, &due);
-        Ok(Heard {
-            name,
-            text,
-            output: due,
-        })
+        self.seen.note(&text, &output);
+        Ok(Heard { name, text, output })
     }
 
     /// Ordinary sheets with so many lines in all, and the three others.

@@ -12,6 +12,9 @@ use std::time::{Duration, Instant};
 /// How long the program may be silent, or take to end.
 pub const LIMIT: Duration = Duration::from_secs(10);
 
+/// No sheet is answered with more bytes than this.
+const MOST_OUTPUT: usize = 1 << 26;
+
 /// The end of the input that is kept here.
 pub enum Feeder {
     Datagrams(UnixDatagram),
@@ -96,6 +99,9 @@ impl Running {
 
     /// Waits for more output; false at its end.
     pub fn more(&mut self) -> Result<bool, String> {
+        if self.output.len() > MOST_OUTPUT {
+            return Err("it prints without end".to_string());
+        }
         match self.chunks.recv_timeout(LIMIT) {
             Ok(chunk) => {
                 self.output.extend_from_slice(&chunk);

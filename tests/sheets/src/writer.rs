@@ -7,7 +7,7 @@ use second::random::Random;
 use second::rules::Rules;
 use second::sheet::{read, Sheet};
 use second::store::Kind;
-use second::turns::{in_turn, Actor, Scheduler};
+use second::turns::{call_by, in_turn, Actor, Scheduler};
 
 /// The sheet with a line of several hundred thousand bytes.
 pub const HUGE_LINE: u64 = 0;
@@ -175,7 +175,7 @@ impl<'a> Writer<'a> {
             pack(&made.store, &mut words);
         }
         if self.random.one_in(20) {
-            if let Some(call) = claim_of_a_held_slot(&words) {
+            if let Some(call) = self.beside_the_rules(&words) {
                 return call;
             }
         }
@@ -184,6 +184,24 @@ impl<'a> Writer<'a> {
                 in_turn(&words, Actor::Publisher(p), self.random)
             }
             _ => self.scheduler.next(&words, self.random),
+        }
+    }
+
+    /// A call by or beside the publisher that is furthest on, that its place
+    /// most often doesn't allow.
+    fn beside_the_rules(&mut self, words: &[u64; WORDS]) -> Option<Call> {
+        let p = furthest_on(words)?;
+        let held = words[publisher_at(usize::from(p)) + 1] as u16;
+        let b = self.random.pick(&[256, 512, 32_768, 65_280]);
+        match self.random.below(4) {
+            0 => idle(words).map(|p| Call::Claim { p, s: held }),
+            1 => Some(Call::Walk { p, b }),
+            _ => Some(call_by(
+                4 + self.random.below(7) as usize,
+                p,
+                words,
+                self.random,
+            )),
         }
     }
 
@@ -223,21 +241,26 @@ impl<'a> Writer<'a> {
     }
 }
 
-/// The busy publisher with the most steps before it.
-fn furthest_behind(words: &[u64; WORDS]) -> Option<u16> {
-    let place = |p: &u16| words[publisher_at(usize::from(*p))];
-    let publishers = 0..words[PUBLISHERS] as u16;
-    publishers.filter(|p| place(p) != 0).min_by_key(place)
+fn place(words: &[u64; WORDS], p: u16) -> u64 {
+    words[publisher_at(usize::from(p))]
 }
 
-/// A CLAIM by an idle publisher of the slot that the one furthest on holds.
-fn claim_of_a_held_slot(words: &[u64; WORDS]) -> Option<Call> {
-    let place = |p: &u16| words[publisher_at(usize::from(*p))];
-    let publishers = || 0..words[PUBLISHERS] as u16;
-    let p = publishers().find(|p| place(p) == 0)?;
-    let holder = publishers().filter(|p| place(p) != 0).max_by_key(place)?;
-    let s = words[publisher_at(usize::from(holder)) + 1] as u16;
-    Some(Call::Claim { p, s })
+fn busy(words: &[u64; WORDS]) -> impl Iterator<Item = u16> + '_ {
+    (0..words[PUBLISHERS] as u16).filter(|&p| place(words, p) != 0)
+}
+
+/// The busy publisher with the most steps before it.
+fn furthest_behind(words: &[u64; WORDS]) -> Option<u16> {
+    busy(words).min_by_key(|&p| place(words, p))
+}
+
+/// The busy publisher with the fewest steps before it.
+fn furthest_on(words: &[u64; WORDS]) -> Option<u16> {
+    busy(words).max_by_key(|&p| place(words, p))
+}
+
+fn idle(words: &[u64; WORDS]) -> Option<u16> {
+    (0..words[PUBLISHERS] as u16).find(|&p| place(words, p) == 0)
 }
 
 /// An accepted making.
