@@ -8,3 +8,4 @@ pub mod Reads
 pub mod Canonical
 pub mod Replies
 pub mod Only
+pub mod Widths

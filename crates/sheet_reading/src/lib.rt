@@ -1,17 +1,16 @@
 // A run sheet's line to a command, by the definition of sheet_law.
-// Words, decimals and pitches are read by small functions over a part of the line; only `parse` is for others.
-// It uses calls and sheet_law.
-ghost use Prim.Native.Nat.{_+_, _<_, _≤_};
-ghost use lib.IntN.{pos, negsuc};
+// A word, its arguments, and the whole line; only `parse` is for others.
+// It uses calls, sheet_law and sheet_fields.
 ghost use mathlib.Core.Path.{_≡_};
-ghost use lib.ListN.{length, take, drop};
-ghost use Rattle.sheet_law.specs.Text.{same as Text·same};
-ghost use Rattle.sheet_law.specs.Reading.{first, rest, digits as Reading·digits, plain, within, angle as Reading·angle, negative as Reading·negative, positive as Reading·positive, word as Reading·word, kindNamed, oneOf, twoOf, one as Reading·one, two as Reading·two, writing as Reading·writing, making as Reading·making, makingOf, command as Reading·command, lineOf};
+ghost use Rattle.sheet_law.specs.Reading.{word as Reading·word, kindNamed, oneOf, twoOf, one as Reading·one, two as Reading·two, writing as Reading·writing, making as Reading·making, makingOf, command as Reading·command, lineOf};
 use calls::Call;
 use calls::KIND_NEW;
 use calls::KIND_OLD;
 use calls::NUMBER_MAX;
-use calls::Pitch;
+use sheet_fields::angle;
+use sheet_fields::cut;
+use sheet_fields::number;
+use sheet_fields::same;
 use sheet_law::Angle;
 use sheet_law::Command;
 use sheet_law::LINE_MAX;
@@ -20,166 +19,9 @@ use sheet_law::NARROW_MAX;
 use sheet_law::Number;
 use sheet_law::Word;
 
-const SPACE: u8 = b' ';
-
 const OPEN: u8 = b'(';
 
 const CLOSE: u8 = b')';
-
-const MINUS: u8 = b'-';
-
-const DIGIT_0: u8 = b'0';
-
-const DIGIT_9: u8 = b'9';
-
-// The greatest pitch of 16 bits, and the size of the least.
-const PITCH_MAX: u64 = 32767;
-
-const PITCH_MIN: u64 = 32768;
-
-// Whether two texts are the same.
-fn same(s: &[u8], w: &[u8]) -> bool
-    ensures { λ r. ⌜ r ≡ Text·same (now (s .entry)) (now (w .entry)) ⌝ }
-{
-    let n = s.len();
-    if n != w.len() {
-        return false;
-    }
-    let mut i: usize = 0;
-    while i < n {
-        if s[i] != w[i] {
-            return false;
-        }
-        i += 1;
-    }
-    true
-}
-
-// A text cut at its first space: where the text before it ends, and where the text after it begins.
-struct Parts {
-    end: usize,
-    next: usize,
-}
-
-fn cut(s: &[u8]) -> Parts
-    ensures { λ r. ⌜ (r .end ≤ length (now (s .entry))) × (r .next ≤ length (now (s .entry))) × (take (r .end) (now (s .entry)) ≡ first (now (s .entry))) × (drop (r .next) (now (s .entry)) ≡ rest (now (s .entry))) ⌝ }
-{
-    let mut i: usize = 0;
-    while i < s.len() {
-        if s[i] == SPACE {
-            return Parts {
-                end: i,
-                next: i + 1,
-            };
-        }
-        i += 1;
-    }
-    Parts { end: i, next: i }
-}
-
-fn wide(b: u8) -> u64
-    ensures { λ r. ⌜ r ≡ b ⌝ }
-{
-    b as u64
-}
-
-// The number that digits spell, read from the left, where 64 bits hold it.
-fn digits(s: &[u8]) -> Number
-    ensures { λ r. ⌜ r ≡ within 18446744073709551615 (Reading·digits 0 (now (s .entry))) ⌝ }
-{
-    let mut n: u64 = 0;
-    let mut i: usize = 0;
-    loop {
-        if i >= s.len() {
-            break Number::Fine(n);
-        }
-        let b = s[i];
-        if b < DIGIT_0 {
-            break Number::Bad;
-        }
-        if b > DIGIT_9 {
-            break Number::Bad;
-        }
-        let d = wide(b - DIGIT_0);
-        if n > (NUMBER_MAX - d) / 10 {
-            break Number::Bad;
-        }
-        n = n * 10 + d;
-        i += 1;
-    }
-}
-
-// A plain decimal without leading zeros, of at most a number.
-fn number(s: &[u8], most: u64) -> Number
-    ensures { λ r. ⌜ r ≡ within most (plain (now (s .entry))) ⌝ }
-{
-    let n = s.len();
-    if n == 0 {
-        return Number::Bad;
-    }
-    if n > 1 {
-        if s[0] == DIGIT_0 {
-            return Number::Bad;
-        }
-    }
-    let Number::Fine(v) = digits(s) else {
-        return Number::Bad;
-    };
-    if v > most {
-        return Number::Bad;
-    }
-    Number::Fine(v)
-}
-
-// A number below 32768 as a pitch, and the pitch that is one less than its opposite.
-fn above(v: u64) -> Pitch
-    requires { ⌜ v < 32768 ⌝ }
-    ensures { λ r. ⌜ r ≡ pos v ⌝ }
-{
-    v as Pitch
-}
-
-fn below(v: u64) -> Pitch
-    requires { ⌜ v < 32768 ⌝ }
-    ensures { λ r. ⌜ r ≡ negsuc v ⌝ }
-{
-    -1 - (v as Pitch)
-}
-
-// What stands after a minus: a decimal that is not 0.
-fn negative(s: &[u8]) -> Angle
-    ensures { λ r. ⌜ r ≡ Reading·negative (within 32768 (plain (now (s .entry)))) ⌝ }
-{
-    let Number::Fine(v) = number(s, PITCH_MIN) else {
-        return Angle::Wrong;
-    };
-    if v == 0 {
-        return Angle::Wrong;
-    }
-    Angle::At(below(v - 1))
-}
-
-fn positive(s: &[u8]) -> Angle
-    ensures { λ r. ⌜ r ≡ Reading·positive (within 32767 (plain (now (s .entry)))) ⌝ }
-{
-    let Number::Fine(v) = number(s, PITCH_MAX) else {
-        return Angle::Wrong;
-    };
-    Angle::At(above(v))
-}
-
-// A pitch: a decimal, or a minus and a decimal that is not 0.
-fn angle(s: &[u8]) -> Angle
-    ensures { λ r. ⌜ r ≡ Reading·angle (now (s .entry)) ⌝ }
-{
-    if s.len() == 0 {
-        return Angle::Wrong;
-    }
-    if s[0] == MINUS {
-        return negative(&s[1..]);
-    }
-    positive(s)
-}
 
 // The word that begins a line.
 fn word(s: &[u8]) -> Word

@@ -7,7 +7,7 @@ use mathlib.Core.Path.{_≡_, refl, sym, _∙_, ap}
 use lib.Seq.{length-take-le}
 use Rattle.sheet_law.specs.declared.Number.the-variants.{Fine, Bad}
 use Rattle.sheet_law.specs.Reading.{first, rest, plain, narrow, wide}
-use Rattle.sheet_reading.proofs.Bytes.{read-part, tail-is, within-most}
+use Rattle.sheet_law.specs.Widths.{read-part, tail-is, within-most}
 use Rattle.sheet_reading.proofs.making_of.Statement.{statement}
 use Rattle.sheet_reading.proofs.making_of.Tie as tie
 

@@ -4,7 +4,7 @@ use native.Mathlib.Omega.{arith}
 use Prim.Native.Nat.{_-_}
 use mathlib.Core.Path.{refl, sym, _∙_}
 use Rattle.sheet_law.specs.Reading.{plain}
-use Rattle.sheet_reading.proofs.Bytes.{within-most}
+use Rattle.sheet_law.specs.Widths.{within-most}
 use Rattle.sheet_reading.proofs.one.Statement.{statement}
 use Rattle.sheet_reading.proofs.one.Tie as tie
 

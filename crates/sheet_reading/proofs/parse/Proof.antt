@@ -8,7 +8,8 @@ use mathlib.Core.List.{List}
 use lib.Seq.{length-take-le}
 use Rattle.sheet_law.specs.declared.Word.{Word}
 use Rattle.sheet_law.specs.Reading.{first, rest, word as word-of, command as command-of, inner}
-use Rattle.sheet_reading.proofs.Bytes.{tail-is, line-long, line-brief, line-unopened, line-unclosed, line-whole, inner-is}
+use Rattle.sheet_law.specs.Widths.{tail-is}
+use Rattle.sheet_reading.proofs.Lines.{line-long, line-brief, line-unopened, line-unclosed, line-whole, inner-is}
 use Rattle.sheet_reading.proofs.parse.Statement.{statement}
 use Rattle.sheet_reading.proofs.parse.Tie as tie
 

@@ -2,7 +2,7 @@
 use borrow.Author.Needs.{needs}
 use mathlib.Core.Path.{sym, _∙_}
 use Rattle.sheet_law.specs.declared.Word.the-variants.{Store, Enter, Look, Leave, Claim, Write, Swap, Sync, Raise, Walk, Release}
-use Rattle.sheet_reading.proofs.Bytes.{named-here, named-next, named-none}
+use Rattle.sheet_reading.proofs.Lines.{named-here, named-next, named-none}
 use Rattle.sheet_reading.proofs.word.Statement.{statement}
 use Rattle.sheet_reading.proofs.word.Tie as tie
 

@@ -7,7 +7,7 @@ use lib.ListN.{take}
 use lib.Seq.{length-take-le}
 use Rattle.sheet_law.specs.declared.Number.the-variants.{Fine, Bad}
 use Rattle.sheet_law.specs.Reading.{first, rest, plain, narrow, angle as angle-of}
-use Rattle.sheet_reading.proofs.Bytes.{read-part, tail-is, within-most}
+use Rattle.sheet_law.specs.Widths.{read-part, tail-is, within-most}
 use mir.Syntax.{w16}
 use mir.ValLaws.{toZ-ofZ}
 use Rattle.sheet_reading.proofs.writing.Statement.{statement}

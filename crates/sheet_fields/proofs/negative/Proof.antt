@@ -7,9 +7,10 @@ use mir.Syntax.{w16}
 use mir.ValLaws.{toZ-ofZ}
 use Rattle.sheet_law.specs.declared.Angle.the-variants.{At}
 use Rattle.sheet_law.specs.Reading.{plain, negative as negative-of}
-use Rattle.sheet_reading.proofs.Bytes.{within-most, negative-zero, negative-other}
-use Rattle.sheet_reading.proofs.negative.Statement.{statement}
-use Rattle.sheet_reading.proofs.negative.Tie as tie
+use Rattle.sheet_law.specs.Widths.{within-most}
+use Rattle.sheet_fields.proofs.Bytes.{negative-zero, negative-other}
+use Rattle.sheet_fields.proofs.negative.Statement.{statement}
+use Rattle.sheet_fields.proofs.negative.Tie as tie
 
 number-requires : tie.Need-number-requires
 number-requires c κs = search needs

@@ -2,8 +2,8 @@
 use borrow.Author.Needs.{needs}
 use mir.Syntax.{w16}
 use mir.ValLaws.{toZ-pos}
-use Rattle.sheet_reading.proofs.above.Statement.{statement}
-use Rattle.sheet_reading.proofs.above.Tie as tie
+use Rattle.sheet_fields.proofs.above.Statement.{statement}
+use Rattle.sheet_fields.proofs.above.Tie as tie
 
 cast-result : tie.Need-cast-result
 cast-result c = search needs

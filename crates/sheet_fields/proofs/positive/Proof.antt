@@ -6,9 +6,9 @@ use mir.Syntax.{w16}
 use mir.ValLaws.{toZ-ofZ}
 use Rattle.sheet_law.specs.declared.Angle.the-variants.{At}
 use Rattle.sheet_law.specs.Reading.{plain, positive as positive-of}
-use Rattle.sheet_reading.proofs.Bytes.{within-most}
-use Rattle.sheet_reading.proofs.positive.Statement.{statement}
-use Rattle.sheet_reading.proofs.positive.Tie as tie
+use Rattle.sheet_law.specs.Widths.{within-most}
+use Rattle.sheet_fields.proofs.positive.Statement.{statement}
+use Rattle.sheet_fields.proofs.positive.Tie as tie
 
 number-requires : tie.Need-number-requires
 number-requires c κs = search needs

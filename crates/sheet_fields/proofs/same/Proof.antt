@@ -4,9 +4,9 @@ use lib.ListN.{length, drop}
 use Prim.Native.Nat.{_-_, _≤_}
 use mathlib.Core.Path.{_≡_, refl, _∙_, sym}
 use Rattle.sheet_law.specs.Text.{same as same-texts}
-use Rattle.sheet_reading.proofs.Bytes.{same-lengths, same-differ, same-next, same-end}
-use Rattle.sheet_reading.proofs.same.Statement.{statement}
-use Rattle.sheet_reading.proofs.same.Tie as tie
+use Rattle.sheet_fields.proofs.Bytes.{same-lengths, same-differ, same-next, same-end}
+use Rattle.sheet_fields.proofs.same.Statement.{statement}
+use Rattle.sheet_fields.proofs.same.Tie as tie
 
 abbrev Inv-loop : tie.InvT-loop
 Inv-loop s w n i₀ i = (i ≤ n) × (n ≡ length s) × (length s ≡ length w) × (same-texts s w ≡ same-texts (drop i s) (drop i w))

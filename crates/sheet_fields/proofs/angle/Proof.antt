@@ -4,9 +4,10 @@ use Prim.Native.Nat.{ℕ}
 use mathlib.Core.Path.{sym, _∙_, ap}
 use mathlib.Core.List.{List}
 use Rattle.sheet_law.specs.Reading.{plain, within, negative as negative-of}
-use Rattle.sheet_reading.proofs.Bytes.{tail, angle-empty, angle-minus, angle-plain}
-use Rattle.sheet_reading.proofs.angle.Statement.{statement}
-use Rattle.sheet_reading.proofs.angle.Tie as tie
+use Rattle.sheet_law.specs.Widths.{tail}
+use Rattle.sheet_fields.proofs.Bytes.{angle-empty, angle-minus, angle-plain}
+use Rattle.sheet_fields.proofs.angle.Statement.{statement}
+use Rattle.sheet_fields.proofs.angle.Tie as tie
 
 returns : tie.Need-returns
 returns c = sym (angle-empty (c .before .before .args .s .now) (c .if1 .taken))

@@ -1,6 +1,5 @@
 -- How the definitions on bytes go at place i of a text, which is how the loops read it. Assumes nothing.
 use Prim.Native.Nat.{ℕ, zero, suc, _+_, _-_, _*_, _<_, _≤_}
-use Prim.Native.String.{String}
 use native.Mathlib.Omega.{arith}
 use native.Mathlib.Numerals.{add-one}
 use mathlib.Core.Path.{_≡_, refl, sym, _∙_, ap}
@@ -9,26 +8,17 @@ use lib.Dec.{eqb, ltb}
 use lib.IntN.{pos, negsuc, _-ℤ_}
 use native.Mathlib.Nat.{zero-add}
 use mathlib.Core.List.{List, [], _∷_, _++_}
-use lib.ListN.{length, getD, take, drop, length-drop, drop-of-length-le}
-use lib.Seq.{drop-cons, take-suc, take-all, append-snoc}
-use borrow.Author.Tests.{lt-ltb, le-ltb, eq-eqb, ne-eqb, ltb-false, ltb-true}
+use lib.ListN.{length, getD, take, drop, drop-of-length-le}
+use lib.Seq.{drop-cons, take-suc, append-snoc}
+use borrow.Author.Tests.{lt-ltb, le-ltb, eq-eqb, ne-eqb}
 use Rattle.calls.specs.Base.{pick}
-use Rattle.sheet_law.specs.declared.Number.{Number}
 use Rattle.sheet_law.specs.declared.Number.the-variants.{Fine, Bad}
 use Rattle.sheet_law.specs.declared.Angle.the-variants.{At, Wrong}
-use Rattle.sheet_law.specs.declared.Word.{Word}
-use Rattle.sheet_law.specs.declared.Word.the-variants.{Unknown}
-use Rattle.sheet_law.specs.declared.Line.the-variants.{Unread}
-use Rattle.sheet_law.specs.Text.{text, same, SPACE, OPEN, CLOSE, MINUS, DIGIT-0, DIGIT-9}
-use Rattle.sheet_law.specs.Reading.{first, rest, digits, plain, within, negative, positive, angle, PITCH-MIN, PITCH-MAX, kindNamed, Row, named, word, command, inner, LINE-MAX, lineOf}
-use Rattle.sheet_law.specs.Reading.Row.{_names_}
+use Rattle.sheet_law.specs.Text.{same, SPACE, MINUS, DIGIT-0, DIGIT-9}
+use Rattle.sheet_law.specs.Reading.{first, rest, digits, plain, within, negative, positive, angle, PITCH-MIN, PITCH-MAX}
 
 at-place : (l : List ℕ) (i : ℕ) → i < length l → drop i l ≡ getD l i 0 ∷ drop (i + 1) l
 at-place l i h = drop-cons l i 0 h ∙ ap (λ (n : ℕ). getD l i 0 ∷ drop n l) (sym (add-one i))
-
--- a part that reaches the end
-pub tail : (n : ℕ) (l : List ℕ) → take (length l - n) (drop n l) ≡ drop n l
-tail n l = take-all (length l - n) (drop n l) (rw length-drop (omega arith))
 
 and-false : (b : Bool) → (b && false) ≡ false
 and-false true = refl
@@ -112,59 +102,10 @@ module _ (l : List ℕ) (i n : ℕ) where
     unfolding digits
     digits-next a b = rw (at-place l i h, le-ltb (getD l i 0) DIGIT-0 a, le-ltb DIGIT-9 (getD l i 0) b) refl
 
--- The number that is read, and whether there is one.
-numberIn : Number → ℕ
-numberIn Bad = 0
-numberIn (Fine n) = n
-
-isBad : Number → ℕ
-isBad Bad = 1
-isBad (Fine n) = 0
-
-pub fine-same : (n m : ℕ) → Fine n ≡ Fine m → n ≡ m
-unfolding numberIn
-fine-same n m e = ap numberIn e
-
-pub bad-fine : (n : ℕ) → Bad ≡ Fine n → ⊥
-unfolding isBad
-bad-fine n e = let z : _≡_ {A = ℕ} 1 0 = ap isBad e in omega arith
-
--- What is at most a number, and what is not.
-pub within-fine : (most n : ℕ) → n ≤ most → within most (Fine n) ≡ Fine n
-within-fine most n h = rw (le-ltb most n h) refl
-
-pub within-bad : (most n : ℕ) → most < n → within most (Fine n) ≡ Bad
-within-bad most n h = rw (lt-ltb most n h) refl
-
-pub within-most : (most : ℕ) (x : Number) (n : ℕ) → within most x ≡ Fine n → n ≤ most
-within-most most Bad n e = absurd (bad-fine n e)
-within-most most (Fine m) n e = go (ltb most m) refl e
-  where
-    go : (t : Bool) → t ≡ ltb most m → pick t Bad (Fine m) ≡ Fine n → n ≤ most
-    go true d f = absurd (bad-fine n f)
-    go false d f = let a : m ≤ most = ltb-false most m (sym d) in omega (arith, a, fine-same m n f)
-
 -- The negative number that is one less than the opposite of v.
 pub one-less : (v : ℕ) → negsuc 0 -ℤ pos v ≡ negsuc v
 one-less zero = refl
 one-less (suc v) = ap negsuc (simp zero-add)
-
-pub within-is : (most : ℕ) (x : Number) (n : ℕ) → within most x ≡ Fine n → x ≡ Fine n
-within-is most Bad n e = e
-within-is most (Fine m) n e = go (ltb most m) e
-  where
-    go : (t : Bool) → pick t Bad (Fine m) ≡ Fine n → Fine m ≡ Fine n
-    go true f = absurd (bad-fine n f)
-    go false f = f
-
--- What is too wide for the greater bound is too wide for the less.
-pub within-less : (less more : ℕ) (x : Number) → less ≤ more → within more x ≡ Bad → within less x ≡ Bad
-within-less less more Bad h e = refl
-within-less less more (Fine m) h e = go (ltb more m) refl e
-  where
-    go : (t : Bool) → t ≡ ltb more m → pick t Bad (Fine m) ≡ Bad → within less (Fine m) ≡ Bad
-    go true d f = let a : more < m = ltb-true more m (sym d) in within-bad less m (omega arith)
-    go false d f = absurd (bad-fine m (sym f))
 
 -- A plain decimal has a digit, and no leading zero.
 pub plain-empty : (l : List ℕ) → length l ≡ 0 → plain l ≡ Bad
@@ -183,27 +124,6 @@ unfolding plain
 plain-digits [] h e = absurd (h refl)
 plain-digits (b ∷ []) h e = refl
 plain-digits (b ∷ c ∷ l) h e = rw (ne-eqb b DIGIT-0 (e (omega arith))) refl
-
--- What was read of a part, of the whole that the part is equal to.
-pub read-part : (f : List ℕ → Number) (x : Number) (l k : List ℕ) (y : Number) → x ≡ f l → l ≡ k → x ≡ y → f k ≡ y
-read-part f x l k y e p q = ap f (sym p) ∙ sym e ∙ q
-
-pub tail-is : (n : ℕ) (l k : List ℕ) → drop n l ≡ k → take (length l - n) (drop n l) ≡ k
-tail-is n l k e = tail n l ∙ e
-
--- A row of the table of words names the word, or the rows after it do.
-module _ (w : List ℕ) (t : String) (x : Word) (rows : List Row) where
-  pub named-here : same w (text t) ≡ true → named ((t names x) ∷ rows) w ≡ x
-  unfolding named
-  named-here e = rw e refl
-
-  pub named-next : same w (text t) ≡ false → named ((t names x) ∷ rows) w ≡ named rows w
-  unfolding named
-  named-next e = rw e refl
-
-pub named-none : (w : List ℕ) → named [] w ≡ Unknown
-unfolding named
-named-none w = refl
 
 -- Pitches.
 pub negative-zero : (n : ℕ) → n ≡ 0 → negative (Fine n) ≡ Wrong
@@ -227,41 +147,3 @@ pub angle-plain : (l : List ℕ) → (length l ≡ 0 → ⊥) → (getD l 0 0 �
 unfolding angle
 angle-plain [] h e = absurd (h refl)
 angle-plain (b ∷ l) h e = rw (ne-eqb b MINUS e) refl
-
--- A kind's number has 16 bits.
-pub kind-narrow : (w : List ℕ) (n : ℕ) → kindNamed w ≡ Fine n → n ≤ 2
-unfolding kindNamed
-kind-narrow w n e = go (same w (text "new")) (same w (text "old")) e
-  where
-    go : (a b : Bool) → pick a (Fine 1) (pick b (Fine 2) Bad) ≡ Fine n → n ≤ 2
-    go true b f = omega (arith, fine-same 1 n f)
-    go false true f = omega (arith, fine-same 2 n f)
-    go false false f = absurd (bad-fine n f)
-
--- A whole line.
-module _ (l : List ℕ) where
-  pub line-long : LINE-MAX < length l → lineOf l ≡ Unread
-  unfolding lineOf
-  line-long h = rw (lt-ltb LINE-MAX (length l) h) refl
-
-  module _ (short : length l ≤ LINE-MAX) where
-    pub line-brief : length l < 2 → lineOf l ≡ Unread
-    unfolding lineOf
-    line-brief h = rw (le-ltb LINE-MAX (length l) short, le-ltb 1 (length l) (omega arith)) refl
-
-    module _ (more : 2 ≤ length l) where
-      pub line-unopened : (getD l 0 0 ≡ OPEN → ⊥) → lineOf l ≡ Unread
-      unfolding lineOf
-      line-unopened h = rw (le-ltb LINE-MAX (length l) short, lt-ltb 1 (length l) (omega arith), ne-eqb (getD l 0 0) OPEN h) refl
-
-      pub line-unclosed : getD l 0 0 ≡ OPEN → (getD l (length l - 1) 0 ≡ CLOSE → ⊥) → lineOf l ≡ Unread
-      unfolding lineOf
-      line-unclosed o h = rw (le-ltb LINE-MAX (length l) short, lt-ltb 1 (length l) (omega arith), eq-eqb (getD l 0 0) OPEN o, ne-eqb (getD l (length l - 1) 0) CLOSE h) refl
-
-      pub line-whole : getD l 0 0 ≡ OPEN → getD l (length l - 1) 0 ≡ CLOSE → lineOf l ≡ command (word (first (inner l))) (rest (inner l))
-      unfolding lineOf
-      line-whole o h = rw (le-ltb LINE-MAX (length l) short, lt-ltb 1 (length l) (omega arith), eq-eqb (getD l 0 0) OPEN o, eq-eqb (getD l (length l - 1) 0) CLOSE h) refl
-
-      -- the part between the brackets, as the code takes it
-      pub inner-is : take (length l - 1 - 1) (drop 1 l) ≡ inner l
-      inner-is = ap (λ (n : ℕ). take n (drop 1 l)) (let e : length l - 1 - 1 ≡ length l - 2 = omega arith in e)

@@ -6,9 +6,9 @@ use Prim.Native.Nat.{ℕ, _+_, _-_, _≤_}
 use mathlib.Core.Path.{_≡_, refl, _∙_, sym, ap}
 use mathlib.Core.List.{List, _++_, append-nil}
 use Rattle.sheet_law.specs.Reading.{first, rest}
-use Rattle.sheet_reading.proofs.Bytes.{first-here, rest-here, first-next, rest-next, first-end, rest-end}
-use Rattle.sheet_reading.proofs.cut.Statement.{statement}
-use Rattle.sheet_reading.proofs.cut.Tie as tie
+use Rattle.sheet_fields.proofs.Bytes.{first-here, rest-here, first-next, rest-next, first-end, rest-end}
+use Rattle.sheet_fields.proofs.cut.Statement.{statement}
+use Rattle.sheet_fields.proofs.cut.Tie as tie
 
 abbrev Inv-loop : tie.InvT-loop
 Inv-loop s i₀ i = (i ≤ length s) × (first s ≡ take i s ++ first (drop i s)) × (rest s ≡ rest (drop i s))

@@ -5,9 +5,9 @@ use lib.IntN.{ℤ, negsuc, _-ℤ_}
 use mir.Syntax.{w16}
 use mir.Val.{SFits, toZ}
 use mir.ValLaws.{toZ-pos, toZ-ofZ}
-use Rattle.sheet_reading.proofs.Bytes.{one-less}
-use Rattle.sheet_reading.proofs.below.Statement.{statement}
-use Rattle.sheet_reading.proofs.below.Tie as tie
+use Rattle.sheet_fields.proofs.Bytes.{one-less}
+use Rattle.sheet_fields.proofs.below.Statement.{statement}
+use Rattle.sheet_fields.proofs.below.Tie as tie
 
 is : (c : tie.Start) → negsuc 0 -ℤ toZ w16 (c .args .v) ≡ negsuc (c .args .v)
 is c = ap (λ (z : ℤ). negsuc 0 -ℤ z) (toZ-pos w16 _ (c .pre)) ∙ one-less (c .args .v)

@@ -6,9 +6,10 @@ use Prim.Native.Nat.{_-_, _≤_}
 use mathlib.Core.Path.{_≡_, refl, _∙_, sym, ap}
 use Rattle.sheet_law.specs.declared.Number.{Number}
 use Rattle.sheet_law.specs.Reading.{digits as digits-of, within}
-use Rattle.sheet_reading.proofs.Bytes.{digits-end, digits-low, digits-high, digits-next, too-wide, within-fine}
-use Rattle.sheet_reading.proofs.digits.Statement.{statement}
-use Rattle.sheet_reading.proofs.digits.Tie as tie
+use Rattle.sheet_law.specs.Widths.{within-fine}
+use Rattle.sheet_fields.proofs.Bytes.{digits-end, digits-low, digits-high, digits-next, too-wide}
+use Rattle.sheet_fields.proofs.digits.Statement.{statement}
+use Rattle.sheet_fields.proofs.digits.Tie as tie
 
 abbrev wide-enough : Number → Number
 wide-enough x = within 18446744073709551615 x

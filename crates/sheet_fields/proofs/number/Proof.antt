@@ -5,9 +5,10 @@ use mathlib.Core.Logic.{⊎-elim}
 use mathlib.Core.Path.{_≡_, _∙_, sym, ap}
 use Rattle.sheet_law.specs.declared.Number.{Number}
 use Rattle.sheet_law.specs.Reading.{digits as digits-of, plain, within}
-use Rattle.sheet_reading.proofs.Bytes.{plain-empty, plain-zero, plain-digits, within-fine, within-bad, within-is, within-less}
-use Rattle.sheet_reading.proofs.number.Statement.{statement}
-use Rattle.sheet_reading.proofs.number.Tie as tie
+use Rattle.sheet_law.specs.Widths.{within-fine, within-bad, within-is, within-less}
+use Rattle.sheet_fields.proofs.Bytes.{plain-empty, plain-zero, plain-digits}
+use Rattle.sheet_fields.proofs.number.Statement.{statement}
+use Rattle.sheet_fields.proofs.number.Tie as tie
 
 plain-is : (c : tie.Joined2) → plain (c .before .before .before .args .s .now) ≡ digits-of 0 (c .before .before .before .args .s .now)
 plain-is c = plain-digits (c .before .before .before .args .s .now) (c .before .if1 .left) (⊎-elim (λ t h. t .2 .left) (λ t h. absurd (omega (arith, t .left))) (c .if2 .came))

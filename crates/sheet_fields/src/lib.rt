@@ -1,0 +1,170 @@
+// The fields of a run sheet's line, by the definitions of sheet_law: words compared, a text cut at its first space, decimals and pitches read.
+// Every public function is total. It uses calls and sheet_law.
+ghost use Prim.Native.Nat.{_<_, _≤_};
+ghost use mathlib.Core.Path.{_≡_};
+ghost use lib.IntN.{pos, negsuc};
+ghost use lib.ListN.{length, take, drop};
+ghost use Rattle.calls.specs.Numbers.{NUMBER-MAX};
+ghost use Rattle.sheet_law.specs.Text.{same as Text·same};
+ghost use Rattle.sheet_law.specs.Reading.{PITCH-MAX, PITCH-MIN, first, rest, digits as Reading·digits, plain, within, negative as Reading·negative, positive as Reading·positive, angle as Reading·angle};
+use calls::NUMBER_MAX;
+use calls::Pitch;
+use sheet_law::Angle;
+use sheet_law::Number;
+
+const SPACE: u8 = b' ';
+
+const MINUS: u8 = b'-';
+
+const DIGIT_0: u8 = b'0';
+
+const DIGIT_9: u8 = b'9';
+
+// The greatest pitch of 16 bits, and the size of the least.
+const PITCH_MAX: u64 = 32767;
+
+const PITCH_MIN: u64 = 32768;
+
+// Whether two texts are the same.
+pub fn same(s: &[u8], w: &[u8]) -> bool
+    ensures { λ r. ⌜ r ≡ Text·same (now (s .entry)) (now (w .entry)) ⌝ }
+{
+    let n = s.len();
+    if n != w.len() {
+        return false;
+    }
+    let mut i: usize = 0;
+    while i < n {
+        if s[i] != w[i] {
+            return false;
+        }
+        i += 1;
+    }
+    true
+}
+
+// A text cut at its first space: where the text before it ends, and where the text after it begins.
+pub struct Parts {
+    pub end: usize,
+    pub next: usize,
+}
+
+pub fn cut(s: &[u8]) -> Parts
+    ensures { λ r. ⌜ (r .end ≤ length (now (s .entry))) × (r .next ≤ length (now (s .entry))) × (take (r .end) (now (s .entry)) ≡ first (now (s .entry))) × (drop (r .next) (now (s .entry)) ≡ rest (now (s .entry))) ⌝ }
+{
+    let mut i: usize = 0;
+    while i < s.len() {
+        if s[i] == SPACE {
+            return Parts {
+                end: i,
+                next: i + 1,
+            };
+        }
+        i += 1;
+    }
+    Parts { end: i, next: i }
+}
+
+fn wide(b: u8) -> u64
+    ensures { λ r. ⌜ r ≡ b ⌝ }
+{
+    b as u64
+}
+
+// The number that digits spell, read from the left, where 64 bits hold it.
+fn digits(s: &[u8]) -> Number
+    ensures { λ r. ⌜ r ≡ within NUMBER-MAX (Reading·digits 0 (now (s .entry))) ⌝ }
+{
+    let mut n: u64 = 0;
+    let mut i: usize = 0;
+    loop {
+        if i >= s.len() {
+            break Number::Fine(n);
+        }
+        let b = s[i];
+        if b < DIGIT_0 {
+            break Number::Bad;
+        }
+        if b > DIGIT_9 {
+            break Number::Bad;
+        }
+        let d = wide(b - DIGIT_0);
+        if n > (NUMBER_MAX - d) / 10 {
+            break Number::Bad;
+        }
+        n = n * 10 + d;
+        i += 1;
+    }
+}
+
+// A plain decimal without leading zeros, of at most a number.
+pub fn number(s: &[u8], most: u64) -> Number
+    ensures { λ r. ⌜ r ≡ within most (plain (now (s .entry))) ⌝ }
+{
+    let n = s.len();
+    if n == 0 {
+        return Number::Bad;
+    }
+    if n > 1 {
+        if s[0] == DIGIT_0 {
+            return Number::Bad;
+        }
+    }
+    let Number::Fine(v) = digits(s) else {
+        return Number::Bad;
+    };
+    if v > most {
+        return Number::Bad;
+    }
+    Number::Fine(v)
+}
+
+// A number below 32768 as a pitch, and the pitch that is one less than its opposite.
+fn above(v: u64) -> Pitch
+    requires { ⌜ v < 32768 ⌝ }
+    ensures { λ r. ⌜ r ≡ pos v ⌝ }
+{
+    v as Pitch
+}
+
+fn below(v: u64) -> Pitch
+    requires { ⌜ v < 32768 ⌝ }
+    ensures { λ r. ⌜ r ≡ negsuc v ⌝ }
+{
+    -1 - (v as Pitch)
+}
+
+// What stands after a minus: a decimal that is not 0.
+fn negative(s: &[u8]) -> Angle
+    ensures { λ r. ⌜ r ≡ Reading·negative (within PITCH-MIN (plain (now (s .entry)))) ⌝ }
+{
+    let Number::Fine(v) = number(s, PITCH_MIN) else {
+        return Angle::Wrong;
+    };
+    if v == 0 {
+        return Angle::Wrong;
+    }
+    Angle::At(below(v - 1))
+}
+
+fn positive(s: &[u8]) -> Angle
+    ensures { λ r. ⌜ r ≡ Reading·positive (within PITCH-MAX (plain (now (s .entry)))) ⌝ }
+{
+    let Number::Fine(v) = number(s, PITCH_MAX) else {
+        return Angle::Wrong;
+    };
+    Angle::At(above(v))
+}
+
+// A pitch: a decimal, or a minus and a decimal that is not 0.
+pub fn angle(s: &[u8]) -> Angle
+    ensures { λ r. ⌜ r ≡ Reading·angle (now (s .entry)) ⌝ }
+{
+    if s.len() == 0 {
+        return Angle::Wrong;
+    }
+    if s[0] == MINUS {
+        return negative(&s[1..]);
+    }
+    positive(s)
+}

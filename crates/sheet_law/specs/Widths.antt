@@ -1,0 +1,74 @@
+-- Laws of `within`, and of what was read of a part of a text. Assumes nothing.
+-- The number that is read, and whether there is one.
+use Prim.Native.Nat.{ℕ, _-_, _<_, _≤_}
+use native.Mathlib.Omega.{arith}
+use mathlib.Core.Path.{_≡_, refl, sym, _∙_, ap}
+use mathlib.Core.Bool.{Bool, true, false}
+use lib.Dec.{ltb}
+use mathlib.Core.List.{List}
+use lib.ListN.{length, take, drop, length-drop}
+use lib.Seq.{take-all}
+use borrow.Author.Tests.{lt-ltb, le-ltb, ltb-false, ltb-true}
+use Rattle.calls.specs.Base.{pick}
+use Rattle.sheet_law.specs.declared.Number.{Number}
+use Rattle.sheet_law.specs.declared.Number.the-variants.{Fine, Bad}
+use Rattle.sheet_law.specs.Reading.{within}
+
+numberIn : Number → ℕ
+numberIn Bad = 0
+numberIn (Fine n) = n
+
+isBad : Number → ℕ
+isBad Bad = 1
+isBad (Fine n) = 0
+
+pub fine-same : (n m : ℕ) → Fine n ≡ Fine m → n ≡ m
+unfolding numberIn
+fine-same n m e = ap numberIn e
+
+pub bad-fine : (n : ℕ) → Bad ≡ Fine n → ⊥
+unfolding isBad
+bad-fine n e = let z : _≡_ {A = ℕ} 1 0 = ap isBad e in omega arith
+
+-- What is at most a number, and what is not.
+pub within-fine : (most n : ℕ) → n ≤ most → within most (Fine n) ≡ Fine n
+within-fine most n h = rw (le-ltb most n h) refl
+
+pub within-bad : (most n : ℕ) → most < n → within most (Fine n) ≡ Bad
+within-bad most n h = rw (lt-ltb most n h) refl
+
+pub within-most : (most : ℕ) (x : Number) (n : ℕ) → within most x ≡ Fine n → n ≤ most
+within-most most Bad n e = absurd (bad-fine n e)
+within-most most (Fine m) n e = go (ltb most m) refl e
+  where
+    go : (t : Bool) → t ≡ ltb most m → pick t Bad (Fine m) ≡ Fine n → n ≤ most
+    go true d f = absurd (bad-fine n f)
+    go false d f = let a : m ≤ most = ltb-false most m (sym d) in omega (arith, a, fine-same m n f)
+
+pub within-is : (most : ℕ) (x : Number) (n : ℕ) → within most x ≡ Fine n → x ≡ Fine n
+within-is most Bad n e = e
+within-is most (Fine m) n e = go (ltb most m) e
+  where
+    go : (t : Bool) → pick t Bad (Fine m) ≡ Fine n → Fine m ≡ Fine n
+    go true f = absurd (bad-fine n f)
+    go false f = f
+
+-- What is too wide for the greater bound is too wide for the less.
+pub within-less : (less more : ℕ) (x : Number) → less ≤ more → within more x ≡ Bad → within less x ≡ Bad
+within-less less more Bad h e = refl
+within-less less more (Fine m) h e = go (ltb more m) refl e
+  where
+    go : (t : Bool) → t ≡ ltb more m → pick t Bad (Fine m) ≡ Bad → within less (Fine m) ≡ Bad
+    go true d f = let a : more < m = ltb-true more m (sym d) in within-bad less m (omega arith)
+    go false d f = absurd (bad-fine m (sym f))
+
+-- a part that reaches the end
+pub tail : (n : ℕ) (l : List ℕ) → take (length l - n) (drop n l) ≡ drop n l
+tail n l = take-all (length l - n) (drop n l) (rw length-drop (omega arith))
+
+pub tail-is : (n : ℕ) (l k : List ℕ) → drop n l ≡ k → take (length l - n) (drop n l) ≡ k
+tail-is n l k e = tail n l ∙ e
+
+-- What was read of a part, of the whole that the part is equal to.
+pub read-part : (f : List ℕ → Number) (x : Number) (l k : List ℕ) (y : Number) → x ≡ f l → l ≡ k → x ≡ y → f k ≡ y
+read-part f x l k y e p q = ap f (sym p) ∙ sym e ∙ q
