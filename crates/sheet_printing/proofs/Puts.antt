@@ -1,10 +1,11 @@
 -- Texts that are put one after another: byte by byte, and text by text. Assumes nothing.
 use Prim.Native.Nat.{ℕ, suc, _+_, _≤_, _<_}
 use native.Mathlib.Nat.{add-zero}
+use native.Mathlib.Numerals.{add-one}
 use native.Mathlib.Omega.{arith}
 use mathlib.Core.Bool.{Bool, true, false, not}
 use mathlib.Core.Path.{_≡_, refl, sym, ap, _∙_}
-use mathlib.Core.List.{List, _++_, append-assoc, append-nil}
+use mathlib.Core.List.{List, [], _∷_, _++_, append-assoc, append-nil}
 use lib.Dec.{leb}
 use lib.ListN.{length, getD, set, take, length-append}
 use lib.Seq.{take-suc, take-suc-set, take-all}
@@ -24,6 +25,10 @@ one-more d e s place i h k p =
 
 pub all-put : (d e s : List ℕ) (place i : ℕ) → i ≤ length s → length s ≤ i → take (place + i) e ≡ take place d ++ take i s → Added (length s) s d place e (place + i)
 all-put d e s place i h k p = record { small = omega arith; moved = omega arith; bytes = p ∙ ap (λ (l : List ℕ). take place d ++ l) (take-all i s k) }
+
+-- One byte.
+pub byte-put : (d : List ℕ) (place v : ℕ) → place < length d → Added 1 (v ∷ []) d place (set d place v) (place + 1)
+byte-put d place v h = record { small = omega arith; moved = refl; bytes = ap (λ (n : ℕ). take n (set d place v)) (add-one place) ∙ take-suc-set d place v h }
 
 -- A text, and a text after it; d, e and f are the buffer before, between and after.
 module _ {n m : ℕ} {x y d e f : List ℕ} {a b c : ℕ} where

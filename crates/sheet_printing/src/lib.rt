@@ -7,8 +7,9 @@ ghost use lib.Dec.{leb};
 ghost use lib.ListN.{length, drop};
 ghost use lib.IntN.{natAbs};
 ghost use Rattle.sheet_law.specs.Text.{text, lastDigit, decimal};
-ghost use Rattle.sheet_law.specs.Printing.{withOne, withTwo, pitchText, walkText, replyText, printedLine};
+ghost use Rattle.sheet_law.specs.Printing.{pitchText, walkText, replyText, printedLine};
 ghost use Rattle.sheet_printing.specs.Buffer.{Added, Printed};
+ghost use Rattle.sheet_printing.specs.Phrases.{withNumbers, phraseText, Says};
 use calls::Pitch;
 use calls::Reply;
 use calls::WalkReply;
@@ -18,6 +19,9 @@ use sheet_law::PRINTED_MAX;
 const DIGITS: usize = 20;
 
 const DIGIT_0: u64 = 48;
+
+// The most bytes of a word, with the space after it.
+const WORD_MAX: usize = 9;
 
 // Puts a text at a place of the buffer, and says where the next byte goes.
 fn put(out: &mut [u8], at: usize, s: &[u8]) -> usize
@@ -75,21 +79,61 @@ fn put_number(out: &mut [u8], at: usize, n: u64) -> usize
     put(out, at, &all[from..])
 }
 
-// A word with one number, and with two.
-fn put_one(out: &mut [u8], at: usize, s: &[u8], a: u64) -> usize
-    requires { ⌜ at + (length (now s) + 20) ≤ length (now out) ⌝ }
-    ensures { λ r. ⌜ Added (length (now (s .entry)) + 20) (withOne (now (s .entry)) a) (now (out .entry)) at (now (out .exit)) r ⌝ }
-{
-    let next = put(out, at, s);
-    put_number(out, next, a)
+// A word that begins a reply: its bytes with spaces after them, how many bytes count, and how many numbers follow.
+struct Word([u8; WORD_MAX], usize, usize);
+
+const MADE: Word = Word(*b"made     ", 4, 0);
+
+const AT: Word = Word(*b"at       ", 3, 1);
+
+const PITCH: Word = Word(*b"pitch    ", 6, 1);
+
+const PITCH_BELOW: Word = Word(*b"pitch -  ", 7, 1);
+
+const LEFT: Word = Word(*b"left     ", 4, 0);
+
+const CLAIMED: Word = Word(*b"claimed  ", 8, 1);
+
+const WRITTEN: Word = Word(*b"written  ", 8, 1);
+
+const SWAPPED: Word = Word(*b"swapped  ", 8, 1);
+
+const SYNCED: Word = Word(*b"synced   ", 7, 1);
+
+const RAISED: Word = Word(*b"raised   ", 6, 0);
+
+const SHARED: Word = Word(*b"shared   ", 6, 0);
+
+const WAITING: Word = Word(*b"waiting  ", 8, 1);
+
+const SPENT: Word = Word(*b"spent    ", 5, 0);
+
+const QUIET: Word = Word(*b"quiet    ", 5, 0);
+
+const RETURNED: Word = Word(*b"returned ", 9, 2);
+
+const FREED: Word = Word(*b"freed    ", 6, 2);
+
+const REFUSED: Word = Word(*b"refused  ", 8, 1);
+
+const UNREAD: Word = Word(*b"unread   ", 6, 0);
+
+// What a line says: a word, and its numbers.
+struct Phrase {
+    word: Word,
+    first: u64,
+    second: u64,
 }
 
-fn put_two(out: &mut [u8], at: usize, s: &[u8], a: u64, b: u64) -> usize
-    requires { ⌜ at + (length (now s) + 41) ≤ length (now out) ⌝ }
-    ensures { λ r. ⌜ Added (length (now (s .entry)) + 41) (withTwo (now (s .entry)) a b) (now (out .entry)) at (now (out .exit)) r ⌝ }
+fn say(word: Word, first: u64, second: u64) -> Phrase
+    requires { ⌜ word .1 ≤ 9 ⌝ }
+    ensures { λ p. ⌜ Says p (withNumbers word first second) ⌝ }
 {
-    let next = put_one(out, at, s, a);
-    put_one(out, next, b" ", b)
+    Phrase {
+        word: word,
+        first: first,
+        second: second,
+    }
 }
 
 // The size of a pitch.
@@ -103,48 +147,66 @@ fn size(v: Pitch) -> u64
     }
 }
 
-fn put_pitch(out: &mut [u8], at: usize, v: Pitch) -> usize
-    requires { ⌜ at + 50 ≤ length (now out) ⌝ }
-    ensures { λ r. ⌜ Added 50 (pitchText v) (now (out .entry)) at (now (out .exit)) r ⌝ }
+fn say_pitch(v: Pitch) -> Phrase
+    ensures { λ p. ⌜ Says p (pitchText v) ⌝ }
 {
     if v < 0 {
-        put_one(out, at, b"pitch -", size(v))
+        say(PITCH_BELOW, size(v), 0)
     } else {
-        put_one(out, at, b"pitch ", size(v))
+        say(PITCH, size(v), 0)
     }
 }
 
-fn put_walk(out: &mut [u8], at: usize, o: WalkReply) -> usize
-    requires { ⌜ at + 50 ≤ length (now out) ⌝ }
-    ensures { λ r. ⌜ Added 50 (walkText o) (now (out .entry)) at (now (out .exit)) r ⌝ }
+fn say_walk(o: WalkReply) -> Phrase
+    ensures { λ p. ⌜ Says p (walkText o) ⌝ }
 {
     match o {
-        WalkReply::Waiting(w) => put_one(out, at, b"waiting ", w),
-        WalkReply::Spent => put(out, at, b"spent"),
-        WalkReply::Quiet => put(out, at, b"quiet"),
-        WalkReply::Returned(looks, waits) => put_two(out, at, b"returned ", looks, waits),
+        WalkReply::Waiting(w) => say(WAITING, w, 0),
+        WalkReply::Spent => say(SPENT, 0, 0),
+        WalkReply::Quiet => say(QUIET, 0, 0),
+        WalkReply::Returned(looks, waits) => say(RETURNED, looks, waits),
     }
 }
 
-fn put_reply(out: &mut [u8], at: usize, a: Reply) -> usize
-    requires { ⌜ at + 50 ≤ length (now out) ⌝ }
-    ensures { λ r. ⌜ Added 50 (replyText a) (now (out .entry)) at (now (out .exit)) r ⌝ }
+fn say_reply(a: Reply) -> Phrase
+    ensures { λ p. ⌜ Says p (replyText a) ⌝ }
 {
     match a {
-        Reply::Made => put(out, at, b"made"),
-        Reply::At(n) => put_one(out, at, b"at ", n),
-        Reply::Pitch(v) => put_pitch(out, at, v),
-        Reply::Left => put(out, at, b"left"),
-        Reply::Claimed(s) => put_one(out, at, b"claimed ", s),
-        Reply::Written(n) => put_one(out, at, b"written ", n),
-        Reply::Swapped(s) => put_one(out, at, b"swapped ", s),
-        Reply::Synced(m) => put_one(out, at, b"synced ", m),
-        Reply::Raised => put(out, at, b"raised"),
-        Reply::Shared => put(out, at, b"shared"),
-        Reply::Walked(o) => put_walk(out, at, o),
-        Reply::Freed(s, n) => put_two(out, at, b"freed ", s, n),
-        Reply::Refused(n) => put_one(out, at, b"refused ", n),
+        Reply::Made => say(MADE, 0, 0),
+        Reply::At(n) => say(AT, n, 0),
+        Reply::Pitch(v) => say_pitch(v),
+        Reply::Left => say(LEFT, 0, 0),
+        Reply::Claimed(s) => say(CLAIMED, s, 0),
+        Reply::Written(n) => say(WRITTEN, n, 0),
+        Reply::Swapped(s) => say(SWAPPED, s, 0),
+        Reply::Synced(m) => say(SYNCED, m, 0),
+        Reply::Raised => say(RAISED, 0, 0),
+        Reply::Shared => say(SHARED, 0, 0),
+        Reply::Walked(o) => say_walk(o),
+        Reply::Freed(s, n) => say(FREED, s, n),
+        Reply::Refused(n) => say(REFUSED, n, 0),
     }
+}
+
+// Puts what a phrase says.
+fn put_phrase(out: &mut [u8], at: usize, p: Phrase) -> usize
+    requires { ⌜ (at + 50 ≤ length (now out)) × (p .word .1 ≤ 9) ⌝ }
+    ensures { λ r. ⌜ Added 50 (phraseText p) (now (out .entry)) at (now (out .exit)) r ⌝ }
+{
+    let word = p.word;
+    let bytes = word.0;
+    let length = word.1;
+    let numbers = word.2;
+    let next = put(out, at, &bytes[..length]);
+    if numbers == 0 {
+        return next;
+    }
+    let then = put_number(out, next, p.first);
+    if numbers == 1 {
+        return then;
+    }
+    out[then] = b' ';
+    put_number(out, then + 1, p.second)
 }
 
 // Whether the longest line fits at a place of the buffer.
@@ -158,25 +220,33 @@ pub fn fits(out: &[u8], at: usize) -> bool
     at <= n - PRINTED_MAX
 }
 
-// The line for a reply, and for a line that is unread.
-pub fn print_reply(out: &mut [u8], at: usize, n: u64, a: Reply) -> usize
-    ensures { λ r. ⌜ Printed (printedLine n (replyText a)) (now (out .entry)) at (now (out .exit)) r ⌝ }
+// A line, `(n phrase)`.
+fn print_line(out: &mut [u8], at: usize, n: u64, p: Phrase) -> usize
+    requires { ⌜ p .word .1 ≤ 9 ⌝ }
+    ensures { λ r. ⌜ Printed (printedLine n (phraseText p)) (now (out .entry)) at (now (out .exit)) r ⌝ }
 {
     if !fits(out, at) {
         return at;
     }
-    let next = put_one(out, at, b"(", n);
-    let then = put(out, next, b" ");
-    let end = put_reply(out, then, a);
-    put(out, end, b")\n")
+    out[at] = b'(';
+    let next = put_number(out, at + 1, n);
+    out[next] = b' ';
+    let end = put_phrase(out, next + 1, p);
+    out[end] = b')';
+    let last = end + 1;
+    out[last] = b'\n';
+    last + 1
+}
+
+// The line for a reply, and for a line that is unread.
+pub fn print_reply(out: &mut [u8], at: usize, n: u64, a: Reply) -> usize
+    ensures { λ r. ⌜ Printed (printedLine n (replyText a)) (now (out .entry)) at (now (out .exit)) r ⌝ }
+{
+    print_line(out, at, n, say_reply(a))
 }
 
 pub fn print_unread(out: &mut [u8], at: usize, n: u64) -> usize
     ensures { λ r. ⌜ Printed (printedLine n (text "unread")) (now (out .entry)) at (now (out .exit)) r ⌝ }
 {
-    if !fits(out, at) {
-        return at;
-    }
-    let next = put_one(out, at, b"(", n);
-    put(out, next, b" unread)\n")
+    print_line(out, at, n, say(UNREAD, 0, 0))
 }
