@@ -1,5 +1,4 @@
 -- What feeding a desk comes to. Where it stops in the input is left open: it stops early only if the longest line would no longer fit into the output. Assumes nothing.
--- From the desk d, `used` bytes of the input were taken; e is the desk after them, and the first `made` bytes of the output are what was printed for them.
 use Prim.Native.Nat.{ℕ, zero, suc, _+_, _≤_, _<_}
 use native.Mathlib.Omega.{arith}
 use mathlib.Core.Path.{_≡_, ap}
@@ -7,10 +6,16 @@ use mathlib.Core.Logic.{_⊎_, inl, inr}
 use mathlib.Core.List.{List, []}
 use lib.ListN.{length, take}
 use lib.Seq.{length-take-le}
+use Rattle.sheet.specs.declared.Fed.{Fed}
 use Rattle.sheet_law.specs.Reading.{LINE-MAX}
 use Rattle.sheet_law.specs.Printing.{PRINTED-MAX}
 use Rattle.sheet_law.specs.Sheet.{Desk, fed, printed}
 
+-- What feeding answers: the numbers of the desk after, and how far it went.
+abbrev pub fedAt : ℕ → ℕ → ℕ → ℕ → Fed
+fedAt lines count used made = record { lines = lines; count = count; used = used; made = made }
+
+-- From the desk d, `used` bytes of the input were taken; e is the desk after them, and the first `made` bytes of the output are what was printed for them.
 pub record Went (d : Desk) (input : List ℕ) (used : ℕ) (e : Desk) (out : List ℕ) (made : ℕ) : Type 0 where
   pub taken : used ≤ length input
   pub filled : made ≤ length out

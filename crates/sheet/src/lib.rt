@@ -6,7 +6,7 @@ ghost use lib.ListN.{length, take};
 ghost use Rattle.statement.specs.Machine.{state};
 ghost use Rattle.sheet_law.specs.Reading.{lineOf};
 ghost use Rattle.sheet_law.specs.Sheet.{joined, desk, ending};
-ghost use Rattle.sheet.specs.Feeds.{KEPT, FeedsIn};
+ghost use Rattle.sheet.specs.Feeds.{KEPT, FeedsIn, fedAt};
 use calls::Pitch;
 use sheet_law::LINE_MAX;
 use sheet_law::Line;
@@ -34,6 +34,17 @@ pub struct Fed {
     pub used: usize,
     // how many bytes of the output were printed
     pub made: usize,
+}
+
+fn progress(lines: u64, count: usize, used: usize, made: usize) -> Fed
+    ensures { λ r. ⌜ r ≡ fedAt lines count used made ⌝ }
+{
+    Fed {
+        lines,
+        count,
+        used,
+        made,
+    }
 }
 
 // A byte joins what is kept of its line.
@@ -64,29 +75,22 @@ pub fn feed(
     words: &mut [u64],
     room: &mut [Pitch],
     kept: &mut [u8],
-    lines: u64,
-    count: usize,
+    mut lines: u64,
+    mut count: usize,
     input: &[u8],
     out: &mut [u8],
 ) -> Fed
     ensures { λ r. ⌜ FeedsIn (length (now (kept .entry))) (desk lines (take count (now (kept .entry))) (state (now (words .entry)) (now (room .entry)))) (now (input .entry)) (r .used) (desk (r .lines) (take (r .count) (now (kept .exit))) (state (now (words .exit)) (now (room .exit)))) (now (out .exit)) (r .made) ⌝ }
 {
     if kept.len() != KEPT {
-        return Fed {
-            lines: lines,
-            count: count,
-            used: 0,
-            made: 0,
-        };
+        return progress(lines, count, 0, 0);
     }
-    let mut read = lines;
-    let mut held = count;
     let mut used: usize = 0;
     let mut made: usize = 0;
     while used < input.len() {
         let b = input[used];
         if b != NEWLINE {
-            held = keep(kept, held, b);
+            count = keep(kept, count, b);
             used += 1;
             continue;
         }
@@ -94,22 +98,17 @@ pub fn feed(
             break;
         }
         used += 1;
-        read = std::num::wrapping_add_u64(read, 1);
-        let Line::Read(command) = line_in(kept, held) else {
-            made = print_unread(out, made, read);
-            held = 0;
+        lines = std::num::wrapping_add_u64(lines, 1);
+        let Line::Read(command) = line_in(kept, count) else {
+            made = print_unread(out, made, lines);
+            count = 0;
             continue;
         };
         let reply = play(words, room, command);
-        made = print_reply(out, made, read, reply);
-        held = 0;
+        made = print_reply(out, made, lines, reply);
+        count = 0;
     }
-    Fed {
-        lines: read,
-        count: held,
-        used: used,
-        made: made,
-    }
+    progress(lines, count, used, made)
 }
 
 // The end of the input: the last line may lack its newline.
@@ -124,12 +123,7 @@ pub fn finish(
     ensures { λ r. ⌜ FeedsIn (length (now (kept .entry))) (desk lines (take count (now (kept .entry))) (state (now (words .entry)) (now (room .entry)))) (ending (take count (now (kept .entry)))) (r .used) (desk (r .lines) (take (r .count) (now (kept .exit))) (state (now (words .exit)) (now (room .exit)))) (now (out .exit)) (r .made) ⌝ }
 {
     if count == 0 {
-        return Fed {
-            lines: lines,
-            count: count,
-            used: 0,
-            made: 0,
-        };
+        return progress(lines, count, 0, 0);
     }
     feed(words, room, kept, lines, count, b"\n", out)
 }

@@ -1,5 +1,4 @@
 -- Laws of `within`, and of what was read of a part of a text. Assumes nothing.
--- The number that is read, and whether there is one.
 use Prim.Native.Nat.{ℕ, _-_, _<_, _≤_}
 use native.Mathlib.Omega.{arith}
 use mathlib.Core.Path.{_≡_, refl, sym, _∙_, ap}
@@ -14,6 +13,7 @@ use Rattle.sheet_law.specs.declared.Number.{Number}
 use Rattle.sheet_law.specs.declared.Number.the-variants.{Fine, Bad}
 use Rattle.sheet_law.specs.Reading.{within}
 
+-- The number that is read, and whether there is one.
 numberIn : Number → ℕ
 numberIn Bad = 0
 numberIn (Fine n) = n

@@ -1,5 +1,4 @@
 -- The table of words, the numbers of the kinds and the shape of a line, as the tests of the code meet them. Assumes nothing.
--- A row of the table of words names the word, or the rows after it do.
 use Prim.Native.Nat.{ℕ, _-_, _<_, _≤_}
 use Prim.Native.String.{String}
 use native.Mathlib.Omega.{arith}
@@ -18,6 +17,7 @@ use Rattle.sheet_law.specs.Text.{text, same, OPEN, CLOSE}
 use Rattle.sheet_law.specs.Reading.{first, rest, kindNamed, Row, named, word, command, inner, LINE-MAX, lineOf}
 use Rattle.sheet_law.specs.Reading.Row.{_names_}
 
+-- A row of the table of words names the word, or the rows after it do.
 module _ (w : List ℕ) (t : String) (x : Word) (rows : List Row) where
   pub named-here : same w (text t) ≡ true → named ((t names x) ∷ rows) w ≡ x
   unfolding named

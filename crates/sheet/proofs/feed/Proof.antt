@@ -4,7 +4,7 @@ use native.Mathlib.Omega.{arith}
 use lib.ListN.{length, take}
 use Prim.Native.Nat.{_+_, _-_}
 use mathlib.Core.Path.{_≡_, refl, sym, _∙_}
-use mathlib.Core.Logic.{inl, inr}
+use mathlib.Core.Logic.{_⊎_, inl, inr, ⊎-elim}
 use Rattle.statement.specs.Machine.{state}
 use Rattle.sheet_law.specs.Sheet.{desk}
 use Rattle.sheet.specs.Feeds.{KEPT, Went}
@@ -13,13 +13,16 @@ use Rattle.sheet.proofs.feed.Statement.{statement}
 use Rattle.sheet.proofs.feed.Tie as tie
 
 abbrev Inv-loop : tie.InvT-loop
-Inv-loop words₀ room₀ kept₀ lines count input out₀ read₀ held₀ used₀ made₀ words room kept out read held used made = (length kept ≡ KEPT) × (length words ≡ length words₀) × (length room ≡ length room₀) × (length out ≡ length out₀) × (length kept₀ ≡ KEPT) × Went (desk lines (take count kept₀) (state words₀ room₀)) input used (desk read (take held kept) (state words room)) out made
+Inv-loop words₀ room₀ kept₀ lines₀ count₀ input out₀ used₀ made₀ words room kept lines count out used made = (length kept ≡ KEPT) × (length words ≡ length words₀) × (length room ≡ length room₀) × (length out ≡ length out₀) × (length kept₀ ≡ KEPT) × Went (desk lines₀ (take count₀ kept₀) (state words₀ room₀)) input used (desk lines (take count kept) (state words room)) out made
 
 abbrev μ-loop : tie.MeasureT-loop
-μ-loop words₀ room₀ kept₀ lines count input out₀ read₀ held₀ used₀ made₀ words room kept out read held used made = length input - used
+μ-loop words₀ room₀ kept₀ lines₀ count₀ input out₀ used₀ made₀ words room kept lines count out used made = length input - used
+
+progress-requires : tie.Need-progress-requires Inv-loop μ-loop
+progress-requires c κs = search needs
 
 returns : tie.Need-returns Inv-loop μ-loop
-returns c = record { right = λ e. absurd (c .if1 .taken e); wrong = λ ne. (refl, refl, refl) }
+returns c = rw (c .progress .ensures) (record { right = λ e. absurd (c .before .if1 .taken e); wrong = λ ne. (refl, refl, refl) })
 
 loop-holds : tie.Need-loop-holds Inv-loop μ-loop
 loop-holds c = (c .if1 .left, refl, refl, refl, c .if1 .left, begins _ _ _)
@@ -38,7 +41,7 @@ loop-less c = omega (arith, c .before .before .before .before .before .before .l
 
 loop-again : tie.Need-loop-again Inv-loop μ-loop
 loop-again c = let k = c .before .before .before .before .before .before .before .loop in
-    (c .before .before .keep .kept .0 ∙ k .inv .0, k .inv .1, k .inv .2, k .inv .3, k .inv .4, joins _ _ (k .used) (k .read) (take (k .held) (k .kept)) (state (k .words) (k .room)) (k .out) (k .made) (k .inv .5) (c .before .before .before .before .before .before .loop-test .taken) (c .before .before .before .before .if2 .taken) _ (c .before .before .keep .ensures))
+    (c .before .before .keep .kept .0 ∙ k .inv .0, k .inv .1, k .inv .2, k .inv .3, k .inv .4, joins _ _ (k .used) (k .lines) (take (k .count) (k .kept)) (state (k .words) (k .room)) (k .out) (k .made) (k .inv .5) (c .before .before .before .before .before .before .loop-test .taken) (c .before .before .before .before .if2 .taken) _ (c .before .before .keep .ensures))
 
 fits-requires : tie.Need-fits-requires Inv-loop μ-loop
 fits-requires c κs = search needs
@@ -71,7 +74,7 @@ loop-again-2 c = let k = c .before .before .before .before .before .before .befo
   k .inv .2,
   c .before .before .print-unread .kept .0 ∙ k .inv .3,
   k .inv .4,
-  ends-unread _ _ (k .used) (k .read) (take (k .held) (k .kept)) (state (k .words) (k .room)) (k .out) (k .made) (k .inv .5) (c .before .before .before .before .before .before .before .before .before .before .before .before .before .before .loop-test .taken) (c .before .before .before .before .before .before .before .before .before .before .before .before .if2 .left) room _ _ (c .before .before .print-unread .kept .0) _ (c .before .before .before .before .before .before .before .before .wrapping-add-u64 .ensures) (sym (c .before .before .before .before .before .before .line-in .ensures) ∙ c .before .before .before .before .enum-told .given .1) (c .before .before .print-unread .ensures .put room),
+  ends-unread _ _ (k .used) (k .lines) (take (k .count) (k .kept)) (state (k .words) (k .room)) (k .out) (k .made) (k .inv .5) (c .before .before .before .before .before .before .before .before .before .before .before .before .before .before .loop-test .taken) (c .before .before .before .before .before .before .before .before .before .before .before .before .if2 .left) room _ _ (c .before .before .print-unread .kept .0) _ (c .before .before .before .before .before .before .before .before .wrapping-add-u64 .ensures) (sym (c .before .before .before .before .before .before .line-in .ensures) ∙ c .before .before .before .before .enum-told .given .1) (c .before .before .print-unread .ensures .put room),
 )
 
 play-requires : tie.Need-play-requires Inv-loop μ-loop
@@ -90,44 +93,36 @@ loop-again-3 c = let k = c .before .before .before .before .before .before .befo
   c .before .before .before .before .before .before .before .play .kept .1 .0 ∙ k .inv .2,
   c .before .before .print-reply .kept .0 ∙ k .inv .3,
   k .inv .4,
-  ends-read _ _ (k .used) (k .read) (take (k .held) (k .kept)) (state (k .words) (k .room)) (k .out) (k .made) (k .inv .5) (c .before .before .before .before .before .before .before .before .before .before .before .before .before .before .before .before .before .before .before .before .before .loop-test .taken) (c .before .before .before .before .before .before .before .before .before .before .before .before .before .before .before .before .before .before .before .if2 .left) room _ _ (c .before .before .print-reply .kept .0) _ (c .before .before .before .before .before .before .before .before .before .before .before .before .before .before .before .wrapping-add-u64 .ensures) _ (sym (c .before .before .before .before .before .before .before .before .before .before .before .before .before .line-in .ensures) ∙ c .before .before .before .before .before .before .before .before .before .before .before .command .given .1) _ _ (c .before .before .before .before .before .before .before .play .ensures) (c .before .before .print-reply .ensures .put room),
+  ends-read _ _ (k .used) (k .lines) (take (k .count) (k .kept)) (state (k .words) (k .room)) (k .out) (k .made) (k .inv .5) (c .before .before .before .before .before .before .before .before .before .before .before .before .before .before .before .before .before .before .before .before .before .loop-test .taken) (c .before .before .before .before .before .before .before .before .before .before .before .before .before .before .before .before .before .before .before .if2 .left) room _ _ (c .before .before .print-reply .kept .0) _ (c .before .before .before .before .before .before .before .before .before .before .before .before .before .before .before .wrapping-add-u64 .ensures) _ (sym (c .before .before .before .before .before .before .before .before .before .before .before .before .before .line-in .ensures) ∙ c .before .before .before .before .before .before .before .before .before .before .before .command .given .1) _ _ (c .before .before .before .before .before .before .before .play .ensures) (c .before .before .print-reply .ensures .put room),
 )
 
+progress-requires-2 : tie.Need-progress-requires-2 Inv-loop μ-loop
+progress-requires-2 c κs = search needs
+
 same-length : tie.Need-same-length Inv-loop μ-loop
-same-length c = c .before .loop .inv .1
+same-length c = c .before .before .loop .inv .1
 
 same-length-2 : tie.Need-same-length-2 Inv-loop μ-loop
-same-length-2 c = c .before .loop .inv .2
+same-length-2 c = c .before .before .loop .inv .2
 
 same-length-3 : tie.Need-same-length-3 Inv-loop μ-loop
-same-length-3 c = c .before .loop .inv .0 ∙ sym (c .before .loop .inv .4)
+same-length-3 c = c .before .before .loop .inv .0 ∙ sym (c .before .before .loop .inv .4)
 
 same-length-4 : tie.Need-same-length-4 Inv-loop μ-loop
-same-length-4 c = c .before .loop .inv .3
+same-length-4 c = c .before .before .loop .inv .3
 
 returns-2 : tie.Need-returns-2 Inv-loop μ-loop
-returns-2 c = record {
-  right = λ e. record { went = c .before .loop .inv .5; stops = inl (omega (arith, c .loop-test .left, c .before .loop .inv .5 .taken)) };
-  wrong = λ ne. absurd (ne (c .before .before .if1 .left));
-}
-
-same-length-5 : tie.Need-same-length-5 Inv-loop μ-loop
-same-length-5 c = c .before .before .before .before .before .before .loop .inv .1
-
-same-length-6 : tie.Need-same-length-6 Inv-loop μ-loop
-same-length-6 c = c .before .before .before .before .before .before .loop .inv .2
-
-same-length-7 : tie.Need-same-length-7 Inv-loop μ-loop
-same-length-7 c = c .before .before .before .before .before .before .loop .inv .0 ∙ sym (c .before .before .before .before .before .before .loop .inv .4)
-
-same-length-8 : tie.Need-same-length-8 Inv-loop μ-loop
-same-length-8 c = c .before .before .before .before .before .before .loop .inv .3
-
-returns-3 : tie.Need-returns-3 Inv-loop μ-loop
-returns-3 c = record {
-  right = λ e. record { went = c .before .before .before .before .before .before .loop .inv .5; stops = inr (fits-false (c .before .before .before .before .before .before .loop .made + 74) (length (c .before .before .before .before .before .before .loop .out)) (c .before .fits2 .result) (c .before .fits2 .ensures) (c .if3 .taken)) };
-  wrong = λ ne. absurd (ne (c .before .before .before .before .before .before .before .if1 .left));
-}
+returns-2 c = let k = c .before .before .loop in
+    rw (c .progress2 .ensures) (record {
+      right = λ e. record {
+        went = k .inv .5;
+        stops = ⊎-elim
+            (λ t. inl (omega (arith, t .left, k .inv .5 .taken)))
+            (λ t. inr (fits-false (k .made + 74) (length (k .out)) (t .4 .result) (t .4 .ensures) (t .5 .taken)))
+            (c .before .loop-test .came);
+      };
+      wrong = λ ne. absurd (ne (c .before .before .before .if1 .left));
+    })
 
 pub feed-spec : {M : Type 1} → statement M
 feed-spec =
@@ -135,6 +130,7 @@ feed-spec =
     (tie.spec
     Inv-loop
     μ-loop
+    progress-requires
     returns
     loop-holds
     shared-slice-read-b
@@ -155,13 +151,9 @@ feed-spec =
     print-reply-requires
     loop-less-3
     loop-again-3
+    progress-requires-2
     same-length
     same-length-2
     same-length-3
     same-length-4
-    returns-2
-    same-length-5
-    same-length-6
-    same-length-7
-    same-length-8
-    returns-3)
+    returns-2)

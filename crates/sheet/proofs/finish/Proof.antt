@@ -7,8 +7,11 @@ use Rattle.sheet.proofs.Turns.{begins, ending-none, ending-some}
 use Rattle.sheet.proofs.finish.Statement.{statement}
 use Rattle.sheet.proofs.finish.Tie as tie
 
+progress-requires : tie.Need-progress-requires
+progress-requires c κs = search needs
+
 returns : tie.Need-returns
-returns c = record { right = λ e. record { went = begins _ _ _; stops = inl (sym (ap length (ending-none (c .before .before .before .before .args .kept .now) (c .before .before .before .before .args .count) (c .if1 .taken)))) }; wrong = λ ne. (refl, refl, refl) }
+returns c = rw (c .progress .ensures) (record { right = λ e. record { went = begins _ _ _; stops = inl (sym (ap length (ending-none (c .before .before .before .before .before .args .kept .now) (c .before .before .before .before .before .args .count) (c .before .if1 .taken)))) }; wrong = λ ne. (refl, refl, refl) })
 
 slice-aggregate-feed : tie.Need-slice-aggregate-feed
 slice-aggregate-feed c = search needs
@@ -35,6 +38,7 @@ pub finish-spec : {M : Type 1} → statement M
 finish-spec =
     tie.close
     (tie.spec
+    progress-requires
     returns
     slice-aggregate-feed
     feed-requires

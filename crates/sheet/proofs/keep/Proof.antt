@@ -1,9 +1,12 @@
--- A byte joins the line while it has at most 80. Assumes nothing.
 use borrow.Author.Needs.{needs}
+use native.Mathlib.Omega.{arith}
+use lib.ListN.{length, getD, set, length-set}
 use mathlib.Core.Path.{sym}
 use Rattle.sheet.proofs.Turns.{joined-full, joined-set}
 use Rattle.sheet.proofs.keep.Statement.{statement}
 use Rattle.sheet.proofs.keep.Tie as tie
+use Rattle.sheet.proofs.keep.Reads as reads
+use Rattle.sheet.proofs.keep.Lts as lts
 
 returns : tie.Need-returns
 returns c = sym (joined-full (c .before .args .kept .now) (c .before .args .count) (c .before .args .b) (c .before .pre) (c .if1 .taken))

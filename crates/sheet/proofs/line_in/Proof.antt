@@ -1,11 +1,15 @@
--- A line of more than 80 kept bytes is unread; any other is parsed. Assumes nothing.
 use borrow.Author.Needs.{needs}
 use native.Mathlib.Omega.{arith}
+use lib.ListN.{length, getD, set, length-set}
 use mathlib.Core.Path.{sym}
+use native.Mathlib.Omega.{arith}
 use lib.Seq.{length-take-le}
 use Rattle.sheet.proofs.Turns.{kept-long}
 use Rattle.sheet.proofs.line_in.Statement.{statement}
 use Rattle.sheet.proofs.line_in.Tie as tie
+use Rattle.sheet.proofs.line_in.Reads as reads
+use Rattle.sheet.proofs.line_in.Lts as lts
+use Rattle.sheet_reading.proofs.parse.Reads as parse-reads
 
 returns : tie.Need-returns
 returns c = sym (kept-long (c .before .before .args .kept .now) (c .before .before .args .count) (c .before .before .pre) (c .if1 .taken))
