@@ -8,67 +8,67 @@ enum-told : tie.Need-enum-told
 enum-told c = search needs
 
 making-requires : tie.Need-making-requires
-making-requires c κs = search needs
+making-requires c κs = tt
 
 enum-told-2 : tie.Need-enum-told-2
 enum-told-2 c = search needs
 
 one-requires : tie.Need-one-requires
-one-requires c κs = search needs
+one-requires c κs = tt
 
 enum-told-3 : tie.Need-enum-told-3
 enum-told-3 c = search needs
 
 two-requires : tie.Need-two-requires
-two-requires c κs = search needs
+two-requires c κs = tt
 
 enum-told-4 : tie.Need-enum-told-4
 enum-told-4 c = search needs
 
 one-requires-2 : tie.Need-one-requires-2
-one-requires-2 c κs = search needs
+one-requires-2 c κs = tt
 
 enum-told-5 : tie.Need-enum-told-5
 enum-told-5 c = search needs
 
 two-requires-2 : tie.Need-two-requires-2
-two-requires-2 c κs = search needs
+two-requires-2 c κs = tt
 
 enum-told-6 : tie.Need-enum-told-6
 enum-told-6 c = search needs
 
 writing-requires : tie.Need-writing-requires
-writing-requires c κs = search needs
+writing-requires c κs = tt
 
 enum-told-7 : tie.Need-enum-told-7
 enum-told-7 c = search needs
 
 one-requires-3 : tie.Need-one-requires-3
-one-requires-3 c κs = search needs
+one-requires-3 c κs = tt
 
 enum-told-8 : tie.Need-enum-told-8
 enum-told-8 c = search needs
 
 one-requires-4 : tie.Need-one-requires-4
-one-requires-4 c κs = search needs
+one-requires-4 c κs = tt
 
 enum-told-9 : tie.Need-enum-told-9
 enum-told-9 c = search needs
 
 one-requires-5 : tie.Need-one-requires-5
-one-requires-5 c κs = search needs
+one-requires-5 c κs = tt
 
 enum-told-10 : tie.Need-enum-told-10
 enum-told-10 c = search needs
 
 two-requires-3 : tie.Need-two-requires-3
-two-requires-3 c κs = search needs
+two-requires-3 c κs = tt
 
 enum-told-11 : tie.Need-enum-told-11
 enum-told-11 c = search needs
 
 one-requires-6 : tie.Need-one-requires-6
-one-requires-6 c κs = search needs
+one-requires-6 c κs = tt
 
 enum-told-12 : tie.Need-enum-told-12
 enum-told-12 c = search needs

@@ -9,7 +9,7 @@ slice-aggregate-same : tie.Need-slice-aggregate-same
 slice-aggregate-same c = search needs
 
 same-requires : tie.Need-same-requires
-same-requires c κs = search needs
+same-requires c κs = tt
 
 returns : tie.Need-returns
 unfolding kindNamed
@@ -19,7 +19,7 @@ slice-aggregate-same-2 : tie.Need-slice-aggregate-same-2
 slice-aggregate-same-2 c = search needs
 
 same-requires-2 : tie.Need-same-requires-2
-same-requires-2 c κs = search needs
+same-requires-2 c κs = tt
 
 returns-2 : tie.Need-returns-2
 unfolding kindNamed

@@ -22,13 +22,13 @@ readers-read : (c : tie.After-known-told2) → narrow (first (rest (c .before .b
 readers-read c = read-part narrow (c .before .before .before .number .result) (take (c .before .before .before .before .before .cut2 .result .end) (take (length (c .before .before .before .before .before .before .before .before .before .before .before .before .before .before .args .s .now) - c .before .before .before .before .before .before .before .before .before .before .before .before .cut .result .next) (drop (c .before .before .before .before .before .before .before .before .before .before .before .before .cut .result .next) (c .before .before .before .before .before .before .before .before .before .before .before .before .before .before .args .s .now)))) (first (rest (c .before .before .before .before .before .before .before .before .before .before .before .before .before .before .args .s .now))) (Fine (c .before .readers .given .0 .0)) (c .before .before .before .number .ensures) (c .before .before .before .before .before .cut2 .ensures .2 ∙ ap first (others (c .before .before .before .before .before .before))) (c .before .readers .given .1)
 
 cut-requires : tie.Need-cut-requires
-cut-requires c κs = search needs
+cut-requires c κs = tt
 
 slice-aggregate-kind : tie.Need-slice-aggregate-kind
 slice-aggregate-kind c = sym (length-take-le (c .before .cut .result .end) (c .before .before .before .args .s .now) (c .before .cut .ensures .0))
 
 kind-requires : tie.Need-kind-requires
-kind-requires c κs = search needs
+kind-requires c κs = tt
 
 enum-known-k : tie.Need-enum-known-k
 enum-known-k c = search needs
@@ -49,13 +49,13 @@ part-t-end : tie.Need-part-t-end
 part-t-end c = omega (arith, c .before .before .before .before .before .cut .ensures .1)
 
 cut-requires-2 : tie.Need-cut-requires-2
-cut-requires-2 c κs = search needs
+cut-requires-2 c κs = tt
 
 slice-aggregate-number : tie.Need-slice-aggregate-number
 slice-aggregate-number c = sym (length-take-le (c .before .cut2 .result .end) (take (length (c .before .before .before .before .before .before .before .before .before .before .args .s .now) - c .before .before .before .before .before .before .before .before .cut .result .next) (drop (c .before .before .before .before .before .before .before .before .cut .result .next) (c .before .before .before .before .before .before .before .before .before .before .args .s .now))) (c .before .cut2 .ensures .0))
 
 number-requires : tie.Need-number-requires
-number-requires c κs = search needs
+number-requires c κs = tt
 
 enum-known-readers : tie.Need-enum-known-readers
 enum-known-readers c = search needs
@@ -82,7 +82,7 @@ part-making-of-end : tie.Need-part-making-of-end
 part-making-of-end c = omega (arith, c .before .before .before .before .before .cut2 .ensures .1)
 
 making-of-requires : tie.Need-making-of-requires
-making-of-requires c κs = search needs
+making-of-requires c κs = tt
 
 returns-3 : tie.Need-returns-3
 returns-3 c = rw (kind-read (c .before .before .before .before .before .before .before .before .before), readers-read (c .before .before), sym (tail-is (c .before .before .before .before .before .before .before .cut2 .result .next) (take (length (c .before .before .before .before .before .before .before .before .before .before .before .before .before .before .before .before .args .s .now) - c .before .before .before .before .before .before .before .before .before .before .before .before .before .before .cut .result .next) (drop (c .before .before .before .before .before .before .before .before .before .before .before .before .before .before .cut .result .next) (c .before .before .before .before .before .before .before .before .before .before .before .before .before .before .before .before .args .s .now))) (rest (rest (c .before .before .before .before .before .before .before .before .before .before .before .before .before .before .before .before .args .s .now))) (c .before .before .before .before .before .before .before .cut2 .ensures .3 ∙ ap rest (others (c .before .before .before .before .before .before .before .before))))) (c .making-of .ensures)

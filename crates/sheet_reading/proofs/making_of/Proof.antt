@@ -24,13 +24,13 @@ last-part : (c : tie.After-known-told2) → take (length (take (length (c .befor
 last-part c = tail-is (c .before .before .before .before .before .cut2 .result .next) (take (length (c .before .before .before .before .before .before .before .before .before .before .before .before .before .before .args .s .now) - c .before .before .before .before .before .before .before .before .before .before .before .before .cut .result .next) (drop (c .before .before .before .before .before .before .before .before .before .before .before .before .cut .result .next) (c .before .before .before .before .before .before .before .before .before .before .before .before .before .before .args .s .now))) (rest (rest (c .before .before .before .before .before .before .before .before .before .before .before .before .before .before .args .s .now))) (c .before .before .before .before .before .cut2 .ensures .3 ∙ ap rest (others (c .before .before .before .before .before .before)))
 
 cut-requires : tie.Need-cut-requires
-cut-requires c κs = search needs
+cut-requires c κs = tt
 
 slice-aggregate-number : tie.Need-slice-aggregate-number
 slice-aggregate-number c = sym (length-take-le (c .before .cut .result .end) (c .before .before .before .args .s .now) (c .before .cut .ensures .0))
 
 number-requires : tie.Need-number-requires
-number-requires c κs = search needs
+number-requires c κs = tt
 
 enum-known-publishers : tie.Need-enum-known-publishers
 enum-known-publishers c = search needs
@@ -51,13 +51,13 @@ part-t-end : tie.Need-part-t-end
 part-t-end c = omega (arith, c .before .before .before .before .before .cut .ensures .1)
 
 cut-requires-2 : tie.Need-cut-requires-2
-cut-requires-2 c κs = search needs
+cut-requires-2 c κs = tt
 
 slice-aggregate-number-2 : tie.Need-slice-aggregate-number-2
 slice-aggregate-number-2 c = sym (length-take-le (c .before .cut2 .result .end) (take (length (c .before .before .before .before .before .before .before .before .before .before .args .s .now) - c .before .before .before .before .before .before .before .before .cut .result .next) (drop (c .before .before .before .before .before .before .before .before .cut .result .next) (c .before .before .before .before .before .before .before .before .before .before .args .s .now))) (c .before .cut2 .ensures .0))
 
 number-requires-2 : tie.Need-number-requires-2
-number-requires-2 c κs = search needs
+number-requires-2 c κs = tt
 
 enum-known-slots : tie.Need-enum-known-slots
 enum-known-slots c = search needs
@@ -78,7 +78,7 @@ part-number-end : tie.Need-part-number-end
 part-number-end c = omega (arith, c .before .before .before .before .before .cut2 .ensures .1)
 
 number-requires-3 : tie.Need-number-requires-3
-number-requires-3 c κs = search needs
+number-requires-3 c κs = tt
 
 enum-known-version : tie.Need-enum-known-version
 enum-known-version c = search needs

@@ -9,7 +9,7 @@ use Rattle.sheet_reading.proofs.one.Statement.{statement}
 use Rattle.sheet_reading.proofs.one.Tie as tie
 
 number-requires : tie.Need-number-requires
-number-requires c κs = search needs
+number-requires c κs = tt
 
 enum-known-n : tie.Need-enum-known-n
 enum-known-n c = search needs
@@ -24,7 +24,7 @@ cast-one-of : tie.Need-cast-one-of
 cast-one-of c = let a = within-most 65535 (plain (c .before .before .before .before .before .args .s .now)) (c .before .n .given .0 .0) (sym (c .before .before .before .number .ensures) ∙ c .before .n .given .1) in omega (arith, a)
 
 one-of-requires : tie.Need-one-of-requires
-one-of-requires c κs = search needs
+one-of-requires c κs = tt
 
 returns-2 : tie.Need-returns-2
 returns-2 c = rw (sym (c .before .before .before .before .number .ensures) ∙ c .before .before .n .given .1) (c .one-of .ensures)

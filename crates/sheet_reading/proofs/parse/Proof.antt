@@ -47,13 +47,13 @@ part-inner-end : tie.Need-part-inner-end
 part-inner-end c = search needs
 
 cut-requires : tie.Need-cut-requires
-cut-requires c κs = search needs
+cut-requires c κs = tt
 
 slice-aggregate-word : tie.Need-slice-aggregate-word
 slice-aggregate-word c = sym (length-take-le (c .before .cut .result .end) (take (length (c .before .before .before .before .before .before .before .before .before .before .args .line .now) - 1 - 1) (drop 1 (c .before .before .before .before .before .before .before .before .before .before .args .line .now))) (c .before .cut .ensures .0))
 
 word-requires : tie.Need-word-requires
-word-requires c κs = search needs
+word-requires c κs = tt
 
 sub-command : tie.Need-sub-command
 sub-command c = omega (arith, c .before .before .cut .ensures .1)
@@ -65,7 +65,7 @@ part-command-end : tie.Need-part-command-end
 part-command-end c = omega (arith, c .before .before .cut .ensures .1)
 
 command-requires : tie.Need-command-requires
-command-requires c κs = search needs
+command-requires c κs = tt
 
 returns-5 : tie.Need-returns-5
 returns-5 c = c .command .ensures

@@ -18,13 +18,13 @@ rest-read : (c : tie.After-known-told2) → narrow (rest (c .before .before .bef
 rest-read c = read-part narrow (c .before .before .before .number2 .result) (take (length (c .before .before .before .before .before .before .before .before .before .before .before .before .args .s .now) - c .before .before .before .before .before .before .before .before .before .before .cut .result .next) (drop (c .before .before .before .before .before .before .before .before .before .before .cut .result .next) (c .before .before .before .before .before .before .before .before .before .before .before .before .args .s .now))) (rest (c .before .before .before .before .before .before .before .before .before .before .before .before .args .s .now)) (Fine (c .before .m .given .0 .0)) (c .before .before .before .number2 .ensures) (tail-is (c .before .before .before .before .before .before .before .before .before .before .cut .result .next) (c .before .before .before .before .before .before .before .before .before .before .before .before .args .s .now) (rest (c .before .before .before .before .before .before .before .before .before .before .before .before .args .s .now)) (c .before .before .before .before .before .before .before .before .before .before .cut .ensures .3)) (c .before .m .given .1)
 
 cut-requires : tie.Need-cut-requires
-cut-requires c κs = search needs
+cut-requires c κs = tt
 
 slice-aggregate-number : tie.Need-slice-aggregate-number
 slice-aggregate-number c = sym (length-take-le (c .before .cut .result .end) (c .before .before .before .args .s .now) (c .before .cut .ensures .0))
 
 number-requires : tie.Need-number-requires
-number-requires c κs = search needs
+number-requires c κs = tt
 
 enum-known-n : tie.Need-enum-known-n
 enum-known-n c = search needs
@@ -45,7 +45,7 @@ part-number-end : tie.Need-part-number-end
 part-number-end c = omega (arith, c .before .before .before .before .before .cut .ensures .1)
 
 number-requires-2 : tie.Need-number-requires-2
-number-requires-2 c κs = search needs
+number-requires-2 c κs = tt
 
 enum-known-m : tie.Need-enum-known-m
 enum-known-m c = search needs
@@ -66,7 +66,7 @@ cast-two-of-2 : tie.Need-cast-two-of-2
 cast-two-of-2 c = let a = within-most 65535 (plain (rest (c .before .before .before .before .before .before .before .before .before .before .before .before .args .s .now))) (c .before .m .given .0 .0) (rest-read c) in omega (arith, a)
 
 two-of-requires : tie.Need-two-of-requires
-two-of-requires c κs = search needs
+two-of-requires c κs = tt
 
 returns-3 : tie.Need-returns-3
 returns-3 c = rw (first-read (c .before), rest-read (c .before)) (c .two-of .ensures)

@@ -10,7 +10,7 @@ slice-aggregate-same : tie.Need-slice-aggregate-same
 slice-aggregate-same c = search needs
 
 same-requires : tie.Need-same-requires
-same-requires c κs = search needs
+same-requires c κs = tt
 
 returns : tie.Need-returns
 returns c = sym (named-here _ "store" Store _ (sym (c .before .same .ensures) ∙ c .if1 .taken))
@@ -19,7 +19,7 @@ slice-aggregate-same-2 : tie.Need-slice-aggregate-same-2
 slice-aggregate-same-2 c = search needs
 
 same-requires-2 : tie.Need-same-requires-2
-same-requires-2 c κs = search needs
+same-requires-2 c κs = tt
 
 returns-2 : tie.Need-returns-2
 returns-2 c = sym (named-next _ "store" Store _ (sym (c .before .before .before .before .same .ensures) ∙ c .before .before .before .if1 .left)
@@ -29,7 +29,7 @@ slice-aggregate-same-3 : tie.Need-slice-aggregate-same-3
 slice-aggregate-same-3 c = search needs
 
 same-requires-3 : tie.Need-same-requires-3
-same-requires-3 c κs = search needs
+same-requires-3 c κs = tt
 
 returns-3 : tie.Need-returns-3
 returns-3 c = sym (named-next _ "store" Store _ (sym (c .before .before .before .before .before .before .before .same .ensures) ∙ c .before .before .before .before .before .before .if1 .left)
@@ -40,7 +40,7 @@ slice-aggregate-same-4 : tie.Need-slice-aggregate-same-4
 slice-aggregate-same-4 c = search needs
 
 same-requires-4 : tie.Need-same-requires-4
-same-requires-4 c κs = search needs
+same-requires-4 c κs = tt
 
 returns-4 : tie.Need-returns-4
 returns-4 c = sym (named-next _ "store" Store _ (sym (c .before .before .before .before .before .before .before .before .before .before .same .ensures) ∙ c .before .before .before .before .before .before .before .before .before .if1 .left)
@@ -52,7 +52,7 @@ slice-aggregate-same-5 : tie.Need-slice-aggregate-same-5
 slice-aggregate-same-5 c = search needs
 
 same-requires-5 : tie.Need-same-requires-5
-same-requires-5 c κs = search needs
+same-requires-5 c κs = tt
 
 returns-5 : tie.Need-returns-5
 returns-5 c = sym (named-next _ "store" Store _ (sym (c .before .before .before .before .before .before .before .before .before .before .before .before .before .same .ensures) ∙ c .before .before .before .before .before .before .before .before .before .before .before .before .if1 .left)
@@ -65,7 +65,7 @@ slice-aggregate-same-6 : tie.Need-slice-aggregate-same-6
 slice-aggregate-same-6 c = search needs
 
 same-requires-6 : tie.Need-same-requires-6
-same-requires-6 c κs = search needs
+same-requires-6 c κs = tt
 
 returns-6 : tie.Need-returns-6
 returns-6 c = sym (named-next _ "store" Store _ (sym (c .before .before .before .before .before .before .before .before .before .before .before .before .before .before .before .before .same .ensures) ∙ c .before .before .before .before .before .before .before .before .before .before .before .before .before .before .before .if1 .left)
@@ -79,7 +79,7 @@ slice-aggregate-same-7 : tie.Need-slice-aggregate-same-7
 slice-aggregate-same-7 c = search needs
 
 same-requires-7 : tie.Need-same-requires-7
-same-requires-7 c κs = search needs
+same-requires-7 c κs = tt
 
 returns-7 : tie.Need-returns-7
 returns-7 c = sym (named-next _ "store" Store _ (sym (c .before .before .before .before .before .before .before .before .before .before .before .before .before .before .before .before .before .before .before .same .ensures) ∙ c .before .before .before .before .before .before .before .before .before .before .before .before .before .before .before .before .before .before .if1 .left)
@@ -94,7 +94,7 @@ slice-aggregate-same-8 : tie.Need-slice-aggregate-same-8
 slice-aggregate-same-8 c = search needs
 
 same-requires-8 : tie.Need-same-requires-8
-same-requires-8 c κs = search needs
+same-requires-8 c κs = tt
 
 returns-8 : tie.Need-returns-8
 returns-8 c = sym (named-next _ "store" Store _ (sym (c .before .before .before .before .before .before .before .before .before .before .before .before .before .before .before .before .before .before .before .before .before .before .same .ensures) ∙ c .before .before .before .before .before .before .before .before .before .before .before .before .before .before .before .before .before .before .before .before .before .if1 .left)
@@ -110,7 +110,7 @@ slice-aggregate-same-9 : tie.Need-slice-aggregate-same-9
 slice-aggregate-same-9 c = search needs
 
 same-requires-9 : tie.Need-same-requires-9
-same-requires-9 c κs = search needs
+same-requires-9 c κs = tt
 
 returns-9 : tie.Need-returns-9
 returns-9 c = sym (named-next _ "store" Store _ (sym (c .before .before .before .before .before .before .before .before .before .before .before .before .before .before .before .before .before .before .before .before .before .before .before .before .before .same .ensures) ∙ c .before .before .before .before .before .before .before .before .before .before .before .before .before .before .before .before .before .before .before .before .before .before .before .before .if1 .left)
@@ -127,7 +127,7 @@ slice-aggregate-same-10 : tie.Need-slice-aggregate-same-10
 slice-aggregate-same-10 c = search needs
 
 same-requires-10 : tie.Need-same-requires-10
-same-requires-10 c κs = search needs
+same-requires-10 c κs = tt
 
 returns-10 : tie.Need-returns-10
 returns-10 c = sym (named-next _ "store" Store _ (sym (c .before .before .before .before .before .before .before .before .before .before .before .before .before .before .before .before .before .before .before .before .before .before .before .before .before .before .before .before .same .ensures) ∙ c .before .before .before .before .before .before .before .before .before .before .before .before .before .before .before .before .before .before .before .before .before .before .before .before .before .before .before .if1 .left)
@@ -145,7 +145,7 @@ slice-aggregate-same-11 : tie.Need-slice-aggregate-same-11
 slice-aggregate-same-11 c = search needs
 
 same-requires-11 : tie.Need-same-requires-11
-same-requires-11 c κs = search needs
+same-requires-11 c κs = tt
 
 returns-11 : tie.Need-returns-11
 returns-11 c = sym (named-next _ "store" Store _ (sym (c .before .before .before .before .before .before .before .before .before .before .before .before .before .before .before .before .before .before .before .before .before .before .before .before .before .before .before .before .before .before .before .same .ensures) ∙ c .before .before .before .before .before .before .before .before .before .before .before .before .before .before .before .before .before .before .before .before .before .before .before .before .before .before .before .before .before .before .if1 .left)

@@ -17,13 +17,13 @@ first-read : (c : tie.After-known-told) → narrow (first (c .before .before .be
 first-read c = read-part narrow (c .before .before .before .number .result) (take (c .before .before .before .before .before .cut .result .end) (c .before .before .before .before .before .before .before .args .s .now)) (first (c .before .before .before .before .before .before .before .args .s .now)) (Fine (c .before .p .given .0 .0)) (c .before .before .before .number .ensures) (c .before .before .before .before .before .cut .ensures .2) (c .before .p .given .1)
 
 cut-requires : tie.Need-cut-requires
-cut-requires c κs = search needs
+cut-requires c κs = tt
 
 slice-aggregate-number : tie.Need-slice-aggregate-number
 slice-aggregate-number c = sym (length-take-le (c .before .cut .result .end) (c .before .before .before .args .s .now) (c .before .cut .ensures .0))
 
 number-requires : tie.Need-number-requires
-number-requires c κs = search needs
+number-requires c κs = tt
 
 enum-known-p : tie.Need-enum-known-p
 enum-known-p c = search needs
@@ -44,7 +44,7 @@ part-angle-end : tie.Need-part-angle-end
 part-angle-end c = omega (arith, c .before .before .before .before .before .cut .ensures .1)
 
 angle-requires : tie.Need-angle-requires
-angle-requires c κs = search needs
+angle-requires c κs = tt
 
 enum-known-v : tie.Need-enum-known-v
 enum-known-v c = search needs
