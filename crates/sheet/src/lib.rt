@@ -1,5 +1,5 @@
 // A run sheet from bytes to bytes, by the definition of sheet_law, however the input is cut into reads, on the lent words of a store and the lent room for its entries.
-// `feed` takes the bytes of a read and prints a line for each line that ends in them; `finish` is for the end of the input.
+// `feed` takes the bytes of a read and prints a line for each line that ends in them, as far as the output has room; `finish` is for the end of the input.
 // It uses sheet_reading, sheet_playing, sheet_printing and what lies below.
 ghost use mathlib.Core.Path.{_≡_};
 ghost use lib.ListN.{length, take};
@@ -8,6 +8,8 @@ ghost use Rattle.sheet_law.specs.Reading.{lineOf};
 ghost use Rattle.sheet_law.specs.Sheet.{joined, desk, ending};
 ghost use Rattle.sheet.specs.Feeds.{KEPT, FeedsIn, fedAt};
 use calls::Pitch;
+use calls::SLOTS_MAX;
+use calls::TABLE;
 use sheet_law::LINE_MAX;
 use sheet_law::Line;
 use sheet_playing::play;
@@ -19,10 +21,10 @@ use sheet_reading::parse;
 const NEWLINE: u8 = b'\n';
 
 // How many bytes of a line are kept: one more than a line may have.
-pub const KEPT: usize = 81;
+pub const KEPT: usize = LINE_MAX + 1;
 
 // Room for the entries of the largest store.
-pub const ROOM: usize = 1024;
+pub const ROOM: usize = SLOTS_MAX as usize * TABLE;
 
 // What is kept beside the lent slices, and how far the input was taken and the output printed.
 pub struct Fed {
@@ -70,7 +72,7 @@ fn line_in(kept: &[u8], count: usize) -> Line
     parse(&kept[..count])
 }
 
-// The bytes of a read: each line that ends in them is played, and its line printed, from the start of the output on. With other than 81 bytes to keep a line in nothing is done.
+// The bytes of a read: each line that ends in them is played, and its line printed, from the start of the output on, as far as there is room. With other than 81 bytes to keep a line in nothing is done.
 pub fn feed(
     words: &mut [u64],
     room: &mut [Pitch],
@@ -80,7 +82,7 @@ pub fn feed(
     input: &[u8],
     out: &mut [u8],
 ) -> Fed
-    ensures { λ r. ⌜ FeedsIn (length (now (kept .entry))) (desk lines (take count (now (kept .entry))) (state (now (words .entry)) (now (room .entry)))) (now (input .entry)) (r .used) (desk (r .lines) (take (r .count) (now (kept .exit))) (state (now (words .exit)) (now (room .exit)))) (now (out .exit)) (r .made) ⌝ }
+    ensures { λ r. ⌜ FeedsIn (length (now (kept .entry))) (desk lines (take count (now (kept .entry))) (state (now (words .entry)) (now (room .entry)))) (now (input .entry)) (r .used) (desk (r .lines) (take (r .count) (now (kept .exit))) (state (now (words .exit)) (now (room .exit)))) (now (out .entry)) (now (out .exit)) (r .made) ⌝ }
 {
     if kept.len() != KEPT {
         return progress(lines, count, 0, 0);
@@ -120,7 +122,7 @@ pub fn finish(
     count: usize,
     out: &mut [u8],
 ) -> Fed
-    ensures { λ r. ⌜ FeedsIn (length (now (kept .entry))) (desk lines (take count (now (kept .entry))) (state (now (words .entry)) (now (room .entry)))) (ending (take count (now (kept .entry)))) (r .used) (desk (r .lines) (take (r .count) (now (kept .exit))) (state (now (words .exit)) (now (room .exit)))) (now (out .exit)) (r .made) ⌝ }
+    ensures { λ r. ⌜ FeedsIn (length (now (kept .entry))) (desk lines (take count (now (kept .entry))) (state (now (words .entry)) (now (room .entry)))) (ending (take count (now (kept .entry)))) (r .used) (desk (r .lines) (take (r .count) (now (kept .exit))) (state (now (words .exit)) (now (room .exit)))) (now (out .entry)) (now (out .exit)) (r .made) ⌝ }
 {
     if count == 0 {
         return progress(lines, count, 0, 0);

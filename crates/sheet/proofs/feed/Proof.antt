@@ -22,7 +22,7 @@ progress-requires : tie.Need-progress-requires Inv-loop μ-loop
 progress-requires c κs = search needs
 
 returns : tie.Need-returns Inv-loop μ-loop
-returns c = rw (c .progress .ensures) (record { right = λ e. absurd (c .before .if1 .taken e); wrong = λ ne. (refl, refl, refl) })
+returns c = rw (c .progress .ensures) (record { right = λ e. absurd (c .before .if1 .taken e); wrong = λ ne. (refl, refl, refl, refl) })
 
 loop-holds : tie.Need-loop-holds Inv-loop μ-loop
 loop-holds c = (c .if1 .left, refl, refl, refl, c .if1 .left, begins _ _ _)
@@ -118,7 +118,7 @@ returns-2 c = let k = c .before .before .loop in
         went = k .inv .5;
         stops = ⊎-elim
             (λ t. inl (omega (arith, t .left, k .inv .5 .taken)))
-            (λ t. inr (fits-false (k .made + 74) (length (k .out)) (t .4 .result) (t .4 .ensures) (t .5 .taken)))
+            (λ t. inr (t .0 .taken, t .2 .left, fits-false (k .made + 74) (length (k .out)) (t .4 .result) (t .4 .ensures) (t .5 .taken)))
             (c .before .loop-test .came);
       };
       wrong = λ ne. absurd (ne (c .before .before .before .if1 .left));

@@ -11,7 +11,7 @@ progress-requires : tie.Need-progress-requires
 progress-requires c κs = search needs
 
 returns : tie.Need-returns
-returns c = rw (c .progress .ensures) (record { right = λ e. record { went = begins _ _ _; stops = inl (sym (ap length (ending-none (c .before .before .before .before .before .args .kept .now) (c .before .before .before .before .before .args .count) (c .before .if1 .taken)))) }; wrong = λ ne. (refl, refl, refl) })
+returns c = rw (c .progress .ensures) (record { right = λ e. record { went = begins _ _ _; stops = inl (sym (ap length (ending-none (c .before .before .before .before .before .args .kept .now) (c .before .before .before .before .before .args .count) (c .before .if1 .taken)))) }; wrong = λ ne. (refl, refl, refl, refl) })
 
 slice-aggregate-feed : tie.Need-slice-aggregate-feed
 slice-aggregate-feed c = search needs
