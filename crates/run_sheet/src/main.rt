@@ -2,15 +2,43 @@
 // all that is known of lines, commands and replies stands in the library below it. It uses sheet, and io and libc to read and write.
 ghost use Prim.Native.Nat.{_≤_};
 ghost use mathlib.Core.Path.{_≡_};
-ghost use lib.ListN.{length};
+ghost use mathlib.Core.Bool.{true};
+ghost use lib.ListN.{length, take};
+ghost use Rattle.io.specs.Counts.{Counts};
+ghost use Rattle.statement.specs.Machine.{state};
 ghost use Rattle.sheet_law.specs.Printing.{PRINTED-MAX};
+ghost use Rattle.sheet_law.specs.Sheet.{desk, fed};
 ghost use Rattle.sheet.specs.Feeds.{KEPT};
 use calls::Pitch;
 use layout::WORDS;
+use libc::STDERR_FILENO;
 use libc::STDIN_FILENO;
 use libc::STDOUT_FILENO;
 use sheet::KEPT;
 use sheet::ROOM;
+
+// One read: how many bytes it brought, 0 at the end of the input and, with a message, where it failed.
+fn read_some(input: &mut [u8]) -> usize
+    ensures { λ n. ⌜ Counts n (now (input .exit)) ⌝ }
+{
+    let got = libc::read(STDIN_FILENO, input);
+    if got < 0 {
+        io::write_all(STDERR_FILENO, b"run_sheet: standard input cannot be read\n");
+    }
+    io::count(got, input)
+}
+
+// Whether all of it could be written; a message where it could not.
+fn written(out: &[u8]) -> bool {
+    if io::write_all(STDOUT_FILENO, out) {
+        return true;
+    }
+    io::write_all(
+        STDERR_FILENO,
+        b"run_sheet: standard output cannot be written\n",
+    );
+    false
+}
 
 // What is kept after a read, and whether all that was printed could be written.
 struct Said {
@@ -19,7 +47,7 @@ struct Said {
     written: bool,
 }
 
-// The bytes of one read: the output is written whenever it is full, and at their end.
+// The bytes of one read: the output is written whenever it is full, and at their end. If all could be written, all of them were fed.
 fn say(
     words: &mut [u64],
     room: &mut [Pitch],
@@ -31,6 +59,7 @@ fn say(
 ) -> Said
     requires { ⌜ length (now kept) ≡ KEPT ⌝ }
     requires { ⌜ PRINTED-MAX ≤ length (now out) ⌝ }
+    ensures { λ r. ⌜ (r .written ≡ true → desk (r .lines) (take (r .count) (now (kept .exit))) (state (now (words .exit)) (now (room .exit))) ≡ fed (desk lines (take count (now (kept .entry))) (state (now (words .entry)) (now (room .entry)))) (now (input .entry))) ⌝ }
 {
     let mut read = lines;
     let mut held = count;
@@ -41,7 +70,7 @@ fn say(
         held = fed.count;
         from = from + fed.used;
         let made = fed.made;
-        if !io::write_all(STDOUT_FILENO, &out[..made]) {
+        if !written(&out[..made]) {
             return Said {
                 lines: read,
                 count: held,
@@ -68,8 +97,7 @@ fn main() {
     let mut reads = u64::MAX;
     while reads > 0 {
         reads -= 1;
-        let got = libc::read(STDIN_FILENO, &mut input);
-        let n = io::count(got, &input);
+        let n = read_some(&mut input);
         if n == 0 {
             break;
         }
@@ -90,5 +118,5 @@ fn main() {
     }
     let last = sheet::finish(&mut words, &mut room, &mut kept, lines, count, &mut out);
     let made = last.made;
-    io::write_all(STDOUT_FILENO, &out[..made]);
+    written(&out[..made]);
 }

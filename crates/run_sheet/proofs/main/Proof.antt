@@ -25,17 +25,11 @@ loop-holds c = (simp length-replicate, simp length-replicate, simp length-replic
 sub-reads : tie.Need-sub-reads Inv-loop μ-loop
 sub-reads c = omega (arith, c .loop-test .taken)
 
-slice-aggregate-read : tie.Need-slice-aggregate-read Inv-loop μ-loop
-slice-aggregate-read c = sym (c .before .before .loop .inv .3)
+slice-aggregate-read-some : tie.Need-slice-aggregate-read-some Inv-loop μ-loop
+slice-aggregate-read-some c = sym (c .before .before .loop .inv .3)
 
-read-requires : tie.Need-read-requires Inv-loop μ-loop
-read-requires c κs = search needs
-
-slice-aggregate-count : tie.Need-slice-aggregate-count Inv-loop μ-loop
-slice-aggregate-count c = search needs
-
-count-requires : tie.Need-count-requires Inv-loop μ-loop
-count-requires c κs = search needs
+read-some-requires : tie.Need-read-some-requires Inv-loop μ-loop
+read-some-requires c κs = search needs
 
 slice-aggregate-say : tie.Need-slice-aggregate-say Inv-loop μ-loop
 slice-aggregate-say c = search needs
@@ -85,11 +79,11 @@ finish-requires c κs = search needs
 array-share-prefix-out : tie.Need-array-share-prefix-out Inv-loop μ-loop
 array-share-prefix-out c = omega (arith, (c .before .before .before .before .finish .ensures .right (c .before .before .before .before .before .before .before .before .before .before .loop .inv .2)) .went .filled, c .before .before .before .before .finish .kept .1 .1 .1 .1 .1 .0, c .before .before .before .before .before .before .before .before .before .before .loop .inv .4)
 
-slice-aggregate-write-all : tie.Need-slice-aggregate-write-all Inv-loop μ-loop
-slice-aggregate-write-all c = sym (length-take-le (c .before .before .before .before .before .finish .result .made) (c .before .before .before .before .before .finish .last .1 .1 .1 .1 .1 .0) ((c .before .before .before .before .before .finish .ensures .right (c .before .before .before .before .before .before .before .before .before .before .before .loop .inv .2)) .went .filled))
+slice-aggregate-written : tie.Need-slice-aggregate-written Inv-loop μ-loop
+slice-aggregate-written c = sym (length-take-le (c .before .before .before .before .before .finish .result .made) (c .before .before .before .before .before .finish .last .1 .1 .1 .1 .1 .0) ((c .before .before .before .before .before .finish .ensures .right (c .before .before .before .before .before .before .before .before .before .before .before .loop .inv .2)) .went .filled))
 
-write-all-requires : tie.Need-write-all-requires Inv-loop μ-loop
-write-all-requires c κs = search needs
+written-requires : tie.Need-written-requires Inv-loop μ-loop
+written-requires c κs = search needs
 
 returns-2 : tie.Need-returns-2 Inv-loop μ-loop
 returns-2 c = search needs
@@ -104,10 +98,8 @@ main-spec =
     large-buffer-requires-2
     loop-holds
     sub-reads
-    slice-aggregate-read
-    read-requires
-    slice-aggregate-count
-    count-requires
+    slice-aggregate-read-some
+    read-some-requires
     slice-aggregate-say
     slice-aggregate-say-2
     slice-aggregate-say-3
@@ -124,6 +116,6 @@ main-spec =
     slice-aggregate-finish-4
     finish-requires
     array-share-prefix-out
-    slice-aggregate-write-all
-    write-all-requires
+    slice-aggregate-written
+    written-requires
     returns-2)

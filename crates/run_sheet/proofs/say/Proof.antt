@@ -1,18 +1,21 @@
--- Each turn feeds some of what is left of the read. Assumes nothing.
+-- Each turn feeds some of what is left of the read, and the state is what the bytes fed so far make of it. Assumes nothing.
 use borrow.Author.Needs.{needs}
 use native.Mathlib.Omega.{arith}
-use lib.ListN.{length}
+use lib.ListN.{length, take}
 use Prim.Native.Nat.{_+_, _-_, _≤_, _<_}
 use mathlib.Core.Path.{_≡_, refl, sym, _∙_}
 use lib.Seq.{length-take-le}
 use Rattle.sheet_law.specs.Printing.{PRINTED-MAX}
 use Rattle.sheet.specs.Feeds.{KEPT}
-use Rattle.run_sheet.proofs.Parts.{taken-within, taken-some}
+use Rattle.run_sheet.proofs.Parts.{taken-within, taken-some, fed-none, fed-further, fed-whole}
+use Rattle.calls.specs.RowLaws.{clash}
+use Rattle.statement.specs.Machine.{state}
+use Rattle.sheet_law.specs.Sheet.{desk, fed}
 use Rattle.run_sheet.proofs.say.Statement.{statement}
 use Rattle.run_sheet.proofs.say.Tie as tie
 
 abbrev Inv-loop : tie.InvT-loop
-Inv-loop words₀ room₀ kept₀ lines count input out₀ read₀ held₀ from₀ words room kept out read held from = (length words ≡ length words₀) × (length room ≡ length room₀) × (length kept ≡ length kept₀) × (length out ≡ length out₀) × (from ≤ length input) × (length kept₀ ≡ KEPT) × (PRINTED-MAX ≤ length out₀)
+Inv-loop words₀ room₀ kept₀ lines count input out₀ read₀ held₀ from₀ words room kept out read held from = (length words ≡ length words₀) × (length room ≡ length room₀) × (length kept ≡ length kept₀) × (length out ≡ length out₀) × (from ≤ length input) × (length kept₀ ≡ KEPT) × (PRINTED-MAX ≤ length out₀) × (desk read (take held kept) (state words room) ≡ fed (desk lines (take count kept₀) (state words₀ room₀)) (take from input))
 
 abbrev μ-loop : tie.MeasureT-loop
 μ-loop words₀ room₀ kept₀ lines count input out₀ read₀ held₀ from₀ words room kept out read held from = length input - from
@@ -24,7 +27,7 @@ some : (c : tie.Else1 Inv-loop μ-loop) → 0 < c .before .before .before .befor
 some c = let k = c .before .before .before .before .before .before .before .before .before .before .before .before .before .before .before .before .before .before .loop in taken-some _ (c .before .before .before .before .before .before .before .before .before .before .before .before .before .before .before .before .before .before .before .before .before .before .before .args .input .now) (k .from) (c .before .before .before .before .before .before .before .before .before .before .before .feed .result .used) _ _ (c .before .before .before .before .before .before .before .before .before .before .before .feed .result .made) (c .before .before .before .before .before .before .before .before .before .before .before .feed .ensures .right (c .before .before .before .before .before .before .before .before .before .before .before .before .before .before .before .before .before .before .loop .inv .2 ∙ c .before .before .before .before .before .before .before .before .before .before .before .before .before .before .before .before .before .before .loop .inv .5)) (c .before .before .before .before .before .before .before .before .before .before .before .before .before .before .before .before .before .loop-test .taken) (omega (arith, c .before .before .before .before .before .before .before .before .before .before .before .feed .kept .1 .1 .1 .1 .1 .1 .0, k .inv .3, k .inv .6))
 
 loop-holds : tie.Need-loop-holds Inv-loop μ-loop
-loop-holds c = (refl, refl, refl, refl, omega arith, c .before .before .before .before .pre .0, c .before .before .before .before .pre .1)
+loop-holds c = (refl, refl, refl, refl, omega arith, c .before .before .before .before .pre .0, c .before .before .before .before .pre .1, fed-none _ (c .before .before .before .before .args .input .now))
 
 sub-feed : tie.Need-sub-feed Inv-loop μ-loop
 sub-feed c = omega (arith, c .before .before .before .loop-test .taken)
@@ -41,14 +44,14 @@ feed-requires c κs = search needs
 add-from : tie.Need-add-from Inv-loop μ-loop
 add-from c = omega (arith, taken-within (c .before .before .before .before .before .before .before .before .before .before .before .before .before .before .before .before .before .before .before .before .args .input .now) (c .before .before .before .before .before .before .before .before .before .before .before .before .before .before .before .loop .from) (c .before .before .before .before .before .before .before .before .feed .result .used) (c .before .before .before .before .before .before .before .before .before .before .before .before .before .before .loop-test .taken) ((c .before .before .before .before .before .before .before .before .feed .ensures .right (c .before .before .before .before .before .before .before .before .before .before .before .before .before .before .before .loop .inv .2 ∙ c .before .before .before .before .before .before .before .before .before .before .before .before .before .before .before .loop .inv .5)) .went .taken))
 
-slice-reshare-prefix-write-all : tie.Need-slice-reshare-prefix-write-all Inv-loop μ-loop
-slice-reshare-prefix-write-all c = (c .before .before .before .before .before .before .before .before .feed .ensures .right (c .before .before .before .before .before .before .before .before .before .before .before .before .before .before .before .loop .inv .2 ∙ c .before .before .before .before .before .before .before .before .before .before .before .before .before .before .before .loop .inv .5)) .went .filled
+slice-reshare-prefix-written : tie.Need-slice-reshare-prefix-written Inv-loop μ-loop
+slice-reshare-prefix-written c = (c .before .before .before .before .before .before .before .before .feed .ensures .right (c .before .before .before .before .before .before .before .before .before .before .before .before .before .before .before .loop .inv .2 ∙ c .before .before .before .before .before .before .before .before .before .before .before .before .before .before .before .loop .inv .5)) .went .filled
 
-slice-aggregate-write-all : tie.Need-slice-aggregate-write-all Inv-loop μ-loop
-slice-aggregate-write-all c = sym (length-take-le (c .before .before .before .before .before .before .before .before .before .feed .result .made) (c .before .before .before .before .before .before .before .before .before .feed .last .1 .1 .1 .1 .1 .1 .0) ((c .before .before .before .before .before .before .before .before .before .feed .ensures .right (c .before .before .before .before .before .before .before .before .before .before .before .before .before .before .before .before .loop .inv .2 ∙ c .before .before .before .before .before .before .before .before .before .before .before .before .before .before .before .before .loop .inv .5)) .went .filled))
+slice-aggregate-written : tie.Need-slice-aggregate-written Inv-loop μ-loop
+slice-aggregate-written c = sym (length-take-le (c .before .before .before .before .before .before .before .before .before .feed .result .made) (c .before .before .before .before .before .before .before .before .before .feed .last .1 .1 .1 .1 .1 .1 .0) ((c .before .before .before .before .before .before .before .before .before .feed .ensures .right (c .before .before .before .before .before .before .before .before .before .before .before .before .before .before .before .before .loop .inv .2 ∙ c .before .before .before .before .before .before .before .before .before .before .before .before .before .before .before .before .loop .inv .5)) .went .filled))
 
-write-all-requires : tie.Need-write-all-requires Inv-loop μ-loop
-write-all-requires c κs = search needs
+written-requires : tie.Need-written-requires Inv-loop μ-loop
+written-requires c κs = search needs
 
 same-length : tie.Need-same-length Inv-loop μ-loop
 same-length c = c .before .before .before .before .before .before .before .before .before .before .before .feed .kept .0 ∙ c .before .before .before .before .before .before .before .before .before .before .before .before .before .before .before .before .before .before .loop .inv .0
@@ -63,14 +66,14 @@ same-length-4 : tie.Need-same-length-4 Inv-loop μ-loop
 same-length-4 c = c .before .before .before .before .before .before .before .before .before .before .before .feed .kept .1 .1 .1 .1 .1 .1 .0 ∙ c .before .before .before .before .before .before .before .before .before .before .before .before .before .before .before .before .before .before .loop .inv .3
 
 returns : tie.Need-returns Inv-loop μ-loop
-returns c = tt
+returns c = λ e. clash (sym e)
 
 loop-less : tie.Need-loop-less Inv-loop μ-loop
 loop-less c = omega (arith, within c, some c)
 
 loop-again : tie.Need-loop-again Inv-loop μ-loop
 loop-again c = let k = c .before .before .before .before .before .before .before .before .before .before .before .before .before .before .before .before .before .before .loop in
-    (c .before .before .before .before .before .before .before .before .before .before .before .feed .kept .0 ∙ k .inv .0, c .before .before .before .before .before .before .before .before .before .before .before .feed .kept .1 .0 ∙ k .inv .1, c .before .before .before .before .before .before .before .before .before .before .before .feed .kept .1 .1 .0 ∙ k .inv .2, c .before .before .before .before .before .before .before .before .before .before .before .feed .kept .1 .1 .1 .1 .1 .1 .0 ∙ k .inv .3, within c, k .inv .5, k .inv .6)
+    (c .before .before .before .before .before .before .before .before .before .before .before .feed .kept .0 ∙ k .inv .0, c .before .before .before .before .before .before .before .before .before .before .before .feed .kept .1 .0 ∙ k .inv .1, c .before .before .before .before .before .before .before .before .before .before .before .feed .kept .1 .1 .0 ∙ k .inv .2, c .before .before .before .before .before .before .before .before .before .before .before .feed .kept .1 .1 .1 .1 .1 .1 .0 ∙ k .inv .3, within c, k .inv .5, k .inv .6, fed-further _ _ _ (c .before .before .before .before .before .before .before .before .before .before .before .before .before .before .before .before .before .before .before .before .before .before .before .args .input .now) (k .from) (c .before .before .before .before .before .before .before .before .before .before .before .feed .result .used) (k .inv .7) ((c .before .before .before .before .before .before .before .before .before .before .before .feed .ensures .right (c .before .before .before .before .before .before .before .before .before .before .before .before .before .before .before .before .before .before .loop .inv .2 ∙ c .before .before .before .before .before .before .before .before .before .before .before .before .before .before .before .before .before .before .loop .inv .5)) .went .after))
 
 same-length-5 : tie.Need-same-length-5 Inv-loop μ-loop
 same-length-5 c = c .before .loop .inv .0
@@ -85,7 +88,7 @@ same-length-8 : tie.Need-same-length-8 Inv-loop μ-loop
 same-length-8 c = c .before .loop .inv .3
 
 returns-2 : tie.Need-returns-2 Inv-loop μ-loop
-returns-2 c = tt
+returns-2 c = λ e. fed-whole _ _ (c .before .before .before .before .before .before .args .input .now) (c .before .loop .from) (c .before .loop .inv .7) (c .loop-test .left)
 
 pub say-spec : {M : Type 1} → statement M
 say-spec =
@@ -99,9 +102,9 @@ say-spec =
     part-feed-end
     feed-requires
     add-from
-    slice-reshare-prefix-write-all
-    slice-aggregate-write-all
-    write-all-requires
+    slice-reshare-prefix-written
+    slice-aggregate-written
+    written-requires
     same-length
     same-length-2
     same-length-3
