@@ -109,27 +109,11 @@ unfolding rest
 rest-digits [] a l = refl
 rest-digits (b ∷ k) a l = rw (ne-eqb b SPACE (λ z. omega arith)) (rest-digits k (a .1) l)
 
-first-all : (k : List ℕ) → AllDigits k → first k ≡ k
-unfolding first
-first-all [] a = refl
-first-all (b ∷ k) a = rw (ne-eqb b SPACE (λ z. omega arith)) (ap (λ x. b ∷ x) (first-all k (a .1)))
-
-rest-all : (k : List ℕ) → AllDigits k → rest k ≡ []
-unfolding rest
-rest-all [] a = refl
-rest-all (b ∷ k) a = rw (ne-eqb b SPACE (λ z. omega arith)) (rest-all k (a .1))
-
 pub decimal-first : (n : ℕ) (l : List ℕ) → first (decimal n ++ (SPACE ∷ l)) ≡ decimal n
 decimal-first n = first-digits (decimal n) (all-digits n)
 
 pub decimal-rest : (n : ℕ) (l : List ℕ) → rest (decimal n ++ (SPACE ∷ l)) ≡ l
 decimal-rest n = rest-digits (decimal n) (all-digits n)
-
-pub decimal-alone : (n : ℕ) → first (decimal n) ≡ decimal n
-decimal-alone n = first-all (decimal n) (all-digits n)
-
-pub decimal-no-rest : (n : ℕ) → rest (decimal n) ≡ []
-decimal-no-rest n = rest-all (decimal n) (all-digits n)
 
 -- What stands after the digits is left as it is; so one digit more is ten times the number and the digit.
 before-append : (f n : ℕ) (k l : List ℕ) → digitsBefore f n (k ++ l) ≡ digitsBefore f n k ++ l
