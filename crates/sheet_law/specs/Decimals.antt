@@ -10,9 +10,10 @@ use lib.ListN.{length}
 use borrow.Author.Tests.{ne-eqb, eqb-true, eqb-false}
 use Rattle.calls.specs.Rows.{outside}
 use Rattle.calls.specs.RowLaws.{pick-split, within, not-outside}
-use Rattle.sheet_law.specs.declared.Number.the-variants.{Fine, Bad}
+use Rattle.sheet_law.specs.declared.Number.the-variants.{Fine}
 use Rattle.sheet_law.specs.Text.{SPACE, DIGIT-0, DIGIT-9, lastDigit, digitsBefore, decimal}
 use Rattle.sheet_law.specs.Reading.{first, rest, digits, plain}
+use Rattle.sheet_law.specs.Widths.{fine-same, bad-fine}
 
 -- A number below ten is its digit; the digits of another are those of its tenth before its last digit.
 spell-one : (f n : ℕ) (l : List ℕ) → n / 10 ≡ 0 → digitsBefore (suc f) n l ≡ lastDigit n ∷ l
@@ -77,11 +78,8 @@ plain-decimal zero = refl
 plain-decimal (suc n) = plain-before (suc (suc n)) (suc n) [] (omega arith) (λ z. omega arith) ∙ digits-decimal (suc n)
 
 -- Two different numbers have different decimals.
-fine-only : (a b : ℕ) → Fine a ≡ Fine b → a ≡ b
-fine-only a b e = cc
-
 pub decimal-injective : (n m : ℕ) → decimal n ≡ decimal m → n ≡ m
-decimal-injective n m e = fine-only n m (sym (plain-decimal n) ∙ (ap plain e ∙ plain-decimal m))
+decimal-injective n m e = fine-same n m (sym (plain-decimal n) ∙ (ap plain e ∙ plain-decimal m))
 
 -- A decimal is digits.
 abbrev pub AllDigits : List ℕ → Type 0
@@ -111,27 +109,11 @@ unfolding rest
 rest-digits [] a l = refl
 rest-digits (b ∷ k) a l = rw (ne-eqb b SPACE (λ z. omega arith)) (rest-digits k (a .1) l)
 
-first-all : (k : List ℕ) → AllDigits k → first k ≡ k
-unfolding first
-first-all [] a = refl
-first-all (b ∷ k) a = rw (ne-eqb b SPACE (λ z. omega arith)) (ap (λ x. b ∷ x) (first-all k (a .1)))
-
-rest-all : (k : List ℕ) → AllDigits k → rest k ≡ []
-unfolding rest
-rest-all [] a = refl
-rest-all (b ∷ k) a = rw (ne-eqb b SPACE (λ z. omega arith)) (rest-all k (a .1))
-
 pub decimal-first : (n : ℕ) (l : List ℕ) → first (decimal n ++ (SPACE ∷ l)) ≡ decimal n
 decimal-first n = first-digits (decimal n) (all-digits n)
 
 pub decimal-rest : (n : ℕ) (l : List ℕ) → rest (decimal n ++ (SPACE ∷ l)) ≡ l
 decimal-rest n = rest-digits (decimal n) (all-digits n)
-
-pub decimal-alone : (n : ℕ) → first (decimal n) ≡ decimal n
-decimal-alone n = first-all (decimal n) (all-digits n)
-
-pub decimal-no-rest : (n : ℕ) → rest (decimal n) ≡ []
-decimal-no-rest n = rest-all (decimal n) (all-digits n)
 
 -- What stands after the digits is left as it is; so one digit more is ten times the number and the digit.
 before-append : (f n : ℕ) (k l : List ℕ) → digitsBefore f n (k ++ l) ≡ digitsBefore f n k ++ l
@@ -153,32 +135,28 @@ pub decimal-one : (n b : ℕ) → DIGIT-0 ≤ b → b ≤ DIGIT-9 → n ≡ b - 
 unfolding decimal
 decimal-one n b low high e = spell-last n [] (omega arith) ∙ ap (λ c. c ∷ []) (omega arith)
 
--- Only its plain decimal is read as a number.
-not-bad : (n : ℕ) → Bad ≡ Fine n → ⊥
-not-bad n e = let z : _≡_ {A = ℕ} 0 1 = cc in omega arith
-
--- A digit that was read is one.
+-- Only its plain decimal is read as a number: a digit that was read is one.
 digit-is : (m b n : ℕ) (l : List ℕ) → digits m (b ∷ l) ≡ Fine n → (DIGIT-0 ≤ b) × (b ≤ DIGIT-9) × (digits (m * 10 + (b - DIGIT-0)) l ≡ Fine n)
 unfolding digits
 digit-is m b n l = pick-split (λ x. x ≡ Fine n → (DIGIT-0 ≤ b) × (b ≤ DIGIT-9) × (digits (m * 10 + (b - DIGIT-0)) l ≡ Fine n)) (outside DIGIT-0 DIGIT-9 b)
-    (λ _ e. absurd (not-bad n e))
+    (λ _ e. absurd (bad-fine n e))
     (λ o e. let w = within DIGIT-0 DIGIT-9 b o in (w .0, w .1, e))
 
 digits-only : (l : List ℕ) (m n : ℕ) → m ≢ 0 → digits m l ≡ Fine n → decimal n ≡ decimal m ++ l
 unfolding digits
-digits-only [] m n ne e = rw (append-nil (decimal m), fine-only m n e) refl
+digits-only [] m n ne e = rw (append-nil (decimal m), fine-same m n e) refl
 digits-only (b ∷ l) m n ne e =
     let d = digit-is m b n l e in
     digits-only l (m * 10 + (b - DIGIT-0)) n (λ z. omega arith) (d .2) ∙ (ap (λ k. k ++ l) (decimal-more m b ne (d .0) (d .1)) ∙ append-assoc (decimal m) (b ∷ []) l)
 
 pub plain-only : (l : List ℕ) (n : ℕ) → plain l ≡ Fine n → decimal n ≡ l
 unfolding plain digits
-plain-only [] n e = absurd (not-bad n e)
+plain-only [] n e = absurd (bad-fine n e)
 plain-only (b ∷ []) n e =
     let d = digit-is 0 b n [] e in
-    decimal-one n b (d .0) (d .1) (omega (arith, fine-only (0 * 10 + (b - DIGIT-0)) n (d .2)))
+    decimal-one n b (d .0) (d .1) (omega (arith, fine-same (0 * 10 + (b - DIGIT-0)) n (d .2)))
 plain-only (b ∷ c ∷ l) n e = pick-split (λ x. x ≡ Fine n → decimal n ≡ b ∷ c ∷ l) (eqb b DIGIT-0)
-    (λ _ z. absurd (not-bad n z))
+    (λ _ z. absurd (bad-fine n z))
     (λ t z. more (eqb-false b DIGIT-0 t) (digit-is 0 b n (c ∷ l) z))
     e
   where

@@ -10,7 +10,7 @@ use lib.Dec.{eqb, ltb}
 use lib.IntN.{ℤ, pos, negsuc}
 use lib.ListN.{length, getD, take}
 use lib.Seq.{take-suc, take-length}
-use borrow.Author.Tests.{ltb-true, ltb-false, eqb-true}
+use borrow.Author.Tests.{ltb-true, eqb-true}
 use Rattle.calls.specs.declared.Call.the-variants as call
 use Rattle.calls.specs.RowLaws.{pick-split, and-true, clash}
 use Rattle.calls.specs.Numbers.{NUMBER-MAX, KIND-NEW, KIND-OLD}
@@ -24,6 +24,7 @@ use Rattle.sheet_law.specs.declared.Line.{Line}
 use Rattle.sheet_law.specs.declared.Line.the-variants.{Read, Unread}
 use Rattle.sheet_law.specs.Text.{text, same, SPACE, OPEN, CLOSE, MINUS, decimal}
 use Rattle.sheet_law.specs.Reading.{LINE-MAX, NARROW-MAX, PITCH-MAX, PITCH-MIN, first, rest, plain, within, narrow, wide, negative, positive, angle, named, word, kindNamed, given, givenAngle, oneOf, twoOf, making, command, bracketed, inner, lineOf}
+use Rattle.sheet_law.specs.Widths.{bad-fine, within-most, within-is}
 use Rattle.sheet_law.specs.Decimals.{plain-decimal, plain-only}
 use Rattle.sheet_law.specs.Canonical.{kindText, angleText, innerText, inBrackets, commandText, FitsNarrow, FitsWide, FitsAngle, Fits, text-length, reads-back}
 
@@ -36,14 +37,7 @@ same-only (a ∷ l) (b ∷ k) e = let q = and-true (eqb a b) (same l k) e in ap�
 
 -- What a number that is read tells of its text.
 within-only : (most : ℕ) (l : List ℕ) (n : ℕ) → within most (plain l) ≡ Fine n → (decimal n ≡ l) × (n ≤ most)
-within-only most l n = go (plain l) refl
-  where
-    go : (x : Number) → plain l ≡ x → within most x ≡ Fine n → (decimal n ≡ l) × (n ≤ most)
-    go Bad p e = absurd (let z : _≡_ {A = ℕ} 0 1 = cc in omega arith)
-    go (Fine m) p e = pick-split (λ x. x ≡ Fine n → (decimal n ≡ l) × (n ≤ most)) (ltb most m)
-        (λ _ d. absurd (let z : _≡_ {A = ℕ} 0 1 = cc in omega arith))
-        (λ t d. let q : m ≡ n = cc in (plain-only l n (p ∙ d), omega (arith, ltb-false most m t)))
-        e
+within-only most l n e = (plain-only l n (within-is most (plain l) n e), within-most most (plain l) n e)
 
 -- What is read of an argument: nothing, or one whose text it is.
 module _ (Q : Line → Type 0) (bad : Q Unread) where
@@ -107,9 +101,7 @@ spaced-some (c ∷ a) b = cons-some c (a ++ (SPACE ∷ b))
 
 decimal-some : (n : ℕ) → decimal n ≢ []
 unfolding plain
-decimal-some n e =
-    let q : Fine n ≡ Bad = sym (plain-decimal n) ∙ ap plain e in
-    let z : _≡_ {A = ℕ} 0 1 = cc in omega arith
+decimal-some n e = bad-fine n (ap plain (sym e) ∙ plain-decimal n)
 
 angle-some : (v : ℤ) → angleText v ≢ []
 angle-some (pos n) = decimal-some n

@@ -39,8 +39,13 @@ unfolding fed printed
 printed-append d [] u = refl
 printed-append d (b ∷ t) u = ap (λ x. saidAt d b ++ x) (printed-append (byte d b) t u) ∙ sym (append-assoc (saidAt d b) (printed (byte d b) t) (printed (fed (byte d b) t) u))
 
--- Of a line the first 81 bytes are kept, and read as the whole line would be.
-abbrev KEPT : ℕ
+-- A line over 80 bytes is unread.
+pub over-80 : (l : List ℕ) → LINE-MAX < length l → lineOf l ≡ Unread
+unfolding lineOf
+over-80 l long = rw (lt-ltb LINE-MAX (length l) long) refl
+
+-- Of a line that was begun at most its first 81 bytes are kept; they are read as all its bytes would be.
+abbrev pub KEPT : ℕ
 KEPT = LINE-MAX + 1
 
 kept-joined : (k : List ℕ) (b : ℕ) → joined (take KEPT k) b ≡ take KEPT (k ++ (b ∷ []))
@@ -49,15 +54,11 @@ kept-joined k b = pick-split (λ x. x ≡ take KEPT (k ++ (b ∷ []))) (ltb LINE
     (λ e. let short : length k ≤ LINE-MAX = omega (arith, ltb-false LINE-MAX (length (take KEPT k)) e, length-take KEPT k) in
     ap (λ x. x ++ (b ∷ [])) (take-all KEPT k (omega arith)) ∙ sym (take-all KEPT (k ++ (b ∷ [])) (omega (arith, length-append k (b ∷ [])))))
 
-too-long : (l : List ℕ) → LINE-MAX < length l → lineOf l ≡ Unread
-unfolding lineOf
-too-long l long = rw (lt-ltb LINE-MAX (length l) long) refl
-
 kept-read : (k : List ℕ) → lineOf (take KEPT k) ≡ lineOf k
 kept-read k = go (ltb LINE-MAX (length k)) refl
   where
     go : (x : Bool) → ltb LINE-MAX (length k) ≡ x → lineOf (take KEPT k) ≡ lineOf k
-    go true e = let long = ltb-true LINE-MAX (length k) e in too-long (take KEPT k) (omega (arith, length-take KEPT k)) ∙ sym (too-long k long)
+    go true e = let long = ltb-true LINE-MAX (length k) e in over-80 (take KEPT k) (omega (arith, length-take KEPT k)) ∙ sym (over-80 k long)
     go false e = ap lineOf (take-all KEPT k (omega (arith, ltb-false LINE-MAX (length k) e)))
 
 -- All that a desk prints for the rest of the input.
@@ -104,11 +105,7 @@ pub cut : (rs : List (List ℕ)) → printedReads start rs ≡ sheet (flatten rs
 unfolding sheet
 cut rs = reads-from start rs ∙ from-desk (flatten rs) 0 [] unmade
 
--- A line over 80 bytes is unread.
-pub over-80 : (l : List ℕ) → 80 < length l → lineOf l ≡ Unread
-over-80 l long = too-long l long
-
--- Lines are numbered from 1 on, in 64 bits.
+-- Below 2 ^ 64 - 1 the number of the next line is one more.
 pub next-is : (n : ℕ) → n < NUMBER-MAX → next n ≡ n + 1
 next-is n l = omega arith
 

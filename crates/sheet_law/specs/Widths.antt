@@ -1,4 +1,4 @@
--- Laws of `within`, and of what was read of a part of a text. Assumes nothing.
+-- Laws of the numbers that are read: of `within`, and of what was read of a part of a text. Assumes nothing.
 use Prim.Native.Nat.{ℕ, _-_, _<_, _≤_}
 use native.Mathlib.Omega.{arith}
 use mathlib.Core.Path.{_≡_, refl, sym, _∙_, ap}
@@ -13,22 +13,12 @@ use Rattle.sheet_law.specs.declared.Number.{Number}
 use Rattle.sheet_law.specs.declared.Number.the-variants.{Fine, Bad}
 use Rattle.sheet_law.specs.Reading.{within}
 
--- The number that is read, and whether there is one.
-numberIn : Number → ℕ
-numberIn Bad = 0
-numberIn (Fine n) = n
-
-isBad : Number → ℕ
-isBad Bad = 1
-isBad (Fine n) = 0
-
+-- What is read is one number, or none.
 pub fine-same : (n m : ℕ) → Fine n ≡ Fine m → n ≡ m
-unfolding numberIn
-fine-same n m e = ap numberIn e
+fine-same n m e = cc
 
 pub bad-fine : (n : ℕ) → Bad ≡ Fine n → ⊥
-unfolding isBad
-bad-fine n e = let z : _≡_ {A = ℕ} 1 0 = ap isBad e in omega arith
+bad-fine n e = let z : _≡_ {A = ℕ} 0 1 = cc in omega arith
 
 -- What is at most a number, and what is not.
 pub within-fine : (most n : ℕ) → n ≤ most → within most (Fine n) ≡ Fine n

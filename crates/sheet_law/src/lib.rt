@@ -1,6 +1,6 @@
 // What a run sheet is: what its lines say, what is printed for each, and the whole sheet, bytes in to bytes out.
 // Code: what a line comes to, as values. specs/: the definitions, and what is proved about them.
-// It uses calls, layout, statement and kinds_law.
+// It uses kinds_law and what lies below.
 use calls::Call;
 use calls::Pitch;
 

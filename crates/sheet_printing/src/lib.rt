@@ -7,7 +7,7 @@ ghost use lib.Dec.{leb};
 ghost use lib.ListN.{length, drop};
 ghost use lib.IntN.{natAbs};
 ghost use Rattle.sheet_law.specs.Text.{text, lastDigit, decimal};
-ghost use Rattle.sheet_law.specs.Printing.{pitchText, walkText, replyText, printedLine};
+ghost use Rattle.sheet_law.specs.Printing.{PRINTED-MAX, pitchText, walkText, replyText, printedLine};
 ghost use Rattle.sheet_printing.specs.Buffer.{Added, Printed};
 ghost use Rattle.sheet_printing.specs.Phrases.{withNumbers, phraseText, Says};
 use calls::Pitch;
@@ -211,7 +211,7 @@ fn put_phrase(out: &mut [u8], at: usize, p: Phrase) -> usize
 
 // Whether the longest line fits at a place of the buffer.
 pub fn fits(out: &[u8], at: usize) -> bool
-    ensures { λ r. ⌜ r ≡ leb (at + 74) (length (now (out .entry))) ⌝ }
+    ensures { λ r. ⌜ r ≡ leb (at + PRINTED-MAX) (length (now (out .entry))) ⌝ }
 {
     let n = out.len();
     if n < PRINTED_MAX {

@@ -41,30 +41,25 @@ kind-narrow w n e = go (same w (text "new")) (same w (text "old")) e
     go false true f = omega (arith, fine-same 2 n f)
     go false false f = absurd (bad-fine n f)
 
--- A whole line.
-module _ (l : List ℕ) where
-  pub line-long : LINE-MAX < length l → lineOf l ≡ Unread
+-- A whole line of at most 80 bytes.
+module _ (l : List ℕ) (short : length l ≤ LINE-MAX) where
+  pub line-brief : length l < 2 → lineOf l ≡ Unread
   unfolding lineOf
-  line-long h = rw (lt-ltb LINE-MAX (length l) h) refl
+  line-brief h = rw (le-ltb LINE-MAX (length l) short, le-ltb 1 (length l) (omega arith)) refl
 
-  module _ (short : length l ≤ LINE-MAX) where
-    pub line-brief : length l < 2 → lineOf l ≡ Unread
+  module _ (more : 2 ≤ length l) where
+    pub line-unopened : (getD l 0 0 ≡ OPEN → ⊥) → lineOf l ≡ Unread
     unfolding lineOf
-    line-brief h = rw (le-ltb LINE-MAX (length l) short, le-ltb 1 (length l) (omega arith)) refl
+    line-unopened h = rw (le-ltb LINE-MAX (length l) short, lt-ltb 1 (length l) (omega arith), ne-eqb (getD l 0 0) OPEN h) refl
 
-    module _ (more : 2 ≤ length l) where
-      pub line-unopened : (getD l 0 0 ≡ OPEN → ⊥) → lineOf l ≡ Unread
-      unfolding lineOf
-      line-unopened h = rw (le-ltb LINE-MAX (length l) short, lt-ltb 1 (length l) (omega arith), ne-eqb (getD l 0 0) OPEN h) refl
+    pub line-unclosed : getD l 0 0 ≡ OPEN → (getD l (length l - 1) 0 ≡ CLOSE → ⊥) → lineOf l ≡ Unread
+    unfolding lineOf
+    line-unclosed o h = rw (le-ltb LINE-MAX (length l) short, lt-ltb 1 (length l) (omega arith), eq-eqb (getD l 0 0) OPEN o, ne-eqb (getD l (length l - 1) 0) CLOSE h) refl
 
-      pub line-unclosed : getD l 0 0 ≡ OPEN → (getD l (length l - 1) 0 ≡ CLOSE → ⊥) → lineOf l ≡ Unread
-      unfolding lineOf
-      line-unclosed o h = rw (le-ltb LINE-MAX (length l) short, lt-ltb 1 (length l) (omega arith), eq-eqb (getD l 0 0) OPEN o, ne-eqb (getD l (length l - 1) 0) CLOSE h) refl
+    pub line-whole : getD l 0 0 ≡ OPEN → getD l (length l - 1) 0 ≡ CLOSE → lineOf l ≡ command (word (first (inner l))) (rest (inner l))
+    unfolding lineOf
+    line-whole o h = rw (le-ltb LINE-MAX (length l) short, lt-ltb 1 (length l) (omega arith), eq-eqb (getD l 0 0) OPEN o, eq-eqb (getD l (length l - 1) 0) CLOSE h) refl
 
-      pub line-whole : getD l 0 0 ≡ OPEN → getD l (length l - 1) 0 ≡ CLOSE → lineOf l ≡ command (word (first (inner l))) (rest (inner l))
-      unfolding lineOf
-      line-whole o h = rw (le-ltb LINE-MAX (length l) short, lt-ltb 1 (length l) (omega arith), eq-eqb (getD l 0 0) OPEN o, eq-eqb (getD l (length l - 1) 0) CLOSE h) refl
-
-      -- the part between the brackets, as the code takes it
-      pub inner-is : take (length l - 1 - 1) (drop 1 l) ≡ inner l
-      inner-is = ap (λ (n : ℕ). take n (drop 1 l)) (let e : length l - 1 - 1 ≡ length l - 2 = omega arith in e)
+    -- the part between the brackets, as the code takes it
+    pub inner-is : take (length l - 1 - 1) (drop 1 l) ≡ inner l
+    inner-is = ap (λ (n : ℕ). take n (drop 1 l)) (let e : length l - 1 - 1 ≡ length l - 2 = omega arith in e)

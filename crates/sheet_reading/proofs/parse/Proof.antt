@@ -9,7 +9,8 @@ use lib.Seq.{length-take-le}
 use Rattle.sheet_law.specs.declared.Word.{Word}
 use Rattle.sheet_law.specs.Reading.{first, rest, word as word-of, command as command-of, inner}
 use Rattle.sheet_law.specs.Widths.{tail-is}
-use Rattle.sheet_reading.proofs.Lines.{line-long, line-brief, line-unopened, line-unclosed, line-whole, inner-is}
+use Rattle.sheet_law.specs.Reads.{over-80}
+use Rattle.sheet_reading.proofs.Lines.{line-brief, line-unopened, line-unclosed, line-whole, inner-is}
 use Rattle.sheet_reading.proofs.parse.Statement.{statement}
 use Rattle.sheet_reading.proofs.parse.Tie as tie
 
@@ -17,7 +18,7 @@ between : (c : tie.After-inner) → take (length (c .before .before .before .bef
 between c = inner-is (c .before .before .before .before .before .before .before .before .args .line .now) (c .before .before .before .before .before .before .if1 .left) (c .before .before .before .before .before .if2 .left)
 
 returns : tie.Need-returns
-returns c = sym (line-long (c .before .before .args .line .now) (c .if1 .taken))
+returns c = sym (over-80 (c .before .before .args .line .now) (c .if1 .taken))
 
 returns-2 : tie.Need-returns-2
 returns-2 c = sym (line-brief (c .before .before .before .args .line .now) (c .before .if1 .left) (c .if2 .taken))
