@@ -7,8 +7,8 @@ ghost use lib.ListN.{length, take};
 ghost use Rattle.io.specs.Counts.{Counts};
 ghost use Rattle.statement.specs.Machine.{state};
 ghost use Rattle.sheet_law.specs.Printing.{PRINTED-MAX};
-ghost use Rattle.sheet_law.specs.Sheet.{desk, fed};
-ghost use Rattle.sheet.specs.Feeds.{KEPT};
+ghost use Rattle.sheet_law.specs.Sheet.{sheetState, fed};
+ghost use Rattle.sheet_law.specs.Reads.{KEPT};
 use calls::Pitch;
 use layout::WORDS;
 use libc::STDERR_FILENO;
@@ -59,7 +59,7 @@ fn say(
 ) -> Said
     requires { ⌜ length (now kept) ≡ KEPT ⌝ }
     requires { ⌜ PRINTED-MAX ≤ length (now out) ⌝ }
-    ensures { λ r. ⌜ (r .written ≡ true → desk (r .lines) (take (r .count) (now (kept .exit))) (state (now (words .exit)) (now (room .exit))) ≡ fed (desk lines (take count (now (kept .entry))) (state (now (words .entry)) (now (room .entry)))) (now (input .entry))) ⌝ }
+    ensures { λ r. ⌜ (r .written ≡ true → sheetState (r .lines) (take (r .count) (now (kept .exit))) (state (now (words .exit)) (now (room .exit))) ≡ fed (sheetState lines (take count (now (kept .entry))) (state (now (words .entry)) (now (room .entry)))) (now (input .entry))) ⌝ }
 {
     let mut read = lines;
     let mut held = count;

@@ -17,64 +17,65 @@ use Rattle.sheet_law.specs.declared.Line.the-variants.{Read, Unread}
 use Rattle.sheet_law.specs.Text.{text, NEWLINE}
 use Rattle.sheet_law.specs.Reading.{LINE-MAX, lineOf}
 use Rattle.sheet_law.specs.Printing.{replyText, printedLine, PRINTED-MAX}
-use Rattle.sheet_law.specs.Sheet.{played, next, Desk, desk, joined, byte, saidAt, fed, printed, ending}
+use Rattle.sheet_law.specs.Sheet.{played, next, SheetState, sheetState, joined, byte, saidAt, fed, printed, ending}
 use Rattle.sheet_law.specs.Reads.{fed-append, printed-append, known-all, over-80}
 use Rattle.sheet_printing.specs.Buffer.{Added}
-use Rattle.sheet.specs.Feeds.{KEPT, Went}
+use Rattle.sheet.specs.Feeds.{Went}
+use Rattle.sheet_law.specs.Reads.{KEPT}
 
 more : (t : List ℕ) (u : ℕ) → u < length t → take (u + 1) t ≡ take u t ++ (getD t u 0 ∷ [])
 more t u h = ap (λ (n : ℕ). take n t) (add-one u) ∙ take-suc t u 0 h
 
-fed-next : (d : Desk) (t : List ℕ) (u : ℕ) → u < length t → fed d (take (u + 1) t) ≡ byte (fed d (take u t)) (getD t u 0)
+fed-next : (d : SheetState) (t : List ℕ) (u : ℕ) → u < length t → fed d (take (u + 1) t) ≡ byte (fed d (take u t)) (getD t u 0)
 unfolding fed
 fed-next d t u h = ap (λ (k : List ℕ). fed d k) (more t u h) ∙ fed-append d (take u t) (getD t u 0 ∷ [])
 
-printed-next : (d : Desk) (t : List ℕ) (u : ℕ) → u < length t → printed d (take (u + 1) t) ≡ printed d (take u t) ++ saidAt (fed d (take u t)) (getD t u 0)
+printed-next : (d : SheetState) (t : List ℕ) (u : ℕ) → u < length t → printed d (take (u + 1) t) ≡ printed d (take u t) ++ saidAt (fed d (take u t)) (getD t u 0)
 unfolding printed
 printed-next d t u h =
     ap (λ (k : List ℕ). printed d k) (more t u h)
     ∙ printed-append d (take u t) (getD t u 0 ∷ [])
     ∙ ap (λ (k : List ℕ). printed d (take u t) ++ k) (append-nil (saidAt (fed d (take u t)) (getD t u 0)))
 
--- What goes on by one byte: the desk by `byte`, the output by `saidAt`.
-went-on : (d : Desk) (t : List ℕ) (u : ℕ) (e f : Desk) (out new : List ℕ) (m l : ℕ) → Went d t u e out m → u < length t → l ≤ length new
+-- What goes on by one byte: the state by `byte`, the output by `saidAt`.
+went-on : (d : SheetState) (t : List ℕ) (u : ℕ) (e f : SheetState) (out new : List ℕ) (m l : ℕ) → Went d t u e out m → u < length t → l ≤ length new
     → f ≡ byte e (getD t u 0) → take l new ≡ take m out ++ saidAt e (getD t u 0) → Went d t (u + 1) f new l
 went-on d t u e f out new m l w h fill moved said = record {
   taken = omega arith;
   filled = fill;
-  after = moved ∙ ap (λ (x : Desk). byte x (getD t u 0)) (w .after) ∙ sym (fed-next d t u h);
+  after = moved ∙ ap (λ (x : SheetState). byte x (getD t u 0)) (w .after) ∙ sym (fed-next d t u h);
   says =
       said
       ∙ ap (λ (k : List ℕ). k ++ saidAt e (getD t u 0)) (w .says)
-      ∙ ap (λ (x : Desk). printed d (take u t) ++ saidAt x (getD t u 0)) (w .after)
+      ∙ ap (λ (x : SheetState). printed d (take u t) ++ saidAt x (getD t u 0)) (w .after)
       ∙ sym (printed-next d t u h);
 }
 
-pub begins : (d : Desk) (t out : List ℕ) → Went d t 0 d out 0
+pub begins : (d : SheetState) (t out : List ℕ) → Went d t 0 d out 0
 unfolding fed printed
 begins d t out = record { taken = omega arith; filled = omega arith; after = refl; says = refl }
 
-module _ (d : Desk) (t : List ℕ) (u n : ℕ) (k : List ℕ) (s : State) (out : List ℕ) (m : ℕ) (w : Went d t u (desk n k s) out m) (h : u < length t) where
+module _ (d : SheetState) (t : List ℕ) (u n : ℕ) (k : List ℕ) (s : State) (out : List ℕ) (m : ℕ) (w : Went d t u (sheetState n k s) out m) (h : u < length t) where
   -- Every byte but a newline joins the line.
-  pub joins : (getD t u 0 ≡ NEWLINE → ⊥) → (j : List ℕ) → j ≡ joined k (getD t u 0) → Went d t (u + 1) (desk n j s) out m
+  pub joins : (getD t u 0 ≡ NEWLINE → ⊥) → (j : List ℕ) → j ≡ joined k (getD t u 0) → Went d t (u + 1) (sheetState n j s) out m
   joins ne j e =
-      went-on d t u (desk n k s) (desk n j s) out out m m w h (w .filled)
+      went-on d t u (sheetState n k s) (sheetState n j s) out out m m w h (w .filled)
       (rw (e, ne-eqb (getD t u 0) NEWLINE ne) refl)
       (rw (ne-eqb (getD t u 0) NEWLINE ne) (sym (append-nil (take m out))))
 
   module _ (nl : getD t u 0 ≡ NEWLINE) (room : m + PRINTED-MAX ≤ length out) (new : List ℕ) (l : ℕ) (same : length new ≡ length out) (q : ℕ) (number : q ≡ next n) where
     -- A line that is unread.
-    pub ends-unread : lineOf k ≡ Unread → Added PRINTED-MAX (printedLine q (text "unread")) out m new l → Went d t (u + 1) (desk q [] s) new l
+    pub ends-unread : lineOf k ≡ Unread → Added PRINTED-MAX (printedLine q (text "unread")) out m new l → Went d t (u + 1) (sheetState q [] s) new l
     ends-unread e a =
-        went-on d t u (desk n k s) (desk q [] s) out new m l w h (omega (arith, a .small, a .moved))
+        went-on d t u (sheetState n k s) (sheetState q [] s) out new m l w h (omega (arith, a .small, a .moved))
         (rw (eq-eqb (getD t u 0) NEWLINE nl, known-all s k, e, number) refl)
         (rw (eq-eqb (getD t u 0) NEWLINE nl, known-all s k, e, sym number) (a .bytes))
 
     -- A line that is a command.
-    pub ends-read : (c : Command) → lineOf k ≡ Read c → (a : Reply) (r : State) → outcome a r ≡ played s c → Added PRINTED-MAX (printedLine q (replyText a)) out m new l → Went d t (u + 1) (desk q [] r) new l
+    pub ends-read : (c : Command) → lineOf k ≡ Read c → (a : Reply) (r : State) → outcome a r ≡ played s c → Added PRINTED-MAX (printedLine q (replyText a)) out m new l → Went d t (u + 1) (sheetState q [] r) new l
     ends-read c e a r p b =
-        went-on d t u (desk n k s) (desk q [] r) out new m l w h (omega (arith, b .small, b .moved))
-        (rw (eq-eqb (getD t u 0) NEWLINE nl, known-all s k, e, sym number) (ap (λ (o : Outcome). desk q [] (o .after)) p))
+        went-on d t u (sheetState n k s) (sheetState q [] r) out new m l w h (omega (arith, b .small, b .moved))
+        (rw (eq-eqb (getD t u 0) NEWLINE nl, known-all s k, e, sym number) (ap (λ (o : Outcome). sheetState q [] (o .after)) p))
         (rw (eq-eqb (getD t u 0) NEWLINE nl, known-all s k, e, sym number) (b .bytes ∙ ap (λ (o : Outcome). take m out ++ printedLine q (replyText (o .reply))) p))
 
 -- Keeping a byte of a line: it joins the bytes that are kept, or the line has over 80 bytes already.

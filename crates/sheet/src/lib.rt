@@ -5,8 +5,9 @@ ghost use mathlib.Core.Path.{_≡_};
 ghost use lib.ListN.{length, take};
 ghost use Rattle.statement.specs.Machine.{state};
 ghost use Rattle.sheet_law.specs.Reading.{lineOf};
-ghost use Rattle.sheet_law.specs.Sheet.{joined, desk, ending};
-ghost use Rattle.sheet.specs.Feeds.{KEPT, FeedsIn, fedAt};
+ghost use Rattle.sheet_law.specs.Sheet.{joined, sheetState, ending};
+ghost use Rattle.sheet_law.specs.Reads.{KEPT};
+ghost use Rattle.sheet.specs.Feeds.{FeedsIn, fedAt};
 use calls::Pitch;
 use calls::SLOTS_MAX;
 use calls::TABLE;
@@ -82,7 +83,7 @@ pub fn feed(
     input: &[u8],
     out: &mut [u8],
 ) -> Fed
-    ensures { λ r. ⌜ FeedsIn (length (now (kept .entry))) (desk lines (take count (now (kept .entry))) (state (now (words .entry)) (now (room .entry)))) (now (input .entry)) (r .used) (desk (r .lines) (take (r .count) (now (kept .exit))) (state (now (words .exit)) (now (room .exit)))) (now (out .entry)) (now (out .exit)) (r .made) ⌝ }
+    ensures { λ r. ⌜ FeedsIn (length (now (kept .entry))) (sheetState lines (take count (now (kept .entry))) (state (now (words .entry)) (now (room .entry)))) (now (input .entry)) (r .used) (sheetState (r .lines) (take (r .count) (now (kept .exit))) (state (now (words .exit)) (now (room .exit)))) (now (out .entry)) (now (out .exit)) (r .made) ⌝ }
 {
     if kept.len() != KEPT {
         return progress(lines, count, 0, 0);
@@ -122,7 +123,7 @@ pub fn finish(
     count: usize,
     out: &mut [u8],
 ) -> Fed
-    ensures { λ r. ⌜ FeedsIn (length (now (kept .entry))) (desk lines (take count (now (kept .entry))) (state (now (words .entry)) (now (room .entry)))) (ending (take count (now (kept .entry)))) (r .used) (desk (r .lines) (take (r .count) (now (kept .exit))) (state (now (words .exit)) (now (room .exit)))) (now (out .entry)) (now (out .exit)) (r .made) ⌝ }
+    ensures { λ r. ⌜ FeedsIn (length (now (kept .entry))) (sheetState lines (take count (now (kept .entry))) (state (now (words .entry)) (now (room .entry)))) (ending (take count (now (kept .entry)))) (r .used) (sheetState (r .lines) (take (r .count) (now (kept .exit))) (state (now (words .exit)) (now (room .exit)))) (now (out .entry)) (now (out .exit)) (r .made) ⌝ }
 {
     if count == 0 {
         return progress(lines, count, 0, 0);

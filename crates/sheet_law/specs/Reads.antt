@@ -26,15 +26,15 @@ use Rattle.sheet_law.specs.declared.Line.{Line}
 use Rattle.sheet_law.specs.declared.Line.the-variants.{Read, Unread}
 use Rattle.sheet_law.specs.Text.{text, NEWLINE}
 use Rattle.sheet_law.specs.Reading.{LINE-MAX, lineOf}
-use Rattle.sheet_law.specs.Sheet.{unmade, played, known, lineFor, afterLine, saidTo, next, linesFrom, printedFor, sheet, Desk, desk, start, joined, byte, saidAt, fed, printed, ending}
+use Rattle.sheet_law.specs.Sheet.{unmade, played, known, lineFor, afterLine, saidTo, next, linesFrom, printedFor, sheet, SheetState, sheetState, start, joined, byte, saidAt, fed, printed, ending}
 
 -- Two texts after each other.
-pub fed-append : (d : Desk) (t u : List ℕ) → fed d (t ++ u) ≡ fed (fed d t) u
+pub fed-append : (d : SheetState) (t u : List ℕ) → fed d (t ++ u) ≡ fed (fed d t) u
 unfolding fed
 fed-append d [] u = refl
 fed-append d (b ∷ t) u = fed-append (byte d b) t u
 
-pub printed-append : (d : Desk) (t u : List ℕ) → printed d (t ++ u) ≡ printed d t ++ printed (fed d t) u
+pub printed-append : (d : SheetState) (t u : List ℕ) → printed d (t ++ u) ≡ printed d t ++ printed (fed d t) u
 unfolding fed printed
 printed-append d [] u = refl
 printed-append d (b ∷ t) u = ap (λ x. saidAt d b ++ x) (printed-append (byte d b) t u) ∙ sym (append-assoc (saidAt d b) (printed (byte d b) t) (printed (fed (byte d b) t) u))
@@ -61,39 +61,39 @@ kept-read k = go (ltb LINE-MAX (length k)) refl
     go true e = let long = ltb-true LINE-MAX (length k) e in over-80 (take KEPT k) (omega (arith, length-take KEPT k)) ∙ sym (over-80 k long)
     go false e = ap lineOf (take-all KEPT k (omega (arith, ltb-false LINE-MAX (length k) e)))
 
--- All that a desk prints for the rest of the input.
-abbrev printedToEnd : Desk → List ℕ → List ℕ
+-- All that a state prints for the rest of the input.
+abbrev printedToEnd : SheetState → List ℕ → List ℕ
 printedToEnd d t = printed d t ++ printed (fed d t) (ending (fed d t .begun))
 
 -- The next byte ends the line or joins it.
 module _ (b : ℕ) (t : List ℕ) (n : ℕ) (k : List ℕ) (s : State) where
-  next-byte : printedToEnd (desk (next n) [] (afterLine s (lineFor s k))) t ≡ printedFor (next n) (afterLine s (lineFor s k)) (linesFrom [] t)
-      → printedToEnd (desk n (take KEPT (k ++ (b ∷ []))) s) t ≡ printedFor n s (linesFrom (k ++ (b ∷ [])) t)
-      → saidAt (desk n (take KEPT k) s) b ++ printedToEnd (byte (desk n (take KEPT k) s) b) t ≡ printedFor n s (linesFrom k (b ∷ t))
+  next-byte : printedToEnd (sheetState (next n) [] (afterLine s (lineFor s k))) t ≡ printedFor (next n) (afterLine s (lineFor s k)) (linesFrom [] t)
+      → printedToEnd (sheetState n (take KEPT (k ++ (b ∷ []))) s) t ≡ printedFor n s (linesFrom (k ++ (b ∷ [])) t)
+      → saidAt (sheetState n (take KEPT k) s) b ++ printedToEnd (byte (sheetState n (take KEPT k) s) b) t ≡ printedFor n s (linesFrom k (b ∷ t))
   unfolding printedFor linesFrom
   next-byte ends joins = go (eqb b NEWLINE) refl
     where
-      go : (x : Bool) → eqb b NEWLINE ≡ x → saidAt (desk n (take KEPT k) s) b ++ printedToEnd (byte (desk n (take KEPT k) s) b) t ≡ printedFor n s (linesFrom k (b ∷ t))
+      go : (x : Bool) → eqb b NEWLINE ≡ x → saidAt (sheetState n (take KEPT k) s) b ++ printedToEnd (byte (sheetState n (take KEPT k) s) b) t ≡ printedFor n s (linesFrom k (b ∷ t))
       go true e = rw (e, kept-read k, ends) refl
       go false e = rw (e, kept-joined k b) joins
 
-from-desk : (t : List ℕ) (n : ℕ) (k : List ℕ) (s : State) → printedToEnd (desk n (take KEPT k) s) t ≡ printedFor n s (linesFrom k t)
+from-state : (t : List ℕ) (n : ℕ) (k : List ℕ) (s : State) → printedToEnd (sheetState n (take KEPT k) s) t ≡ printedFor n s (linesFrom k t)
 unfolding fed printed printedFor linesFrom
-from-desk [] n [] s = refl
-from-desk [] n (b ∷ k) s = rw (kept-read (b ∷ k)) refl
-from-desk (b ∷ t) n k s = append-assoc (saidAt (desk n (take KEPT k) s) b) _ _ ∙ next-byte b t n k s (from-desk t (next n) [] (afterLine s (lineFor s k))) (from-desk t n (k ++ (b ∷ [])) s)
+from-state [] n [] s = refl
+from-state [] n (b ∷ k) s = rw (kept-read (b ∷ k)) refl
+from-state (b ∷ t) n k s = append-assoc (saidAt (sheetState n (take KEPT k) s) b) _ _ ∙ next-byte b t n k s (from-state t (next n) [] (afterLine s (lineFor s k))) (from-state t n (k ++ (b ∷ [])) s)
 
 -- The reading byte by byte prints what the whole sheet's definition says.
 pub whole : (t : List ℕ) → printed start (t ++ ending (fed start t .begun)) ≡ sheet t
 unfolding sheet
-whole t = printed-append start t (ending (fed start t .begun)) ∙ from-desk t 0 [] unmade
+whole t = printed-append start t (ending (fed start t .begun)) ∙ from-state t 0 [] unmade
 
--- Printing read by read, each from the desk as the one before left it; at the end of the input the line that was begun, if any, is the last line.
-abbrev pub printedReads : Desk → List (List ℕ) → List ℕ
+-- Printing read by read, each from the state as the one before left it; at the end of the input the line that was begun, if any, is the last line.
+abbrev pub printedReads : SheetState → List (List ℕ) → List ℕ
 printedReads d [] = printed d (ending (d .begun))
 printedReads d (r ∷ rs) = printed d r ++ printedReads (fed d r) rs
 
-reads-from : (d : Desk) (rs : List (List ℕ)) → printedReads d rs ≡ printedToEnd d (flatten rs)
+reads-from : (d : SheetState) (rs : List (List ℕ)) → printedReads d rs ≡ printedToEnd d (flatten rs)
 unfolding flatten fed printed
 reads-from d [] = refl
 reads-from d (r ∷ rs) =
@@ -103,7 +103,7 @@ reads-from d (r ∷ rs) =
 -- However the input is cut into reads, the output is that of the whole sheet.
 pub cut : (rs : List (List ℕ)) → printedReads start rs ≡ sheet (flatten rs)
 unfolding sheet
-cut rs = reads-from start rs ∙ from-desk (flatten rs) 0 [] unmade
+cut rs = reads-from start rs ∙ from-state (flatten rs) 0 [] unmade
 
 -- Below 2 ^ 64 - 1 the number of the next line is one more.
 pub next-is : (n : ℕ) → n < NUMBER-MAX → next n ≡ n + 1

@@ -86,33 +86,33 @@ unfoldable pub sheet : List ℕ → List ℕ
 sheet t = printedFor 0 unmade (linesOf t)
 
 -- What is kept from one read to the next: how many lines were read, the bytes of the next one so far, and the store.
-pub record Desk : Type 0 where
+pub record SheetState : Type 0 where
   pub lines : ℕ
   pub begun : List ℕ
   pub store : State
 
-abbrev pub desk : ℕ → List ℕ → State → Desk
-desk n k s = record { lines = n; begun = k; store = s }
+abbrev pub sheetState : ℕ → List ℕ → State → SheetState
+sheetState n k s = record { lines = n; begun = k; store = s }
 
-abbrev pub start : Desk
-start = desk 0 [] unmade
+abbrev pub start : SheetState
+start = sheetState 0 [] unmade
 
 -- Of a line over 80 bytes, 81 are kept: they tell that it is one.
 abbrev pub joined : List ℕ → ℕ → List ℕ
 joined k b = pick (ltb LINE-MAX (length k)) k (k ++ (b ∷ []))
 
 -- A newline ends the line and every other byte joins it.
-abbrev pub byte : Desk → ℕ → Desk
-byte d b = pick (eqb b NEWLINE) (desk (next (d .lines)) [] (afterLine (d .store) (lineFor (d .store) (d .begun)))) (desk (d .lines) (joined (d .begun) b) (d .store))
+abbrev pub byte : SheetState → ℕ → SheetState
+byte d b = pick (eqb b NEWLINE) (sheetState (next (d .lines)) [] (afterLine (d .store) (lineFor (d .store) (d .begun)))) (sheetState (d .lines) (joined (d .begun) b) (d .store))
 
-abbrev pub saidAt : Desk → ℕ → List ℕ
+abbrev pub saidAt : SheetState → ℕ → List ℕ
 saidAt d b = pick (eqb b NEWLINE) (printedLine (next (d .lines)) (saidTo (d .store) (lineFor (d .store) (d .begun)))) []
 
-unfoldable pub fed : Desk → List ℕ → Desk
+unfoldable pub fed : SheetState → List ℕ → SheetState
 fed d [] = d
 fed d (b ∷ t) = fed (byte d b) t
 
-unfoldable pub printed : Desk → List ℕ → List ℕ
+unfoldable pub printed : SheetState → List ℕ → List ℕ
 printed d [] = []
 printed d (b ∷ t) = saidAt d b ++ printed (byte d b) t
 

@@ -1,4 +1,4 @@
--- At every turn the desk and the output are what the bytes so far make of them; a turn is one byte. Assumes nothing.
+-- At every turn the state and the output are what the bytes so far make of them; a turn is one byte. Assumes nothing.
 use borrow.Author.Needs.{needs}
 use native.Mathlib.Omega.{arith}
 use lib.ListN.{length, take}
@@ -6,14 +6,15 @@ use Prim.Native.Nat.{_+_, _-_}
 use mathlib.Core.Path.{_≡_, refl, sym, _∙_}
 use mathlib.Core.Logic.{_⊎_, inl, inr, ⊎-elim}
 use Rattle.statement.specs.Machine.{state}
-use Rattle.sheet_law.specs.Sheet.{desk}
-use Rattle.sheet.specs.Feeds.{KEPT, Went}
+use Rattle.sheet_law.specs.Sheet.{sheetState}
+use Rattle.sheet.specs.Feeds.{Went}
+use Rattle.sheet_law.specs.Reads.{KEPT}
 use Rattle.sheet.proofs.Turns.{begins, joins, ends-unread, ends-read, fits-true, fits-false}
 use Rattle.sheet.proofs.feed.Statement.{statement}
 use Rattle.sheet.proofs.feed.Tie as tie
 
 abbrev Inv-loop : tie.InvT-loop
-Inv-loop words₀ room₀ kept₀ lines₀ count₀ input out₀ used₀ made₀ words room kept lines count out used made = (length kept ≡ KEPT) × (length words ≡ length words₀) × (length room ≡ length room₀) × (length out ≡ length out₀) × (length kept₀ ≡ KEPT) × Went (desk lines₀ (take count₀ kept₀) (state words₀ room₀)) input used (desk lines (take count kept) (state words room)) out made
+Inv-loop words₀ room₀ kept₀ lines₀ count₀ input out₀ used₀ made₀ words room kept lines count out used made = (length kept ≡ KEPT) × (length words ≡ length words₀) × (length room ≡ length room₀) × (length out ≡ length out₀) × (length kept₀ ≡ KEPT) × Went (sheetState lines₀ (take count₀ kept₀) (state words₀ room₀)) input used (sheetState lines (take count kept) (state words room)) out made
 
 abbrev μ-loop : tie.MeasureT-loop
 μ-loop words₀ room₀ kept₀ lines₀ count₀ input out₀ used₀ made₀ words room kept lines count out used made = length input - used
