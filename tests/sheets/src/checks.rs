@@ -2,6 +2,7 @@
 
 use crate::altered::Altered;
 use crate::compare::{shown, Difference, Heard};
+use crate::failures::Sigpipe;
 use crate::pieces::{some_ways, Cut, Way, LARGEST};
 use crate::program::Ended;
 use crate::seen::Seen;
@@ -9,6 +10,8 @@ use crate::shapes::SHAPES;
 use crate::writer::{random_of, write, HUGE_LINE, MANY_LINES, NO_LINES, ORDINARY};
 use second::random::Random;
 use second::sheet::{lines, play, read};
+use std::os::unix::process::ExitStatusExt;
+use std::process::Command;
 
 fn difference(text: &[u8], output: &[u8], fault: Option<&str>) -> Option<String> {
     let ended = Ended {
@@ -197,4 +200,16 @@ fn alterations_are_found_in_what_was_heard() {
     assert_eq!((zeros.line_number, zeros.sheet), (2, "a test".to_string()));
     assert!(found("leading-zeros-in-pitches").is_none());
     assert!(found("current-is-free").is_none());
+}
+
+#[test]
+fn a_program_starts_with_sigpipe_as_told() {
+    for (sigpipe, due) in [(Sigpipe::Default, Some(13)), (Sigpipe::Ignored, None)] {
+        let mut command = Command::new("sh");
+        command.args(["-c", "kill -PIPE $$; exit 7"]);
+        sigpipe.of(&mut command);
+        let status = command.status().expect("a shell");
+        assert_eq!(status.signal(), due, "{sigpipe:?}");
+        assert_eq!(status.code(), due.is_none().then_some(7), "{sigpipe:?}");
+    }
 }

@@ -4,20 +4,56 @@
 use crate::program::Running;
 use std::fs::{File, OpenOptions};
 use std::io::{self, PipeWriter, Read, Write};
+use std::os::unix::process::CommandExt;
 use std::path::Path;
 use std::process::{Command, Stdio};
 
 const LINES: &[u8] = b"(store new 1 1 2 0)\n(enter 0)\n(look 0 0)\n";
 
+// Numbers of Linux.
+const SIGPIPE: i32 = 13;
+const SIG_IGN: usize = 1;
+const SIG_ERR: usize = usize::MAX;
+
+extern "C" {
+    fn signal(signum: i32, handler: usize) -> usize;
+}
+
 /// What comes to the standard input.
 #[derive(Clone, Copy, PartialEq, Eq, Debug)]
 enum Input {
-    /// A few lines and the end.
+    /// A few lines and the end, where a program ends even if it does not
+    /// heed its failed writes. It must not try them for ever.
     Few,
-    /// A few lines, and no end.
+    /// A few lines, and no end: the program ends at its write or not at all.
     FewAndOpen,
     /// Lines without end.
     Endless,
+}
+
+/// How the program starts with regard to SIGPIPE.
+#[derive(Clone, Copy, PartialEq, Eq, Debug)]
+pub enum Sigpipe {
+    /// The first write to a closed pipe kills it, unless it sees to the
+    /// signal itself, so it is not seen what it does when a write fails.
+    /// `Command` starts every program so.
+    Default,
+    /// A write to a closed pipe fails with EPIPE.
+    Ignored,
+}
+
+impl Sigpipe {
+    /// Makes the command start its program so.
+    pub fn of(self, command: &mut Command) {
+        let ignore = || match unsafe { signal(SIGPIPE, SIG_IGN) } {
+            SIG_ERR => Err(io::Error::last_os_error()),
+            _ => Ok(()),
+        };
+        if self == Sigpipe::Ignored {
+            // Safe because `signal` may be called between fork and exec.
+            unsafe { command.pre_exec(ignore) };
+        }
+    }
 }
 
 /// Where the standard output goes.
@@ -26,23 +62,28 @@ enum Output {
     /// A device that has no room.
     Full,
     /// A pipe that nobody reads any more.
-    Closed,
+    Closed(Sigpipe),
     /// A pipe that is closed after the first bytes.
-    ClosedLater,
+    ClosedLater(Sigpipe),
 }
 
 /// Every failed write and the failed read; the number of them.
 pub fn all(program: &Path) -> Result<u64, String> {
     let mut count = 0;
     for input in [Input::Few, Input::FewAndOpen, Input::Endless] {
-        for output in [Output::Full, Output::Closed] {
-            failed_write(program, input, output)?;
+        failed_write(program, input, Output::Full)?;
+        count += 1;
+    }
+    for sigpipe in [Sigpipe::Default, Sigpipe::Ignored] {
+        for input in [Input::Few, Input::FewAndOpen, Input::Endless] {
+            failed_write(program, input, Output::Closed(sigpipe))?;
             count += 1;
         }
+        failed_write(program, Input::Endless, Output::ClosedLater(sigpipe))?;
+        count += 1;
     }
-    failed_write(program, Input::Endless, Output::ClosedLater)?;
     failed_read(program)?;
-    Ok(count + 2)
+    Ok(count + 1)
 }
 
 fn failed_write(program: &Path, input: Input, output: Output) -> Result<(), String> {
@@ -54,6 +95,9 @@ fn play(program: &Path, input: Input, output: Output) -> Result<(), String> {
     let (stdin, feeds) = io::pipe().map_err(|error| error.to_string())?;
     let (stdout, reads) = output_of(output).map_err(|error| error.to_string())?;
     let mut command = Command::new(program);
+    if let Output::Closed(sigpipe) | Output::ClosedLater(sigpipe) = output {
+        sigpipe.of(&mut command);
+    }
     let mut running = Running::start(command.stdin(stdin).stdout(stdout))?;
     drop(command);
     std::thread::scope(|scope| {
@@ -76,7 +120,7 @@ fn output_of(output: Output) -> io::Result<(Stdio, Option<io::PipeReader>)> {
         return Ok((full.into(), None));
     }
     let (reads, writes) = io::pipe()?;
-    let reads = (output == Output::ClosedLater).then_some(reads);
+    let reads = matches!(output, Output::ClosedLater(_)).then_some(reads);
     Ok((writes.into(), reads))
 }
 
