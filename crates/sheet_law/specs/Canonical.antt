@@ -9,7 +9,7 @@ use lib.Dec.{eqb}
 use lib.IntN.{ℤ, pos, negsuc}
 use lib.ListN.{length, length-append}
 use lib.Seq.{take-at, getD-at}
-use borrow.Author.Tests.{lt-ltb, le-ltb, ne-eqb}
+use borrow.Author.Tests.{lt-ltb, le-ltb}
 use Rattle.calls.specs.declared.Call.{Call}
 use Rattle.calls.specs.declared.Call.the-variants as call
 use Rattle.calls.specs.Base.{pick}
@@ -22,10 +22,10 @@ use Rattle.sheet_law.specs.declared.Word.the-variants.{Enter, Look, Leav
 use Rattle.sheet_law.specs.declared.Command.{Command}
 use Rattle.sheet_law.specs.declared.Command.the-variants.{Make, Run}
 use Rattle.sheet_law.specs.declared.Line.the-variants.{Read}
-use Rattle.sheet_law.specs.Text.{text, SPACE, CLOSE, MINUS, decimal}
-use Rattle.sheet_law.specs.Reading.{LINE-MAX, NARROW-MAX, PITCH-MAX, PITCH-MIN, first, rest, plain, within, narrow, wide, positive, angle, named, word, kindNamed, oneOf, twoOf, one, two, writing, making, command, lineOf}
+use Rattle.sheet_law.specs.Text.{text, SPACE, CLOSE, decimal}
+use Rattle.sheet_law.specs.Reading.{LINE-MAX, NARROW-MAX, PITCH-MAX, PITCH-MIN, first, rest, within, narrow, wide, angle, named, word, kindNamed, oneOf, twoOf, one, two, writing, making, command, lineOf}
 use Rattle.sheet_law.specs.Printing.{withOne, withTwo}
-use Rattle.sheet_law.specs.Decimals.{AllDigits, all-digits, plain-decimal, decimal-first, decimal-rest, decimal-length}
+use Rattle.sheet_law.specs.Decimals.{plain-decimal, decimal-first, decimal-rest, signed, signed-decimal, decimal-length}
 
 -- The text of a kind and of a pitch.
 abbrev pub kindText : ℕ → List ℕ
@@ -113,15 +113,15 @@ unfolding first rest kindNamed
 kind-back k (inl e) l = rw e (refl, refl)
 kind-back k (inr e) l = rw e (refl, refl)
 
--- No digit is a minus.
-angle-digits : (k : List ℕ) → AllDigits k → angle k ≡ positive (within PITCH-MAX (plain k))
-unfolding angle plain
-angle-digits [] a = refl
-angle-digits (b ∷ k) a = rw (ne-eqb b MINUS (λ z. omega arith)) refl
+-- A pitch is a decimal that may have a minus before it, either within its width.
+angle-signed : (l : List ℕ) → angle l ≡ signed (within PITCH-MIN) (within PITCH-MAX) l
+unfolding angle
+angle-signed [] = refl
+angle-signed (b ∷ l) = refl
 
 angle-back : (v : ℤ) → FitsAngle v → angle (angleText v) ≡ At v
 unfolding angle
-angle-back (pos n) fits = angle-digits (decimal n) (all-digits n) ∙ rw (plain-decimal n, le-ltb PITCH-MAX n (omega arith)) refl
+angle-back (pos n) fits = angle-signed (decimal n) ∙ (signed-decimal (within PITCH-MIN) (within PITCH-MAX) n ∙ rw (le-ltb PITCH-MAX n (omega arith)) refl)
 angle-back (negsuc n) fits = rw (plain-decimal (suc n), le-ltb PITCH-MIN (suc n) (omega arith)) refl
 
 -- What stands between the brackets is read back.

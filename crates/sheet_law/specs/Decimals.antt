@@ -8,11 +8,15 @@ use mathlib.Core.List.{List, [], _∷_, _++_, append-assoc, append-nil}
 use lib.Dec.{eqb}
 use lib.ListN.{length}
 use borrow.Author.Tests.{ne-eqb, eqb-true, eqb-false}
+use Rattle.calls.specs.Base.{pick}
 use Rattle.calls.specs.Rows.{outside}
 use Rattle.calls.specs.RowLaws.{pick-split, within, not-outside}
+use Rattle.sheet_law.specs.declared.Number.{Number}
 use Rattle.sheet_law.specs.declared.Number.the-variants.{Fine}
-use Rattle.sheet_law.specs.Text.{SPACE, DIGIT-0, DIGIT-9, lastDigit, digitsBefore, decimal}
-use Rattle.sheet_law.specs.Reading.{first, rest, digits, plain}
+use Rattle.sheet_law.specs.declared.Angle.{Angle}
+use Rattle.sheet_law.specs.declared.Angle.the-variants.{Wrong}
+use Rattle.sheet_law.specs.Text.{SPACE, MINUS, DIGIT-0, DIGIT-9, lastDigit, digitsBefore, decimal}
+use Rattle.sheet_law.specs.Reading.{first, rest, digits, plain, negative, positive}
 use Rattle.sheet_law.specs.Widths.{fine-same, bad-fine}
 
 -- A number below ten is its digit; the digits of another are those of its tenth before its last digit.
@@ -114,6 +118,19 @@ decimal-first n = first-digits (decimal n) (all-digits n)
 
 pub decimal-rest : (n : ℕ) (l : List ℕ) → rest (decimal n ++ (SPACE ∷ l)) ≡ l
 decimal-rest n = rest-digits (decimal n) (all-digits n)
+
+-- A decimal that may have a minus before it, read with a test of either; no digit is a minus.
+abbrev pub signed : (Number → Number) → (Number → Number) → List ℕ → Angle
+signed below above [] = Wrong
+signed below above (b ∷ l) = pick (eqb b MINUS) (negative (below (plain l))) (positive (above (plain (b ∷ l))))
+
+pub signed-decimal : (below above : Number → Number) (n : ℕ) → signed below above (decimal n) ≡ positive (above (Fine n))
+unfolding plain
+signed-decimal below above n = go (decimal n) (all-digits n) (plain-decimal n)
+  where
+    go : (k : List ℕ) → AllDigits k → plain k ≡ Fine n → signed below above k ≡ positive (above (Fine n))
+    go [] a e = absurd (bad-fine n e)
+    go (b ∷ k) a e = rw (ne-eqb b MINUS (λ z. omega arith), e) refl
 
 -- What stands after the digits is left as it is; so one digit more is ten times the number and the digit.
 before-append : (f n : ℕ) (k l : List ℕ) → digitsBefore f n (k ++ l) ≡ digitsBefore f n k ++ l

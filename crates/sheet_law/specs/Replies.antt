@@ -3,12 +3,10 @@
 use Prim.Native.Nat.{ℕ, suc}
 use native.Mathlib.Omega.{arith}
 use mathlib.Core.Path.{_≡_, refl, sym, ap, _∙_}
-use mathlib.Core.List.{List, [], _∷_, _++_, append-cancel-right}
+use mathlib.Core.List.{List, _∷_, _++_, append-cancel-right}
 use mathlib.Core.Option.{Option, none, some}
-use lib.Dec.{eqb}
 use lib.IntN.{ℤ, pos, negsuc}
 use lib.ListN.{drop}
-use borrow.Author.Tests.{ne-eqb}
 use Rattle.calls.specs.declared.Reply.{Reply}
 use Rattle.calls.specs.declared.Reply.the-variants as reply
 use Rattle.calls.specs.declared.WalkReply.{WalkReply}
@@ -18,10 +16,10 @@ use Rattle.sheet_law.specs.declared.Number.{Number}
 use Rattle.sheet_law.specs.declared.Number.the-variants.{Fine, Bad}
 use Rattle.sheet_law.specs.declared.Angle.{Angle}
 use Rattle.sheet_law.specs.declared.Angle.the-variants.{At, Wrong}
-use Rattle.sheet_law.specs.Text.{text, same, SPACE, MINUS, decimal}
-use Rattle.sheet_law.specs.Reading.{first, rest, plain, negative, positive}
+use Rattle.sheet_law.specs.Text.{text, same, SPACE, decimal}
+use Rattle.sheet_law.specs.Reading.{first, rest, plain}
 use Rattle.sheet_law.specs.Printing.{walkText, replyText, printedLine}
-use Rattle.sheet_law.specs.Decimals.{AllDigits, all-digits, decimal-injective, plain-decimal, decimal-first, decimal-rest}
+use Rattle.sheet_law.specs.Decimals.{decimal-injective, plain-decimal, decimal-first, decimal-rest, signed, signed-decimal}
 
 -- A number, two of them and a pitch of any width, read for a reply.
 abbrev number : Number → (ℕ → Reply) → Option Reply
@@ -36,16 +34,12 @@ abbrev pitch : Angle → Option Reply
 pitch Wrong = none
 pitch (At v) = some (reply.Pitch v)
 
-abbrev angleOf : List ℕ → Angle
-angleOf [] = Wrong
-angleOf (b ∷ l) = pick (eqb b MINUS) (negative (plain l)) (positive (plain (b ∷ l)))
-
 -- The reply that a text is of, if any.
 abbrev pub replyNamed : List ℕ → Option Reply
 replyNamed l =
     pick (same (first l) (text "made")) (some reply.Made)
     (pick (same (first l) (text "at")) (number (plain (rest l)) reply.At)
-    (pick (same (first l) (text "pitch")) (pitch (angleOf (rest l)))
+    (pick (same (first l) (text "pitch")) (pitch (signed (λ x. x) (λ x. x) (rest l)))
     (pick (same (first l) (text "left")) (some reply.Left)
     (pick (same (first l) (text "claimed")) (number (plain (rest l)) reply.Claimed)
     (pick (same (first l) (text "written")) (number (plain (rest l)) reply.Written)
@@ -61,11 +55,6 @@ replyNamed l =
     (pick (same (first l) (text "refused")) (number (plain (rest l)) reply.Refused)
     none)))))))))))))))
 
-angle-digits : (k : List ℕ) → AllDigits k → angleOf k ≡ positive (plain k)
-unfolding plain
-angle-digits [] a = refl
-angle-digits (b ∷ k) a = rw (ne-eqb b MINUS (λ z. omega arith)) refl
-
 number-back : (n : ℕ) (f : ℕ → Reply) → number (plain (decimal n)) f ≡ some (f n)
 number-back n f = rw (plain-decimal n) refl
 
@@ -74,7 +63,7 @@ numbers-back n m f = rw (decimal-first n (decimal m), decimal-rest n (decimal m)
 
 pitch-back : (v : ℤ) → replyNamed (replyText (reply.Pitch v)) ≡ some (reply.Pitch v)
 unfolding first rest
-pitch-back (pos n) = ap pitch (angle-digits (decimal n) (all-digits n)) ∙ rw (plain-decimal n) refl
+pitch-back (pos n) = ap pitch (signed-decimal (λ x. x) (λ x. x) n)
 pitch-back (negsuc n) = rw (plain-decimal (suc n)) refl
 
 walk-back : (o : WalkReply) → replyNamed (walkText o) ≡ some (reply.Walked o)
