@@ -1,12 +1,11 @@
 -- A line's bytes to a command: document 01's 'Run sheet', sentence by sentence.
 use Prim.Native.Nat.{ℕ, zero, suc, _+_, _*_, _-_}
 use Prim.Native.String.{String}
-use mathlib.Core.Bool.{Bool, true, false, _&&_}
+use mathlib.Core.Bool.{Bool, _&&_}
 use mathlib.Core.List.{List, [], _∷_}
 use lib.Dec.{eqb, ltb}
 use lib.IntN.{ℤ, pos, negsuc}
 use lib.ListN.{length, getD, take, drop}
-use Rattle.calls.specs.declared.Call.{Call}
 use Rattle.calls.specs.declared.Call.the-variants as call
 use Rattle.calls.specs.Base.{pick}
 use Rattle.calls.specs.Rows.{outside}
@@ -17,7 +16,6 @@ use Rattle.sheet_law.specs.declared.Angle.{Angle}
 use Rattle.sheet_law.specs.declared.Angle.the-variants.{At, Wrong}
 use Rattle.sheet_law.specs.declared.Word.{Word}
 use Rattle.sheet_law.specs.declared.Word.the-variants.{Store, Enter, Look, Leave, Claim, Write, Swap, Sync, Raise, Walk, Release, Unknown}
-use Rattle.sheet_law.specs.declared.Command.{Command}
 use Rattle.sheet_law.specs.declared.Command.the-variants.{Make, Run}
 use Rattle.sheet_law.specs.declared.Line.{Line}
 use Rattle.sheet_law.specs.declared.Line.the-variants.{Read, Unread}
