@@ -1,6 +1,7 @@
 -- What the code of the new store asks of an undamaged store, and what its accepted calls come to. Assumes nothing.
 use Prim.Native.Nat.{ℕ, zero, suc, _+_, _-_, _%_, _<_, _≤_}
 use native.Mathlib.Omega.{arith}
+use native.Mathlib.Nat.{add-zero}
 use mathlib.Core.Path.{_≡_, refl, sym}
 use mathlib.Core.Logic.{_≢_}
 use mathlib.Core.Bool.{Bool, true, false, not, _&&_, _||_}
@@ -15,12 +16,14 @@ use Rattle.calls.specs.Rows.{anyTrue}
 use Rattle.calls.specs.RowLaws.{clash, and-false, or-false, or-none, all-false}
 use Rattle.layout.specs.declared.Reader.{Reader}
 use Rattle.layout.specs.declared.Publisher.{Publisher}
+use Rattle.layout.specs.declared.Walk.{Walk}
+use Rattle.layout.specs.declared.Progress.{Progress}
 use Rattle.layout.specs.Layout.{readers, publishers, slots, current, version, readerAt, withReader}
 use Rattle.statement.specs.Machine.{State, state, outcome}
-use Rattle.publication_law.specs.Steps.{reader, publisher}
+use Rattle.publication_law.specs.Steps.{reader, publisher, counted}
 use Rattle.publication_law.specs.Rules.{damaged, step}
 use Rattle.publication_law.specs.Calls.{undamaged-fine, enter-accepted, leave-accepted}
-use Rattle.grace_version_law.specs.Steps.{readerRows, ownRows, onward, leaving, lookedAt, progress, looksFrom, rules}
+use Rattle.grace_version_law.specs.Steps.{readerRows, ownRows, onward, leaving, lookedAt, looksFrom, rules}
 use Rattle.grace_version_law.specs.Safety.{next-below}
 
 -- The damage test of a reader, by its place.
@@ -121,23 +124,26 @@ module _ (v cur : ℕ) (x : Reader) where
   unfolding onward
   onward-picks n d e = rw (d, e) refl
 
--- How a walk's looks go, by the first: none left, not passed, the last reader passed, another passed.
-module _ (w : List ℕ) (n mark waits : ℕ) where
-  pub looks-spent : (b next looks : ℕ) → b ≡ 0 → looksFrom w n mark waits b next looks ≡ progress mark next looks waits Spent
-  unfolding looksFrom
-  looks-spent b next looks e = rw e refl
+-- How a walk's looks go on from the walk k, by the first: none left, not passed, the last reader passed, another passed. A look leaves the walk m.
+module _ (w : List ℕ) (n : ℕ) (k : Walk) where
+  abbrev looksOn : Walk → ℕ → Progress
+  looksOn j b = looksFrom w n (j .mark) (j .waits) b (j .next) (j .looks)
 
-  pub looks-wait : (b next looks : ℕ) → 0 < b → readerAt w (lookedAt n next) .published < mark → looksFrom w n mark waits b next looks ≡ progress mark next (looks + 1) (waits + 1) (Waiting (lookedAt n next))
+  pub looks-spent : (b : ℕ) → b ≡ 0 → looksOn k b ≡ record { walk = k; reply = Spent }
   unfolding looksFrom
-  looks-wait zero next looks l e = absurd (omega arith)
-  looks-wait (suc b) next looks l e = rw (lt-ltb _ _ e) refl
+  looks-spent b e = rw e refl
 
-  pub looks-return : (b next looks : ℕ) → 0 < b → mark ≤ readerAt w (lookedAt n next) .published → n ≤ next + 1 → looksFrom w n mark waits b next looks ≡ progress mark (next + 1) (looks + 1) waits (Returned (looks + 1) waits)
+  pub looks-wait : (b : ℕ) (m : Walk) → 0 < b → m ≡ counted k 0 1 → readerAt w (lookedAt n (k .next)) .published < k .mark → looksOn k b ≡ record { walk = m; reply = Waiting (lookedAt n (k .next)) }
   unfolding looksFrom
-  looks-return zero next looks l e f = absurd (omega arith)
-  looks-return (suc b) next looks l e f = rw (le-ltb _ _ e, le-leb _ _ f) refl
+  looks-wait zero m l is e = absurd (omega arith)
+  looks-wait (suc b) m l is e = rw (is, add-zero (k .next), lt-ltb _ _ e) refl
 
-  pub looks-on : (b next looks : ℕ) → 0 < b → mark ≤ readerAt w (lookedAt n next) .published → next + 1 < n → looksFrom w n mark waits b next looks ≡ looksFrom w n mark waits (b - 1) (next + 1) (looks + 1)
+  pub looks-return : (b : ℕ) (m : Walk) → 0 < b → m ≡ counted k 1 0 → k .mark ≤ readerAt w (lookedAt n (k .next)) .published → n ≤ m .next → looksOn k b ≡ record { walk = m; reply = Returned (m .looks) (m .waits) }
   unfolding looksFrom
-  looks-on zero next looks l e f = absurd (omega arith)
-  looks-on (suc b) next looks l e f = let d : suc b - 1 ≡ b = omega arith in rw (le-ltb _ _ e, lt-leb _ _ f, d) refl
+  looks-return zero m l is e f = absurd (omega arith)
+  looks-return (suc b) m l is e f = rw (is, add-zero (k .waits), le-ltb _ _ e, le-leb _ _ (rw is at f)) refl
+
+  pub looks-on : (b : ℕ) (m : Walk) → 0 < b → m ≡ counted k 1 0 → k .mark ≤ readerAt w (lookedAt n (k .next)) .published → m .next < n → looksOn k b ≡ looksOn m (b - 1)
+  unfolding looksFrom
+  looks-on zero m l is e f = absurd (omega arith)
+  looks-on (suc b) m l is e f = let d : suc b - 1 ≡ b = omega arith in rw (is, add-zero (k .waits), le-ltb _ _ e, lt-leb _ _ (rw is at f), d) refl

@@ -1,5 +1,5 @@
 // WALK of the new store, in place on the lent words. It is total, and its contract is the step of grace_version_law.
-// It uses grace_version_damage, publication_grace and what lies below.
+// It uses grace_version_damage, publication_grace, publication_looks and what lies below.
 ghost use mathlib.Core.Path.{_≡_};
 ghost use Prim.Native.Nat.{_+_, _<_, _≤_};
 ghost use lib.ListN.{length};
@@ -27,6 +27,7 @@ use layout::publishers_of;
 use layout::reader_at;
 use layout::readers_of;
 use publication_grace::end_walk;
+use publication_looks::look_counted;
 
 // The reader that a walk looks at when so many of n readers have passed.
 fn looked_at(n: u64, passed: u64) -> u64
@@ -41,33 +42,23 @@ fn looks(words: &[u64], n: u64, walk: Walk, b: u16) -> Progress
     requires { ⌜ (length (now words) ≡ WORDS) × (n ≤ READERS-MAX) × (walk .next < n) × (walk .looks + b ≤ NUMBER-MAX) × (walk .waits ≤ walk .looks) ⌝ }
     ensures { λ k. ⌜ k ≡ looksFrom (now (words .entry)) n (walk .mark) (walk .waits) b (walk .next) (walk .looks) ⌝ }
 {
-    let mark = walk.mark;
-    let mut next = walk.next;
-    let mut looks = walk.looks;
-    let mut waits = walk.waits;
+    let mut moved = walk;
     let mut left = b as u64;
     let reply = loop {
         if left == 0 {
             break WalkReply::Spent;
         }
         left = left - 1;
-        looks = looks + 1;
-        let r = looked_at(n, next);
+        let r = looked_at(n, moved.next);
         let x = reader_at(words, r as usize);
-        if x.published < mark {
-            waits = waits + 1;
+        if x.published < moved.mark {
+            moved = look_counted(moved, 0, 1);
             break WalkReply::Waiting(r);
         }
-        next = next + 1;
-        if next >= n {
-            break WalkReply::Returned(looks, waits);
+        moved = look_counted(moved, 1, 0);
+        if moved.next >= n {
+            break WalkReply::Returned(moved.looks, moved.waits);
         }
-    };
-    let moved = Walk {
-        mark: mark,
-        next: next,
-        looks: looks,
-        waits: waits,
     };
     Progress {
         walk: moved,

@@ -1,6 +1,7 @@
 -- What the code of the old store asks of an undamaged store, and what its accepted calls come to. Assumes nothing.
 use Prim.Native.Nat.{ℕ, zero, suc, _+_, _-_, _%_, _<_, _≤_}
 use native.Mathlib.Omega.{arith}
+use native.Mathlib.Nat.{add-zero}
 use native.Mathlib.Numerals.{add-one}
 use mathlib.Core.Path.{_≡_, refl, sym, ap, _∙_}
 use mathlib.Core.Logic.{_≢_, _⊎_, inl, inr}
@@ -18,14 +19,15 @@ use Rattle.calls.specs.Rows.{anyTrue, countBelow}
 use Rattle.calls.specs.RowLaws.{clash, pick-split, or-false, count-zero}
 use Rattle.layout.specs.declared.Reader.{Reader}
 use Rattle.layout.specs.declared.Publisher.{Publisher}
+use Rattle.layout.specs.declared.Walk.{Walk}
 use Rattle.layout.specs.Layout.{readers, current, version, indicator, readerAt, withReader, withIndicator}
 use Rattle.statement.specs.Machine.{State, state, outcome}
-use Rattle.publication_law.specs.Steps.{reader}
+use Rattle.publication_law.specs.Steps.{reader, counted}
 use Rattle.publication_law.specs.Damage.{headRows, readersTest, publishersTest}
 use Rattle.publication_law.specs.DamageLaws.{Fine}
 use Rattle.publication_law.specs.Rules.{damaged, act, step}
 use Rattle.publication_law.specs.Calls.{undamaged, undamaged-fine, undamaged-further, damaged-readers, damaged-further, enter-accepted, leave-accepted}
-use Rattle.two_phase_law.specs.Steps.{kind, readerRows, addedTo, miscounted, onward, entered, leaving, watched, progress, lookAt, rules}
+use Rattle.two_phase_law.specs.Steps.{kind, readerRows, addedTo, miscounted, onward, entered, leaving, watched, lookAt, rules}
 use Rattle.two_phase_law.specs.Counts.{Counted}
 use Rattle.two_phase_law.specs.Safety.{law}
 
@@ -201,20 +203,20 @@ walks-late n (inr e) = omega arith
 pub watched-low : (y : Publisher) → watched y < 2
 watched-low y = pick-split (λ (i : ℕ). i < 2) (eqb (y .place) 35) (λ _. omega arith) (λ _. omega arith)
 
--- What a look comes to.
+-- What a look comes to; one that is made leaves the walk m.
 module _ (count : ℕ) (y : Publisher) (b : ℕ) where
-  pub look-spent : b ≡ 0 → progress y (y .walk .looks) (y .walk .waits) Spent ≡ lookAt count y b
+  pub look-spent : b ≡ 0 → record { walk = y .walk; reply = Spent } ≡ lookAt count y b
   unfolding lookAt
   look-spent e = rw e refl
 
-  pub look-waits : b ≢ 0 → count ≢ 0 → progress y (y .walk .looks + 1) (y .walk .waits + 1) (Waiting (watched y)) ≡ lookAt count y b
+  pub look-waits : (m : Walk) → m ≡ counted (y .walk) 0 1 → b ≢ 0 → count ≢ 0 → record { walk = m; reply = Waiting (watched y) } ≡ lookAt count y b
   unfolding lookAt
-  look-waits e f = rw (ne-eqb b 0 e, ne-eqb count 0 f) refl
+  look-waits m is e f = rw (is, add-zero (y .walk .next), ne-eqb b 0 e, ne-eqb count 0 f) refl
 
-  pub look-quiet : b ≢ 0 → count ≡ 0 → y .place ≡ 35 → progress y (y .walk .looks + 1) (y .walk .waits) Quiet ≡ lookAt count y b
+  pub look-quiet : (m : Walk) → m ≡ counted (y .walk) 0 0 → b ≢ 0 → count ≡ 0 → y .place ≡ 35 → record { walk = m; reply = Quiet } ≡ lookAt count y b
   unfolding lookAt
-  look-quiet e f t = rw (ne-eqb b 0 e, eq-eqb count 0 f, eq-eqb (y .place) 35 t) refl
+  look-quiet m is e f t = rw (is, add-zero (y .walk .next), add-zero (y .walk .waits), ne-eqb b 0 e, eq-eqb count 0 f, eq-eqb (y .place) 35 t) refl
 
-  pub look-returned : b ≢ 0 → count ≡ 0 → y .place ≢ 35 → progress y (y .walk .looks + 1) (y .walk .waits) (Returned (y .walk .looks + 1) (y .walk .waits)) ≡ lookAt count y b
+  pub look-returned : (m : Walk) → m ≡ counted (y .walk) 0 0 → b ≢ 0 → count ≡ 0 → y .place ≢ 35 → record { walk = m; reply = Returned (m .looks) (m .waits) } ≡ lookAt count y b
   unfolding lookAt
-  look-returned e f t = rw (ne-eqb b 0 e, eq-eqb count 0 f, ne-eqb (y .place) 35 t) refl
+  look-returned m is e f t = rw (is, add-zero (y .walk .next), add-zero (y .walk .waits), ne-eqb b 0 e, eq-eqb count 0 f, ne-eqb (y .place) 35 t) refl

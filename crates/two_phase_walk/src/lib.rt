@@ -1,5 +1,5 @@
 // WALK of the old store, in place on the lent words. It is total, and its contract is the step of two_phase_law.
-// It uses two_phase_damage, publication_grace and what lies below.
+// It uses two_phase_damage, publication_grace, publication_looks and what lies below.
 ghost use mathlib.Core.Path.{_≡_};
 ghost use Prim.Native.Nat.{_+_, _≤_};
 ghost use Rattle.calls.specs.declared.Call.the-variants.{Walk as WALK};
@@ -21,6 +21,7 @@ use layout::indicator_of;
 use layout::publisher_at;
 use layout::publishers_of;
 use publication_grace::end_walk;
+use publication_looks::look_counted;
 use two_phase_damage::head_is_damaged;
 use two_phase_damage::publishers_are_damaged;
 use two_phase_damage::readers_are_damaged;
@@ -41,7 +42,7 @@ fn look(count: u64, y: Publisher, b: u16) -> Progress
     requires { ⌜ (y .walk .looks + b ≤ NUMBER-MAX) × (y .walk .waits ≤ y .walk .looks) ⌝ }
     ensures { λ k. ⌜ k ≡ lookAt count y b ⌝ }
 {
-    let mut walk = y.walk;
+    let walk = y.walk;
     if b == 0 {
         let reply = WalkReply::Spent;
         return Progress {
@@ -49,25 +50,25 @@ fn look(count: u64, y: Publisher, b: u16) -> Progress
             reply: reply,
         };
     }
-    walk.looks = walk.looks + 1;
     if count != 0 {
-        walk.waits = walk.waits + 1;
+        let moved = look_counted(walk, 0, 1);
         let reply = WalkReply::Waiting(looked_at(y));
         return Progress {
-            walk: walk,
+            walk: moved,
             reply: reply,
         };
     }
+    let moved = look_counted(walk, 0, 0);
     if y.place == 35 {
         let reply = WalkReply::Quiet;
         return Progress {
-            walk: walk,
+            walk: moved,
             reply: reply,
         };
     }
-    let reply = WalkReply::Returned(walk.looks, walk.waits);
+    let reply = WalkReply::Returned(moved.looks, moved.waits);
     Progress {
-        walk: walk,
+        walk: moved,
         reply: reply,
     }
 }

@@ -14,13 +14,14 @@ use Rattle.grace_version_walk.proofs.looks.Reads as reads
 use Rattle.grace_version_walk.proofs.looks.Lts as lts
 use Rattle.grace_version_walk.proofs.looked_at.Reads as looked-at-reads
 use Rattle.layout.proofs.reader_at.Reads as reader-at-reads
+use Rattle.publication_looks.proofs.look_counted.Reads as look-counted-reads
 
 abbrev Inv-loop : tie.InvT-loop
-Inv-loop words n b mark next₀ looks₀ waits₀ left₀ next looks waits left = (next < n) × (n ≤ READERS-MAX) × (looks + left ≤ NUMBER-MAX) × (waits ≤ looks) × (length words ≡ WORDS)
-    × (looksFrom words n mark waits₀ left₀ next₀ looks₀ ≡ looksFrom words n mark waits left next looks)
+Inv-loop words n b moved₀ left₀ moved left = (moved .next < n) × (n ≤ READERS-MAX) × (moved .looks + left ≤ NUMBER-MAX) × (moved .waits ≤ moved .looks) × (length words ≡ WORDS)
+    × (looksFrom words n (moved₀ .mark) (moved₀ .waits) left₀ (moved₀ .next) (moved₀ .looks) ≡ looksFrom words n (moved .mark) (moved .waits) left (moved .next) (moved .looks))
 
 abbrev μ-loop : tie.MeasureT-loop
-μ-loop words n b mark next₀ looks₀ waits₀ left₀ next looks waits left = left
+μ-loop words n b moved₀ left₀ moved left = left
 
 loop-holds : tie.Need-loop-holds Inv-loop μ-loop
 loop-holds c = (search needs, search needs, search needs, search needs, search needs, refl)
@@ -28,42 +29,39 @@ loop-holds c = (search needs, search needs, search needs, search needs, search n
 sub-left : tie.Need-sub-left Inv-loop μ-loop
 sub-left c = search needs
 
-add-looks : tie.Need-add-looks Inv-loop μ-loop
-add-looks c = search needs
-
 looked-at-requires : tie.Need-looked-at-requires Inv-loop μ-loop
 looked-at-requires c κs = search needs
 
 reader-at-requires : tie.Need-reader-at-requires Inv-loop μ-loop
 reader-at-requires c κs = search needs
 
-add-waits : tie.Need-add-waits Inv-loop μ-loop
-add-waits c = search needs
+look-counted-requires : tie.Need-look-counted-requires Inv-loop μ-loop
+look-counted-requires c κs = search needs
 
-add-next : tie.Need-add-next Inv-loop μ-loop
-add-next c = search needs
+look-counted-requires-2 : tie.Need-look-counted-requires-2 Inv-loop μ-loop
+look-counted-requires-2 c κs = search needs
 
 loop-less : tie.Need-loop-less Inv-loop μ-loop
 loop-less c = search needs
 
 loop-again : tie.Need-loop-again Inv-loop μ-loop
-loop-again c = let k = c .before .before .before .before .before .before .loop in (
+loop-again c = let is = c .before .before .look-counted2 .ensures in (
   search needs,
   search needs,
+  rw is (omega (arith, c .before .before .before .before .before .before .before .before .before .loop .inv .2)),
+  rw is (omega (arith, c .before .before .before .before .before .before .before .before .before .loop .inv .3)),
   search needs,
-  search needs,
-  search needs,
-  k .inv .5 ∙ looks-on _ _ _ _ _ _ _ (omega arith) (rw (c .before .before .before .reader-at .ensures, c .before .before .before .before .looked-at .ensures) at (c .before .if2 .left)) (omega arith),
+  c .before .before .before .before .before .before .before .before .before .loop .inv .5 ∙ looks-on _ _ _ _ _ (omega arith) is (rw (c .before .before .before .before .before .before .reader-at .ensures, c .before .before .before .before .before .before .before .looked-at .ensures) at (c .before .before .before .if2 .left)) (omega arith),
 )
 
 returns : tie.Need-returns Inv-loop μ-loop
-returns c = sym (c .before .loop .inv .5 ∙ looks-spent _ _ _ _ _ _ _ (omega arith))
+returns c = sym (c .before .loop .inv .5 ∙ looks-spent _ _ _ _ (omega arith))
 
 returns-2 : tie.Need-returns-2 Inv-loop μ-loop
-returns-2 c = rw (c .before .before .before .looked-at .ensures) (sym (c .before .before .before .before .before .loop .inv .5 ∙ looks-wait _ _ _ _ _ _ _ (omega arith) (rw (c .before .before .reader-at .ensures, c .before .before .before .looked-at .ensures) at (c .if2 .taken))))
+returns-2 c = rw (c .before .before .before .before .before .looked-at .ensures) (sym (c .before .before .before .before .before .before .before .loop .inv .5 ∙ looks-wait _ _ _ _ _ (omega arith) (c .look-counted .ensures) (rw (c .before .before .before .before .reader-at .ensures, c .before .before .before .before .before .looked-at .ensures) at (c .before .if2 .taken))))
 
 returns-3 : tie.Need-returns-3 Inv-loop μ-loop
-returns-3 c = sym (c .before .before .before .before .before .before .loop .inv .5 ∙ looks-return _ _ _ _ _ _ _ (omega arith) (rw (c .before .before .before .reader-at .ensures, c .before .before .before .before .looked-at .ensures) at (c .before .if2 .left)) (omega arith))
+returns-3 c = sym (c .before .before .before .before .before .before .before .before .before .loop .inv .5 ∙ looks-return _ _ _ _ _ (omega arith) (c .before .before .look-counted2 .ensures) (rw (c .before .before .before .before .before .before .reader-at .ensures, c .before .before .before .before .before .before .before .looked-at .ensures) at (c .before .before .before .if2 .left)) (omega arith))
 
 pub looks-spec : {M : Type 1} → statement M
 looks-spec =
@@ -73,11 +71,10 @@ looks-spec =
     μ-loop
     loop-holds
     sub-left
-    add-looks
     looked-at-requires
     reader-at-requires
-    add-waits
-    add-next
+    look-counted-requires
+    look-counted-requires-2
     loop-less
     loop-again
     returns
