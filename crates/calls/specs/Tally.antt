@@ -10,7 +10,7 @@ use Rattle.calls.specs.declared.WalkReply.the-variants.{Waiting, Spent, 
 use Rattle.calls.specs.Base.{upd}
 use Rattle.calls.specs.Events.{Event, placeOf, walkOf, foldEvents}
 
--- What a publisher did last, of CLAIM, SWAP, SYNC, a WALK that returned and RELEASE; idle if nothing yet.
+-- What a publisher did last, of CLAIM, SWAP, SYNC, a WALK that returned and RELEASE; idle after a RELEASE, and if nothing yet.
 pub data Phase : Type 0 where
   idle : Phase
   writing : Phase

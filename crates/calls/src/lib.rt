@@ -25,7 +25,7 @@ pub const SLOTS_MAX: u16 = 32;
 pub const TABLE: usize = 32;
 // The greatest number of 64 bits.
 pub const NUMBER_MAX: u64 = 18446744073709551615;
-// What LEAVE publishes, and what a fresh reader has published.
+// New store: what LEAVE publishes, and what a fresh reader has published.
 pub const NOT_READING: u64 = 18446744073709551615;
 
 // The kind word of a store's words.

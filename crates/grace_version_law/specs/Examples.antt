@@ -65,13 +65,13 @@ P11 = shows GraceVersion (given 1 2 3 0) (enters 4 0 ++ publication 0 1 (pos 100
 abbrev pub P12 : Example
 P12 = shows GraceVersion (given 1 1 2 0) (enters 3 0) (Leave 0 ∷ Enter 0 ∷ Leave 0 ∷ []) (Made ∷ Refused 20 ∷ At 4 ∷ Left ∷ [])
 
--- One whole publication, with every reply: SWAP and RELEASE reply with the former slot.
+-- One whole publication, with every reply from SWAP on: SWAP and RELEASE reply with the former slot.
 abbrev pub whole : Example
 whole = shows GraceVersion (given 1 1 2 0) (tableOf 0 1 (pos 100))
     (Swap 0 ∷ Sync 0 ∷ Raise 0 ∷ Walk 0 1 ∷ Release 0 ∷ [])
     (Made ∷ Swapped 0 ∷ Synced 1 ∷ Raised ∷ Walked (Returned 1 0) ∷ Freed 0 1 ∷ [])
 
--- The examples of document 01 that are about the new store, and of those that name no kind; and one whole publication.
+-- The examples of document 01 that are about the new store or name no kind; and one whole publication.
 unfoldable pub examples : List Example
 examples = P1 ∷ P2 ∷ P3 ∷ P4 ∷ P6 ∷ P7 ∷ P8 ∷ P8-below ∷ P9 GraceVersion ∷ P10 GraceVersion ∷ P11 ∷ P12 ∷ whole ∷ []
 

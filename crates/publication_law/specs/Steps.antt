@@ -193,6 +193,6 @@ makingTests vs g s =
     ∷ []
 
 -- A fresh store has every entry 9000, slot 0 current, readers and publishers at place 0, the version and the sizes as given
--- and every other number 0, but for what a kind's fresh reader x has.
+-- and every other number 0, but for the kind word and what a kind's fresh reader x has.
 abbrev pub made : ℕ → Reader → Given → State → State
 made kind x g s = state (fresh kind (g .readers) (g .publishers) (g .slots) (g .version) x) (replicate (length (s .entries)) FEATHERED)

@@ -21,7 +21,7 @@ use Rattle.sheet_law.specs.declared.Line.{Line}
 use Rattle.sheet_law.specs.declared.Line.the-variants.{Read, Unread}
 use Rattle.sheet_law.specs.Text.{text, same, SPACE, OPEN, CLOSE, MINUS, DIGIT-0, DIGIT-9}
 
--- Widths: 80 bytes a line; pitches signed 16 bits, versions 64, all other arguments 16, unsigned.
+-- Widths: 80 bytes a line; pitches signed 16 bits (PITCH-MIN is the size of the least, -32768), versions 64, all other arguments 16, unsigned.
 abbrev pub LINE-MAX : ℕ
 LINE-MAX = 80
 

@@ -34,7 +34,7 @@ rejoined o unlent = outcome (o .reply) (state (o .after .words) (o .after .entri
 abbrev pub lent : ℕ → (State → Outcome) → State → Outcome
 lent n f s = rejoined (f (state (s .words) (take n (s .entries)))) (drop n (s .entries))
 
--- `store` is lent exactly slots × 32 entries, and a call those of the made store. A refused `store` leaves the one before, since making does.
+-- `store` is lent exactly slots × 32 entries (all of the room for more slots than a store may have), and a call those of the made store. A refused `store` leaves the one before, since making does.
 unfoldable pub played : State → Command → Outcome
 played s (Make k rs ps ss v) = lent (ss * TABLE) (anyMaking k (given rs ps ss v)) s
 played s (Run c) = lent (slots (s .words) * TABLE) (λ (t : State). anyStep t c) s

@@ -31,13 +31,13 @@ P11 = shows TwoPhase (given 1 2 3 0) (enters 2 0 ++ publication 0 1 (pos 100))
     (Sync 0 ∷ Walk 0 9 ∷ Raise 0 ∷ Walk 0 9 ∷ Claim 1 2 ∷ [])
     (Made ∷ Synced 1 ∷ Walked Quiet ∷ Raised ∷ Walked (Waiting 0) ∷ Refused 31 ∷ [])
 
--- One whole publication, with every reply: SWAP and RELEASE reply with the former slot.
+-- One whole publication, with every reply from SWAP on: SWAP and RELEASE reply with the former slot.
 abbrev pub whole : Example
 whole = shows TwoPhase (given 1 1 2 0) (tableOf 0 1 (pos 100))
     (Swap 0 ∷ Sync 0 ∷ Walk 0 1 ∷ Raise 0 ∷ Walk 0 1 ∷ Release 0 ∷ [])
     (Made ∷ Swapped 0 ∷ Synced 1 ∷ Walked Quiet ∷ Raised ∷ Walked (Returned 2 0) ∷ Freed 0 1 ∷ [])
 
--- The examples of document 01 that are about the old store, and of those that name no kind; and one whole publication.
+-- The examples of document 01 that are about the old store or name no kind; and one whole publication.
 unfoldable pub examples : List Example
 examples = P5 ∷ P6 ∷ P9 TwoPhase ∷ P10 TwoPhase ∷ P11 ∷ whole ∷ []
 
