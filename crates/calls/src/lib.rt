@@ -5,9 +5,7 @@
 // A pitch, in hundredths of a degree.
 pub type Pitch = i16;
 
-// Its width, and its range.
-pub const PITCH_BITS: u32 = 16;
-
+// Its range.
 pub const PITCH_LOW: Pitch = -500;
 
 pub const PITCH_HIGH: Pitch = 9500;

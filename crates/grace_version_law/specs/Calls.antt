@@ -20,7 +20,7 @@ use Rattle.layout.specs.declared.Walk.{Walk}
 use Rattle.layout.specs.declared.Progress.{Progress}
 use Rattle.layout.specs.Layout.{readers, publishers, slots, current, version, readerAt, withReader}
 use Rattle.statement.specs.Machine.{State, state, outcome}
-use Rattle.publication_law.specs.Steps.{reader, publisher, counted}
+use Rattle.publication_law.specs.Steps.{reader, publisher, withLook}
 use Rattle.publication_law.specs.Rules.{damaged, step}
 use Rattle.publication_law.specs.Calls.{undamaged-fine, enter-accepted, leave-accepted}
 use Rattle.grace_version_law.specs.Steps.{readerRows, ownRows, onward, leaving, lookedAt, looksFrom, rules}
@@ -133,17 +133,17 @@ module _ (w : List ℕ) (n : ℕ) (k : Walk) where
   unfolding looksFrom
   looks-spent b e = rw e refl
 
-  pub looks-wait : (b : ℕ) (m : Walk) → 0 < b → m ≡ counted k 0 1 → readerAt w (lookedAt n (k .next)) .published < k .mark → looksOn k b ≡ record { walk = m; reply = Waiting (lookedAt n (k .next)) }
+  pub looks-wait : (b : ℕ) (m : Walk) → 0 < b → m ≡ withLook k 0 1 → readerAt w (lookedAt n (k .next)) .published < k .mark → looksOn k b ≡ record { walk = m; reply = Waiting (lookedAt n (k .next)) }
   unfolding looksFrom
   looks-wait zero m l is e = absurd (omega arith)
   looks-wait (suc b) m l is e = rw (is, add-zero (k .next), lt-ltb _ _ e) refl
 
-  pub looks-return : (b : ℕ) (m : Walk) → 0 < b → m ≡ counted k 1 0 → k .mark ≤ readerAt w (lookedAt n (k .next)) .published → n ≤ m .next → looksOn k b ≡ record { walk = m; reply = Returned (m .looks) (m .waits) }
+  pub looks-return : (b : ℕ) (m : Walk) → 0 < b → m ≡ withLook k 1 0 → k .mark ≤ readerAt w (lookedAt n (k .next)) .published → n ≤ m .next → looksOn k b ≡ record { walk = m; reply = Returned (m .looks) (m .waits) }
   unfolding looksFrom
   looks-return zero m l is e f = absurd (omega arith)
   looks-return (suc b) m l is e f = rw (is, add-zero (k .waits), le-ltb _ _ e, le-leb _ _ (rw is at f)) refl
 
-  pub looks-on : (b : ℕ) (m : Walk) → 0 < b → m ≡ counted k 1 0 → k .mark ≤ readerAt w (lookedAt n (k .next)) .published → m .next < n → looksOn k b ≡ looksOn m (b - 1)
+  pub looks-on : (b : ℕ) (m : Walk) → 0 < b → m ≡ withLook k 1 0 → k .mark ≤ readerAt w (lookedAt n (k .next)) .published → m .next < n → looksOn k b ≡ looksOn m (b - 1)
   unfolding looksFrom
   looks-on zero m l is e f = absurd (omega arith)
   looks-on (suc b) m l is e f = let d : suc b - 1 ≡ b = omega arith in rw (is, add-zero (k .waits), le-ltb _ _ e, lt-leb _ _ (rw is at f), d) refl

@@ -2,15 +2,14 @@
 // `count_look` takes the record apart and is proved by hand; every caller uses `look_counted`, whose parameters are plain.
 // It uses layout; its contracts cite publication_law.
 ghost use mathlib.Core.Path.{_≡_};
-ghost use Prim.Native.Nat.{_+_, _≤_};
-ghost use Rattle.calls.specs.Numbers.{NUMBER-MAX};
-ghost use Rattle.publication_law.specs.Steps.{counted};
+ghost use Rattle.publication_law.specs.Steps.{withLook};
+ghost use Rattle.publication_looks.specs.Fits.{Fits};
 use layout::Walk;
 
 // The four numbers after one look more, which passed so many readers and waited so often.
 fn moved(mark: u64, next: u64, looks: u64, waits: u64, passed: u64, waited: u64) -> Walk
-    requires { ⌜ (next + passed ≤ NUMBER-MAX) × (looks + 1 ≤ NUMBER-MAX) × (waits + waited ≤ NUMBER-MAX) ⌝ }
-    ensures { λ k. ⌜ k ≡ counted (record { mark = mark; next = next; looks = looks; waits = waits }) passed waited ⌝ }
+    requires { ⌜ Fits (record { mark = mark; next = next; looks = looks; waits = waits }) passed waited ⌝ }
+    ensures { λ k. ⌜ k ≡ withLook (record { mark = mark; next = next; looks = looks; waits = waits }) passed waited ⌝ }
 {
     Walk {
         mark: mark,
@@ -22,8 +21,8 @@ fn moved(mark: u64, next: u64, looks: u64, waits: u64, passed: u64, waited: u64)
 
 // The walk is lent: it is taken apart, and the moved numbers are stored.
 fn count_look(walk: &mut Walk, passed: u64, waited: u64)
-    requires { ⌜ (now walk .next + passed ≤ NUMBER-MAX) × (now walk .looks + 1 ≤ NUMBER-MAX) × (now walk .waits + waited ≤ NUMBER-MAX) ⌝ }
-    ensures { λ _. ⌜ now (walk .exit) ≡ counted (now (walk .entry)) passed waited ⌝ }
+    requires { ⌜ Fits (now walk) passed waited ⌝ }
+    ensures { λ _. ⌜ now (walk .exit) ≡ withLook (now (walk .entry)) passed waited ⌝ }
 {
     let m = moved(walk.mark, walk.next, walk.looks, walk.waits, passed, waited);
     walk.next = m.next;
@@ -33,8 +32,8 @@ fn count_look(walk: &mut Walk, passed: u64, waited: u64)
 
 // A walk with one look more, by value: whoever calls this needs no proof by hand.
 pub fn look_counted(walk: Walk, passed: u64, waited: u64) -> Walk
-    requires { ⌜ (walk .next + passed ≤ NUMBER-MAX) × (walk .looks + 1 ≤ NUMBER-MAX) × (walk .waits + waited ≤ NUMBER-MAX) ⌝ }
-    ensures { λ k. ⌜ k ≡ counted walk passed waited ⌝ }
+    requires { ⌜ Fits walk passed waited ⌝ }
+    ensures { λ k. ⌜ k ≡ withLook walk passed waited ⌝ }
 {
     let mut w = walk;
     count_look(&mut w, passed, waited);

@@ -22,7 +22,7 @@ use Rattle.layout.specs.declared.Publisher.{Publisher}
 use Rattle.layout.specs.declared.Walk.{Walk}
 use Rattle.layout.specs.Layout.{readers, current, version, indicator, readerAt, withReader, withIndicator}
 use Rattle.statement.specs.Machine.{State, state, outcome}
-use Rattle.publication_law.specs.Steps.{reader, counted}
+use Rattle.publication_law.specs.Steps.{reader, withLook}
 use Rattle.publication_law.specs.Damage.{headRows, readersTest, publishersTest}
 use Rattle.publication_law.specs.DamageLaws.{Fine}
 use Rattle.publication_law.specs.Rules.{damaged, act, step}
@@ -209,14 +209,14 @@ module _ (count : ℕ) (y : Publisher) (b : ℕ) where
   unfolding lookAt
   look-spent e = rw e refl
 
-  pub look-waits : (m : Walk) → m ≡ counted (y .walk) 0 1 → b ≢ 0 → count ≢ 0 → record { walk = m; reply = Waiting (watched y) } ≡ lookAt count y b
+  pub look-waits : (m : Walk) → m ≡ withLook (y .walk) 0 1 → b ≢ 0 → count ≢ 0 → record { walk = m; reply = Waiting (watched y) } ≡ lookAt count y b
   unfolding lookAt
   look-waits m is e f = rw (is, add-zero (y .walk .next), ne-eqb b 0 e, ne-eqb count 0 f) refl
 
-  pub look-quiet : (m : Walk) → m ≡ counted (y .walk) 0 0 → b ≢ 0 → count ≡ 0 → y .place ≡ 35 → record { walk = m; reply = Quiet } ≡ lookAt count y b
+  pub look-quiet : (m : Walk) → m ≡ withLook (y .walk) 0 0 → b ≢ 0 → count ≡ 0 → y .place ≡ 35 → record { walk = m; reply = Quiet } ≡ lookAt count y b
   unfolding lookAt
   look-quiet m is e f t = rw (is, add-zero (y .walk .next), add-zero (y .walk .waits), ne-eqb b 0 e, eq-eqb count 0 f, eq-eqb (y .place) 35 t) refl
 
-  pub look-returned : (m : Walk) → m ≡ counted (y .walk) 0 0 → b ≢ 0 → count ≡ 0 → y .place ≢ 35 → record { walk = m; reply = Returned (m .looks) (m .waits) } ≡ lookAt count y b
+  pub look-returned : (m : Walk) → m ≡ withLook (y .walk) 0 0 → b ≢ 0 → count ≡ 0 → y .place ≢ 35 → record { walk = m; reply = Returned (m .looks) (m .waits) } ≡ lookAt count y b
   unfolding lookAt
   look-returned m is e f t = rw (is, add-zero (y .walk .next), add-zero (y .walk .waits), ne-eqb b 0 e, eq-eqb count 0 f, ne-eqb (y .place) 35 t) refl
