@@ -114,9 +114,26 @@ or-either : (a b : Bool) → a || b ≡ true → (a ≡ true) ⊎ (b ≡ true)
 or-either true b e = inl refl
 or-either false b e = inr e
 
+-- ENTER takes a reader at pl with pick pk one place on, to pl′ with pick pk′: below 4, to 4, or from 4 to 5, where it picks the current slot.
+pub data Onward (cur pl pk pl′ pk′ : ℕ) : Type 0 where
+  stays-out : pl ≤ 3 → pl′ ≤ 3 → pk′ ≡ pk → Onward cur pl pk pl′ pk′
+  opens : pl ≤ 3 → pl′ ≡ 4 → pk′ ≡ pk → Onward cur pl pk pl′ pk′
+  picks : pl ≡ 4 → pl′ ≡ 5 → pk′ ≡ cur → Onward cur pl pk pl′ pk′
+
+-- An open section stays open, and what is picked is current.
+pub onward-open : {cur pl pk pl′ pk′ : ℕ} → Onward cur pl pk pl′ pk′ → 4 ≤ pl → 4 ≤ pl′
+onward-open (stays-out a b e) l = absurd (omega arith)
+onward-open (opens a b e) l = omega arith
+onward-open (picks a b e) l = omega arith
+
+pub onward-picked : {cur pl pk pl′ pk′ : ℕ} → Onward cur pl pk pl′ pk′ → pl′ ≡ 5 → pk′ ≡ cur
+onward-picked (stays-out a b e) five = absurd (omega arith)
+onward-picked (opens a b e) five = absurd (omega arith)
+onward-picked (picks a b e) five = e
+
 module _ (h : Model) (t : Told) (n m cur : ℕ) (rpl rpk ppl pcl : ℕ → ℕ) (F : ℕ → ℕ → Bool) (E : ℕ → ℕ → ℤ) (i : Core h t n m cur rpl rpk ppl pcl F E) where
   -- ENTER to a place below 4, to 4, and to 5.
-  pub enter-below : (r pl : ℕ) → r < n → rpl r ≤ 3 → pl ≤ 3
+  enter-below : (r pl : ℕ) → r < n → rpl r ≤ 3 → pl ≤ 3
       → Core (shelve h (Enter r) (At pl)) (tell t (Enter r) (At pl)) n m cur (upd rpl r pl) (upd rpk r (rpk r)) ppl pcl F E
   enter-below r pl rn old new = rw (ne-eqb pl 4 (λ z. omega arith), ne-eqb pl 5 (λ z. omega arith)) (record {
     readers = at-or r (rw (same r) (let o = i .readers r in record {
@@ -134,7 +151,7 @@ module _ (h : Model) (t : Told) (n m cur : ℕ) (rpl rpk ppl pcl : ℕ → ℕ) 
     whole = i .whole;
   })
 
-  pub enter-open : (r : ℕ) → r < n → rpl r ≤ 3
+  enter-open : (r : ℕ) → r < n → rpl r ≤ 3
       → Core (shelve h (Enter r) (At 4)) (tell t (Enter r) (At 4)) n m cur (upd rpl r 4) (upd rpk r (rpk r)) ppl pcl F E
   enter-open r rn old = record {
     readers = at-or r (rw (same r) (record {
@@ -152,7 +169,7 @@ module _ (h : Model) (t : Told) (n m cur : ℕ) (rpl rpk ppl pcl : ℕ → ℕ) 
     whole = i .whole;
   }
 
-  pub enter-pick : (r : ℕ) → r < n → rpl r ≡ 4
+  enter-pick : (r : ℕ) → r < n → rpl r ≡ 4
       → Core (shelve h (Enter r) (At 5)) (tell t (Enter r) (At 5)) n m cur (upd rpl r 5) (upd rpk r cur) ppl pcl F E
   enter-pick r rn at4 = record {
     readers = at-or r (rw (same r, i .current-is) (let o = i .readers r in record {
@@ -170,8 +187,13 @@ module _ (h : Model) (t : Told) (n m cur : ℕ) (rpl rpk ppl pcl : ℕ → ℕ) 
     whole = i .whole;
   }
 
-  pub leave-core : (r : ℕ) (a : Reply) → Core h (tell t (Leave r) a) n m cur (upd rpl r 0) (upd rpk r (rpk r)) ppl pcl F E
-  leave-core r a = record {
+  pub enter-core : (r pl pk : ℕ) → r < n → Onward cur (rpl r) (rpk r) pl pk → Core (shelve h (Enter r) (At pl)) (tell t (Enter r) (At pl)) n m cur (upd rpl r pl) (upd rpk r pk) ppl pcl F E
+  enter-core r pl pk rn (stays-out a b e) = rw e (enter-below r pl rn a b)
+  enter-core r pl pk rn (opens a b e) = rw (b, e) (enter-open r rn a)
+  enter-core r pl pk rn (picks a b e) = rw (b, e) (enter-pick r rn a)
+
+  pub leave-core : (r pk : ℕ) (a : Reply) → Core h (tell t (Leave r) a) n m cur (upd rpl r 0) (upd rpk r pk) ppl pcl F E
+  leave-core r pk a = record {
     readers = at-or r (rw (same r) (record {
       bound = λ q. absurd (omega arith);
       inside-is = refl;

@@ -10,8 +10,8 @@ use lib.IntN.{ℤ, pos}
 use lib.ListN.{getD, set, length, length-set, replicate, length-replicate}
 use lib.Dec.{ltb, eqb}
 use borrow.Author.Tests.{eqb-true, eqb-false, leb-false, le-leb, ltb-false, lt-ltb, not-true, not-false}
-use Rattle.calls.specs.declared.Call.the-variants.{Claim, Write, Swap, Sync, Raise, Walk, Release}
-use Rattle.calls.specs.declared.Reply.the-variants.{Claimed, Written, Swapped, Synced, Walked, Freed}
+use Rattle.calls.specs.declared.Call.the-variants.{Enter, Leave, Claim, Write, Swap, Sync, Raise, Walk, Release}
+use Rattle.calls.specs.declared.Reply.the-variants.{At, Left, Claimed, Written, Swapped, Synced, Walked, Freed}
 use Rattle.calls.specs.declared.WalkReply.{WalkReply}
 use Rattle.calls.specs.declared.WalkReply.the-variants.{Waiting, Spent, Quiet, Returned}
 use Rattle.calls.specs.Base.{pick, upd}
@@ -26,20 +26,21 @@ use Rattle.layout.specs.declared.Publisher.{Publisher}
 use Rattle.layout.specs.declared.Progress.{Progress}
 use Rattle.layout.specs.Layout.{HEAD, KIND-AT, READERS-AT, PUBLISHERS-AT, SLOTS-AT, CURRENT-AT, VERSION-AT, RELEASES-AT, WORDS, readers, publishers, slots, current, version, releases, readerAt, publisherAt, entryAt, fresh, noReader, noPublisher}
 use Rattle.layout.specs.Laws.{fresh-long, fresh-head, fresh-reader, fresh-publisher}
-use Rattle.statement.specs.Machine.{State, Outcome, Given, heldSlot}
+use Rattle.statement.specs.Machine.{State, state, Outcome, Given, heldSlot}
 use Rattle.statement.specs.Demand3.{Slots, Picks}
 use Rattle.statement.specs.Kept.{Ghost, ghost₀, advance}
 use Rattle.publication_law.specs.Steps.{reader, publisher, atPlace, lookTests, claimTests, claim, inUse, writeTests, write, swapTests, swap, syncTests, sync, newWalk, raise, placeAfter, walked, walk, releaseTests, release, oneMore, makingTests, made}
 use Rattle.publication_law.specs.Damage.{Kind}
 use Rattle.publication_law.specs.DamageLaws.{Fine, PublisherFine, publisher-below}
 use Rattle.publication_law.specs.KindLaw.{KindLaw, fine-publisher, publisher-undamaged}
-use Rattle.publication_law.specs.Core.{Core, Hold, claim-core, late-core, swap-core, release-core, write-core, held-is, held-bound, role-core, safe-core, free-core, fresh-core}
-use Rattle.publication_law.specs.Grace.{Grace, early-grace, wait-grace, sync-grace, nobody, release-grace, fresh-grace}
+use Rattle.publication_law.specs.Core.{Core, Hold, Onward, onward-open, onward-picked, enter-core, leave-core, claim-core, late-core, swap-core, release-core, write-core, held-is, held-bound, role-core, safe-core, free-core, fresh-core}
+use Rattle.publication_law.specs.Core.Hold.{by-swap}
+use Rattle.publication_law.specs.Grace.{Grace, enter-grace, leave-grace, early-grace, wait-grace, sync-grace, nobody, release-grace, fresh-grace}
 use Rattle.publication_law.specs.Single.{formerAt, former-early, former-same, former-swap, single, single-free}
-use Rattle.publication_law.specs.Tallied.{Tallied, phase-writing, phase-syncing, stay-tallied, phase-tallied, sync-tallied, wait-tallied, return-tallied, release-tallied, fresh-tallied}
+use Rattle.publication_law.specs.Tallied.{Tallied, phase-writing, phase-syncing, place-tallied, stay-tallied, phase-tallied, sync-tallied, wait-tallied, return-tallied, release-tallied, fresh-tallied}
 use Rattle.publication_law.specs.Entries.{slotEntry, set-entry, entry-same, slot-same}
-use Rattle.publication_law.specs.Moves.{moves-publisher, moves-head}
-use Rattle.publication_law.specs.Invariant.{formers, Invariant, publisher-moved}
+use Rattle.publication_law.specs.Moves.{MovesReader, moves-publisher, moves-head}
+use Rattle.publication_law.specs.Invariant.{formers, Invariant, reader-moved, publisher-moved}
 
 -- The waits after a walk's answer.
 abbrev pub waitsAfter : ℕ → WalkReply → ℕ
@@ -65,6 +66,21 @@ module _ (K : Kind) (law : KindLaw K) (z : Given) (g : Ghost) (s : State) (i : I
 
   not-current : (x : ℕ) → inUse s x ≡ false → current (s .words) ≢ x
   not-current x e = eqb-false _ _ (or-false (eqb (current (s .words)) x) _ e .0)
+
+  -- ENTER and LEAVE, whatever else of the reader and of the head a kind changes.
+  module _ (w′ : List ℕ) (r : ℕ) (x : Reader) (m : MovesReader (s .words) w′ r x) (ok : K .readerDamaged (slots (s .words)) x ≡ false) where
+    pub enter-keeps : r < readers (s .words) → Onward (current (s .words)) (reader s r .place) (reader s r .picked) (x .place) (x .picked)
+        → Invariant K z (advance g (Enter r) (At (x .place))) (state w′ (s .entries))
+    enter-keeps rn on = reader-moved K z g s i _ w′ r x m ok
+        (enter-core _ _ _ _ _ _ _ _ _ _ _ (i .core) r _ _ rn on)
+        (enter-grace _ _ _ _ _ (i .grace) r _ _ (onward-open on) (λ five p e. i .core .publishers p .apart _ (by-swap e) (onward-picked on five)))
+        (place-tallied _ _ _ _ _ (i .tallied) r (x .place))
+
+    pub leave-keeps : x .place ≡ 0 → Invariant K z (advance g (Leave r) Left) (state w′ (s .entries))
+    leave-keeps out = reader-moved K z g s i _ w′ r x m ok
+        (rw out (leave-core _ _ _ _ _ _ _ _ _ _ _ (i .core) r _ Left))
+        (rw out (leave-grace _ _ _ _ _ (i .grace) (g .told) r _))
+        (rw out (place-tallied _ _ _ _ _ (i .tallied) r 0))
 
   pub claim-keeps : (e : Bool) (p x : ℕ) → AllClear (claimTests e s p x)
       → K .publisherDamaged (readers (s .words)) (slots (s .words)) (record { place = 1; held = x; walk = publisher s p .walk }) ≡ false

@@ -16,3 +16,4 @@ pub mod Calls
 pub mod Decide
 pub mod Frames
 pub mod Lawful
+pub mod Detector
