@@ -20,7 +20,7 @@ use Rattle.calls.specs.declared.Reply.the-variants.{Made, At, Pitch, Left, Writ
 use Rattle.calls.specs.declared.WalkReply.the-variants.{Spent, Returned}
 use Rattle.calls.specs.Numbers.{READERS-MAX, PUBLISHERS-MAX, SLOTS-MIN, SLOTS-MAX, TABLE, PITCH-LOW, PITCH-HIGH, NUMBER-MAX, MODULUS, DAMAGED, BUSY}
 use Rattle.calls.specs.Rows.{Test, firstOf, outside}
-use Rattle.calls.specs.RowLaws.{clash, and-not, or-false, neither, negated, within, not-outside, no-below, some-below, pick-split, AllClear, allAbove, all-above, first-within}
+use Rattle.calls.specs.RowLaws.{clash, and-not, neither, negated, within, not-outside, no-below, some-below, pick-split, AllClear, allAbove, all-above, first-within}
 use Rattle.calls.specs.AnswerLaws.{NarrowPitch, Proper}
 use Rattle.calls.specs.Events.{accepted}
 use Rattle.calls.specs.Events.Event.{_⇒_}
@@ -38,12 +38,13 @@ use Rattle.statement.specs.Kept.{Ghost, ghost₀, advance, next, Back, Kept, de
 use Rattle.publication_law.specs.Steps.{reader, publisher, atPlace, anotherBusy, enterTests, leaveTests, syncTests, sync, raise, walk, oneMore, makingTests, made}
 use Rattle.publication_law.specs.Damage.{Kind, sharedDamage}
 use Rattle.publication_law.specs.Rules.{Rules, traitsOf, damaged, tests, act, rows, step, making, machine}
-use Rattle.publication_law.specs.DamageLaws.{Fine, fine-of, fine-to, publisher-below}
+use Rattle.publication_law.specs.DamageLaws.{Fine, fine-to, publisher-below}
 use Rattle.publication_law.specs.Moves.{MovesPublisher, MovesReader, moves-publisher, moves-head}
 use Rattle.publication_law.specs.Tallied.{InPhase, in-phase}
 use Rattle.publication_law.specs.Invariant.{Invariant}
 use Rattle.publication_law.specs.KindLaw.{KindLaw, places, early-fits}
 use Rattle.publication_law.specs.Keeps.{publisher-fine, claim-keeps, claim-unpicked, write-keeps, swap-keeps, release-keeps, look-right, released-in-order, slots-right, picks-right, table-right, idle-told, busy-told, former-told, free-told, made-invariant}
+use Rattle.publication_law.specs.Calls.{undamaged-fine}
 use Rattle.publication_law.specs.Decide.{decided, decide-accepts, decide-leaves, decide-why}
 use Rattle.publication_law.specs.Frames.{same-framed, reader-framed, claim-framed, write-framed, swap-framed, sync-framed, raise-framed, walk-framed, release-framed}
 
@@ -111,10 +112,6 @@ module _ (R : Rules) (last : ℕ) (passes : Given → ℕ) (onward-place : ℕ �
   act-accepted s (Raise p) = pick-split (λ (o : Outcome). accepted (o .reply) ≡ true) (eqb (version (s .words)) (R .kind .versions .beforeMark (publisher s p .walk .mark))) (λ _. refl) (λ _. refl)
   act-accepted s (Walk p b) = refl
   act-accepted s (Release p) = refl
-
-  pub fine-undamaged : (s : State) → damaged R s ≡ false → Fine (R .kind) s
-  unfolding damaged
-  fine-undamaged s e = fine-of (R .kind) s (or-false (sharedDamage (R .kind) s) (R .further s) e .0)
 
   -- Each step keeps the invariant.
   module _ (z : Given) (g : Ghost) (s : State) (i : Good (R .kind) (L .Own) z g s) where
@@ -361,16 +358,16 @@ module _ (R : Rules) (last : ℕ) (passes : Given → ℕ) (onward-place : ℕ �
 
   -- A call moves the record that it names, and no other.
   framed : (s : State) (c : Call) → AllClear (rows R s c) → Framed c (s .words) (act R s c .after .words)
-  framed s (Enter r) f = reader-framed (Enter r) _ _ r _ (L .enter-moves s (fine-undamaged s (f .0)) r (leb-false _ _ (f .1 .0))) refl
+  framed s (Enter r) f = reader-framed (Enter r) _ _ r _ (L .enter-moves s (undamaged-fine R s (f .0)) r (leb-false _ _ (f .1 .0))) refl
   framed s (Look r k) f = same-framed (Look r k) (s .words)
-  framed s (Leave r) f = reader-framed (Leave r) _ _ r _ (L .leave-moves s (fine-undamaged s (f .0)) r (leb-false _ _ (f .1 .0))) refl
-  framed s (Claim p x) f = claim-framed (R .kind) s (fine-undamaged s (f .0)) (R .exclusive) p x (f .1)
-  framed s (Write p v) f = write-framed (R .kind) s (fine-undamaged s (f .0)) p v (f .1)
-  framed s (Swap p) f = swap-framed (R .kind) s (fine-undamaged s (f .0)) p (f .1)
-  framed s (Sync p) f = sync-framed (R .kind) s (fine-undamaged s (f .0)) (R .kind .versions) p (f .1)
-  framed s (Raise p) f = raise-framed (R .kind) s (fine-undamaged s (f .0)) (R .kind .versions) p (leb-false _ _ (f .1 .0))
-  framed s (Walk p b) f = walk-framed (R .kind) s (fine-undamaged s (f .0)) p b (R .looks s p b) (leb-false _ _ (f .1 .0))
-  framed s (Release p) f = release-framed (R .kind) s (fine-undamaged s (f .0)) p (f .1)
+  framed s (Leave r) f = reader-framed (Leave r) _ _ r _ (L .leave-moves s (undamaged-fine R s (f .0)) r (leb-false _ _ (f .1 .0))) refl
+  framed s (Claim p x) f = claim-framed (R .kind) s (undamaged-fine R s (f .0)) (R .exclusive) p x (f .1)
+  framed s (Write p v) f = write-framed (R .kind) s (undamaged-fine R s (f .0)) p v (f .1)
+  framed s (Swap p) f = swap-framed (R .kind) s (undamaged-fine R s (f .0)) p (f .1)
+  framed s (Sync p) f = sync-framed (R .kind) s (undamaged-fine R s (f .0)) (R .kind .versions) p (f .1)
+  framed s (Raise p) f = raise-framed (R .kind) s (undamaged-fine R s (f .0)) (R .kind .versions) p (leb-false _ _ (f .1 .0))
+  framed s (Walk p b) f = walk-framed (R .kind) s (undamaged-fine R s (f .0)) p b (R .looks s p b) (leb-false _ _ (f .1 .0))
+  framed s (Release p) f = release-framed (R .kind) s (undamaged-fine R s (f .0)) p (f .1)
 
   step-framed : (s : State) (c : Call) → Framed c (s .words) (step R s c .after .words)
   unfolding step
@@ -389,9 +386,9 @@ module _ (R : Rules) (last : ℕ) (passes : Given → ℕ) (onward-place : ℕ �
   entries-stay s (Release p) ne = refl
 
   current-stays : (s : State) (c : Call) → AllClear (rows R s c) → ((p : ℕ) → c ≢ Swap p) → current (act R s c .after .words) ≡ current (s .words)
-  current-stays s (Enter r) f ne = L .enter-moves s (fine-undamaged s (f .0)) r (leb-false _ _ (f .1 .0)) .head CURRENT-AT (omega arith)
+  current-stays s (Enter r) f ne = L .enter-moves s (undamaged-fine R s (f .0)) r (leb-false _ _ (f .1 .0)) .head CURRENT-AT (omega arith)
   current-stays s (Look r k) f ne = refl
-  current-stays s (Leave r) f ne = L .leave-moves s (fine-undamaged s (f .0)) r (leb-false _ _ (f .1 .0)) .head CURRENT-AT (omega arith)
+  current-stays s (Leave r) f ne = L .leave-moves s (undamaged-fine R s (f .0)) r (leb-false _ _ (f .1 .0)) .head CURRENT-AT (omega arith)
   current-stays s (Claim p x) f ne = head-publisher (s .words) p _ CURRENT-AT (omega arith)
   current-stays s (Write p v) f ne = head-publisher (s .words) p _ CURRENT-AT (omega arith)
   current-stays s (Swap p) f ne = absurd (ne p refl)
@@ -448,5 +445,5 @@ module _ (R : Rules) (last : ℕ) (passes : Given → ℕ) (onward-place : ℕ �
   pub walk-zero-of : (s : State) (p : ℕ) → step R s (Walk p 0) .reply ≡ Walked Spent → step R s (Walk p 0) .after ≡ s
   unfolding step
   walk-zero-of s p = decided (λ (o : Outcome). o .reply ≡ Walked Spent → o .after ≡ s) (rows R s (Walk p 0)) (act R s (Walk p 0)) s refl
-      (λ f _. rw (L .no-looks s p) (ap (λ (w : List ℕ). state w (s .entries)) (publisher-back (s .words) p (publisher-below (R .kind) s (fine-undamaged s (f .0)) p (leb-false _ _ (f .1 .0))))))
+      (λ f _. rw (L .no-looks s p) (ap (λ (w : List ℕ). state w (s .entries)) (publisher-back (s .words) p (publisher-below (R .kind) s (undamaged-fine R s (f .0)) p (leb-false _ _ (f .1 .0))))))
       (λ _. refl)

@@ -17,3 +17,4 @@ pub mod Decide
 pub mod Frames
 pub mod Lawful
 pub mod Detector
+pub mod Promises
