@@ -34,7 +34,7 @@ use Rattle.publication_law.specs.Rules.{traitsOf}
 use Rattle.publication_law.specs.Lawful.{Good, Lawful}
 use Rattle.publication_law.specs.Detector.{Detector, OwnOf, start-own, early-own, enter-good, leave-good, sync-good, raise-good, walk-good, return-good}
 use Rattle.two_phase_law.specs.Steps.{LAST, versions, kind, readerRows, parity, addedTo, onward, placeOn, entered, enterWords, leaving, leaveWords, watched, looksOf, lookAt, rules}
-use Rattle.two_phase_law.specs.Counts.{Counted, counted-to, none-added, stays-counted, arrives-counted, leaves-counted, passedAt, Looked, look-turn, looked}
+use Rattle.two_phase_law.specs.Counts.{Counted, counted-to, none-added, stays-counted, arrives-counted, leaves-counted, passedAt, Looked, look-turn, turn-low, turn-high, looked}
 
 abbrev pub law : KindLaw kind
 law = record {
@@ -169,18 +169,10 @@ module _ (z : Given) (g : Ghost) (s : State) (i : Good kind (OwnOf detector) z g
     came = looked (indicator (s .words) (watched (publisher s p))) (publisher s p) b turn
 
     low : 35 ≤ publisher s p .place
-    low = go turn
-      where
-        go : (publisher s p .place ≡ 35) ⊎ (publisher s p .place ≡ 37) → 35 ≤ publisher s p .place
-        go (inl e) = omega arith
-        go (inr e) = omega arith
+    low = turn-low (publisher s p .place) turn
 
     high : publisher s p .place ≤ 37
-    high = go turn
-      where
-        go : (publisher s p .place ≡ 35) ⊎ (publisher s p .place ≡ 37) → publisher s p .place ≤ 37
-        go (inl e) = omega arith
-        go (inr e) = omega arith
+    high = turn-high (publisher s p .place) turn
 
     -- A reader that is waited for did not add to an indicator that is zero.
     not-added : (k : ℕ) → k < 2 → indicator (s .words) k ≡ 0 → (r : ℕ) → g .pend p r ≡ true → parity (reader s r .first) ≢ k
