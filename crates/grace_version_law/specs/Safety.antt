@@ -26,10 +26,9 @@ use Rattle.statement.specs.Kept.{Ghost, Back}
 use Rattle.statement.specs.Kept as kept
 use Rattle.publication_law.specs.Steps.{reader, publisher, atPlace, enterTests, leaveTests, syncTests, sync, raise, walk, newWalk, placeAfter, made}
 use Rattle.publication_law.specs.Damage.{publisherRows}
-use Rattle.publication_law.specs.DamageLaws.{Fine, reader-below}
 use Rattle.publication_law.specs.Core.{Onward}
 use Rattle.publication_law.specs.Core.Onward.{stays-out, opens, picks}
-use Rattle.publication_law.specs.Moves.{MovesReader, moves-reader}
+use Rattle.publication_law.specs.Moves.{reader-moves}
 use Rattle.publication_law.specs.KindLaw.{KindLaw, up-to-law}
 use Rattle.publication_law.specs.Rules.{traitsOf}
 use Rattle.publication_law.specs.Lawful.{Good, Lawful}
@@ -134,9 +133,6 @@ onward-published : (ver cur : ℕ) (x : Reader) → 4 ≤ x .place → onward ve
 unfolding onward
 onward-published ver cur x l = rw (ne-eqb (x .place) 0 (λ z. omega arith), ne-eqb (x .place) 1 (λ z. omega arith), ne-eqb (x .place) 2 (λ z. omega arith), ne-eqb (x .place) 3 (λ z. omega arith)) refl
 
-reader-moves : (s : State) → Fine kind s → (r : ℕ) → r < readers (s .words) → (x : Reader) → MovesReader (s .words) (withReader (s .words) r x) r x
-reader-moves s f r l x = moves-reader (s .words) r x (f .head .long) (reader-below kind s f r l)
-
 -- Each of the kind's own steps keeps the invariant.
 module _ (z : Given) (g : Ghost) (s : State) (i : Good kind (OwnOf detector) z g s) where
   -- What is shown of reader r anew and of the others.
@@ -147,13 +143,13 @@ module _ (z : Given) (g : Ghost) (s : State) (i : Good kind (OwnOf detector) z g
   enter-kept r f =
       let lt : r < readers (s .words) = leb-false _ _ (f .0) in
       let l : reader s r .place ≤ 4 = let q = leb-false 5 (reader s r .place) (f .1 .0) in omega arith in
-      enter-good detector kind law z g s i _ r (entered s r) (reader-moves s (i .shared .fine) r lt (entered s r))
+      enter-good detector kind law z g s i _ r (entered s r) (reader-moves (i .shared .fine) r (entered s r) lt)
       (none-true (readerRows (slots (s .words)) (entered s r)) (onward-fits _ _ _ _ _ _ _ _ l (i .shared .fine .head .current-below) (all-false (readerRows (slots (s .words)) (reader s r)) (i .shared .fine .readers-fine r lt))))
       (shown-anew r _ (onward-shown _ _ _ _ _ _ _ l (i .own .readers-are r))) lt (onward-goes _ _ _ _ _ _ _ l)
       (λ four y a. record { below = rw (onward-published (version (s .words)) (current (s .words)) (reader s r) four) (a .below); unpassed = a .unpassed })
 
   leave-kept : (r : ℕ) → AllClear (leaveTests s r) → Good kind (OwnOf detector) z (kept.advance g (Leave r) Left) (state (withReader (s .words) r (leaving (reader s r))) (s .entries))
-  leave-kept r f = leave-good detector kind law z g s i _ r (leaving (reader s r)) (reader-moves s (i .shared .fine) r (leb-false _ _ (f .0)) (leaving (reader s r))) refl
+  leave-kept r f = leave-good detector kind law z g s i _ r (leaving (reader s r)) (reader-moves (i .shared .fine) r (leaving (reader s r)) (leb-false _ _ (f .0))) refl
       (shown-anew r _ (let o = i .own .readers-are r in record { first-low = o .first-low; second-low = o .second-low; shown = λ q. absurd (omega arith) })) refl
 
   sync-kept : (p : ℕ) → AllClear (syncTests versions s p) → Good kind (OwnOf detector) z (kept.advance g (Sync p) (Synced (version (s .words) + 1))) (sync versions s p .after)
@@ -268,8 +264,8 @@ lawful = record {
   fresh-reader-fits = λ ss. refl;
   no-further = λ z g s i. refl;
   early-own = early-own detector;
-  enter-moves = λ s f r l. reader-moves s f r l (entered s r);
-  leave-moves = λ s f r l. reader-moves s f r l (leaving (reader s r));
+  enter-moves = λ s f r l. reader-moves f r (entered s r) l;
+  leave-moves = λ s f r l. reader-moves f r (leaving (reader s r)) l;
   enter-place = λ s f r l low. onward-place (version (s .words)) (current (s .words)) (reader s r .place) (reader s r .first) (reader s r .second) (reader s r .published) (reader s r .picked) low;
   enter-kept = enter-kept;
   leave-kept = leave-kept;

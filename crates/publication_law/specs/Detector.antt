@@ -7,7 +7,7 @@ use mathlib.Core.Bool.{Bool, true, false}
 use mathlib.Core.List.{List}
 use lib.IntN.{ℤ}
 use lib.Dec.{eqb}
-use borrow.Author.Tests.{eqb-true, leb-true, leb-false}
+use borrow.Author.Tests.{leb-true, leb-false}
 use Rattle.calls.specs.declared.Call.the-variants.{Enter, Leave, Sync, Walk}
 use Rattle.calls.specs.declared.Reply.the-variants.{At, Left, Synced, Walked}
 use Rattle.calls.specs.declared.WalkReply.the-variants.{Returned}
@@ -17,17 +17,17 @@ use Rattle.calls.specs.Model.{firstTable}
 use Rattle.layout.specs.declared.Reader.{Reader}
 use Rattle.layout.specs.declared.Publisher.{Publisher}
 use Rattle.layout.specs.declared.Progress.{Progress}
-use Rattle.layout.specs.Layout.{READERS-AT, VERSION-AT, readers, publishers, slots, current, version, releases, indicator, readerAt, publisherAt, withPublisher}
+use Rattle.layout.specs.Layout.{READERS-AT, VERSION-AT, readers, publishers, slots, current, version, releases, indicator, readerAt, publisherAt}
 use Rattle.layout.specs.Laws.{fresh-publisher}
 use Rattle.statement.specs.Machine.{State, state, Outcome, Given}
 use Rattle.statement.specs.Companions.{Traits}
 use Rattle.statement.specs.Kept.{Pend, Ghost, ghost₀, advance, Back}
 use Rattle.publication_law.specs.Steps.{reader, publisher, atPlace, syncTests, sync, newWalk, raise, placeAfter, walked, walk, made}
 use Rattle.publication_law.specs.Damage.{Kind}
-use Rattle.publication_law.specs.DamageLaws.{publisher-below}
 use Rattle.publication_law.specs.KindLaw.{KindLaw}
 use Rattle.publication_law.specs.Core.{Onward}
-use Rattle.publication_law.specs.Moves.{MovesPublisher, MovesReader, moves-publisher, moves-head}
+use Rattle.publication_law.specs.Decide.{raise-split}
+use Rattle.publication_law.specs.Moves.{MovesPublisher, MovesReader, publisher-moves, publisher-moves-head}
 use Rattle.publication_law.specs.Keeps.{waitsAfter, enter-keeps, leave-keeps, sync-keeps, raise-keeps, walk-keeps, syncing-in-order}
 use Rattle.publication_law.specs.Lawful.{Good}
 
@@ -84,9 +84,6 @@ module _ (D : Detector) where
       (λ r. rw same-pend (λ q. D .early _ _ (publisher s p) y r e low (o .behind p r q))) (λ l. absurd (omega arith)) (o .readers-are)
 
   module _ (K : Kind) (law : KindLaw K) (z : Given) (g : Ghost) (s : State) (i : Good K (OwnOf D) z g s) where
-    moves : (p : ℕ) (y : Publisher) → p < publishers (s .words) → MovesPublisher (s .words) (withPublisher (s .words) p y) p y (current (s .words)) (version (s .words)) (releases (s .words))
-    moves p y lt = moves-publisher (s .words) p y (i .shared .fine .head .long) (publisher-below K s (i .shared .fine) p lt)
-
     -- ENTER: what holds of a reader in a section stays; LEAVE: it is waited for no more.
     module _ (w′ : List ℕ) (r : ℕ) (x : Reader) (m : MovesReader (s .words) w′ r x) (ok : K .readerDamaged (slots (s .words)) x ≡ false)
         (f : D .Readers (version (s .words)) (readers (s .words)) (indicator w′) (upd (readerAt (s .words)) r x)) where
@@ -112,7 +109,7 @@ module _ (D : Detector) where
     sync-good p f clear none open-behind =
         let y : Publisher = record { place = 35; held = publisher s p .held; walk = newWalk (K .versions .markAt (version (s .words))) } in record {
           shared = sync-keeps K law z g s (i .shared) p f clear;
-          own = moved-own g (advance g (Sync p) (Synced (K .versions .markAt (version (s .words))))) s _ (s .entries) p y _ _ _ (i .own) (moves p y (leb-false _ _ (f .0))) (λ q r e. rw e refl)
+          own = moved-own g (advance g (Sync p) (Synced (K .versions .markAt (version (s .words))))) s _ (s .entries) p y _ _ _ (i .own) (publisher-moves (i .shared .fine) p y (leb-false _ _ (f .0))) (λ q r e. rw e refl)
               (λ r. rw (same p) (λ e. open-behind r (leb-true 4 (reader s r .place) (sym (i .shared .core .readers r .inside-is) ∙ e)))) (λ l. rw none refl) (i .own .readers-are);
         }
 
@@ -124,9 +121,9 @@ module _ (D : Detector) where
         → Good K (OwnOf D) z g (raise (K .versions) s p .after)
     raise-good p lt low high clear passes still-behind raised = record {
       shared = raise-keeps K law z g s (i .shared) p lt low high clear;
-      own = pick-split (λ (o : Outcome). OwnOf D g (o .after)) (eqb (version (s .words)) (K .versions .beforeMark (publisher s p .walk .mark)))
-          (λ e. to _ _ (moves-head (s .words) _ p _ _ _ _ (moves p (atPlace (publisher s p) 37) lt) (i .shared .fine .head .long) VERSION-AT (publisher s p .walk .mark) (omega arith) (omega arith)) (raised (eqb-true _ _ e)))
-          (λ e. to _ _ (moves p (atPlace (publisher s p) 37) lt) (i .own .readers-are));
+      own = raise-split (λ (o : Outcome). OwnOf D g (o .after)) (K .versions) s p
+          (λ e. to _ _ (publisher-moves-head (i .shared .fine) p (atPlace (publisher s p) 37) lt VERSION-AT (publisher s p .walk .mark) (omega arith) (omega arith)) (raised e))
+          (to _ _ (publisher-moves (i .shared .fine) p (atPlace (publisher s p) 37) lt) (i .own .readers-are));
     }
       where
         to : (w′ : List ℕ) (ver : ℕ) → MovesPublisher (s .words) w′ p (atPlace (publisher s p) 37) (current (s .words)) ver (releases (s .words))
@@ -141,7 +138,7 @@ module _ (D : Detector) where
           → Good K (OwnOf D) z (advance g (Walk p b) (Walked (k .reply))) (walk s p k .after)
       walk-good done same-mark clear still-behind = record {
         shared = walk-keeps K law z g s (i .shared) p b lt low high k done waits-are same-mark (omega arith) clear;
-        own = moved-own g (advance g (Walk p b) (Walked (k .reply))) s _ (s .entries) p _ _ _ _ (i .own) (moves p (walked (publisher s p) k) lt) (λ q r e. refl) still-behind (λ _. counted) (i .own .readers-are);
+        own = moved-own g (advance g (Walk p b) (Walked (k .reply))) s _ (s .entries) p _ _ _ _ (i .own) (publisher-moves (i .shared .fine) p (walked (publisher s p) k) lt) (λ q r e. refl) still-behind (λ _. counted) (i .own .readers-are);
       }
 
       pub return-good : (T : Traits) (l w : ℕ) → k .reply ≡ Returned l w → ((r : ℕ) → g .pend p r ≡ false) → l ≡ k .walk .looks → w ≡ k .walk .waits → D .passed (walked (publisher s p) k) ≡ T .passes z → Back T z g p l w

@@ -25,10 +25,10 @@ use Rattle.statement.specs.Machine.{State, state, Given}
 use Rattle.statement.specs.Kept.{Ghost, Back}
 use Rattle.statement.specs.Kept as kept
 use Rattle.publication_law.specs.Steps.{reader, publisher, enterTests, leaveTests, syncTests, sync, raise, walk, placeAfter, made}
-use Rattle.publication_law.specs.DamageLaws.{Fine, reader-below}
+use Rattle.publication_law.specs.DamageLaws.{Fine}
 use Rattle.publication_law.specs.Core.{Onward}
 use Rattle.publication_law.specs.Core.Onward.{stays-out, opens, picks}
-use Rattle.publication_law.specs.Moves.{MovesReader, moves-reader, moves-indicator}
+use Rattle.publication_law.specs.Moves.{MovesReader, reader-moves, moves-indicator}
 use Rattle.publication_law.specs.KindLaw.{KindLaw, up-to-law}
 use Rattle.publication_law.specs.Rules.{traitsOf}
 use Rattle.publication_law.specs.Lawful.{Good, Lawful}
@@ -90,12 +90,12 @@ onward-first ver cur x l = rw (ne-eqb (x .place) 0 (λ z. omega arith), ne-eqb (
 -- The words after an ENTER and a LEAVE.
 enter-moves : (s : State) → Fine kind s → (r : ℕ) → r < readers (s .words) → MovesReader (s .words) (enterWords s r) r (entered s r)
 enter-moves s f r l =
-    let m = moves-reader (s .words) r (entered s r) (f .head .long) (reader-below kind s f r l) in
+    let m = reader-moves f r (entered s r) l in
     pick-split (λ (w : List ℕ). MovesReader (s .words) w r (entered s r)) (eqb (reader s r .place) 1)
     (λ _. moves-indicator _ _ r _ m (INDICATORS-AT + parity (reader s r .first)) _ (omega arith) (omega arith)) (λ _. m)
 
 leave-moves : (s : State) → Fine kind s → (r : ℕ) → r < readers (s .words) → MovesReader (s .words) (leaveWords s r) r (leaving (reader s r))
-leave-moves s f r l = moves-indicator _ _ r _ (moves-reader (s .words) r (leaving (reader s r)) (f .head .long) (reader-below kind s f r l))
+leave-moves s f r l = moves-indicator _ _ r _ (reader-moves f r (leaving (reader s r)) l)
     (INDICATORS-AT + parity (reader s r .first)) _ (omega arith) (omega arith)
 
 -- The indicators after a reader is written, with one of them anew.
