@@ -2,13 +2,14 @@
 use mathlib.Core.Path.{_≡_, refl}
 use mathlib.Core.List.{List, [], _∷_, _++_}
 use lib.IntN.{pos}
+use Rattle.calls.specs.declared.Call.{Call}
 use Rattle.calls.specs.declared.Call.the-variants.{Enter, Look, Leave, Claim, Swap, Sync, Raise, Walk, Release}
 use Rattle.calls.specs.declared.Reply.the-variants.{Made, At, Pitch, Left, Claimed, Swapped, Synced, Raised, Shared, Walked, Freed, Refused}
 use Rattle.calls.specs.declared.WalkReply.the-variants.{Waiting, Spent, Returned}
 use Rattle.calls.specs.Rows.{anyBelow}
 use Rattle.layout.specs.Layout.{readerAt, publisherAt, withReader, withPublisher, withReaders, fresh}
 use Rattle.statement.specs.Machine.{given}
-use Rattle.statement.specs.Examples.{Example, Holds, AllHold, played, leadTo, enters, tableOf, publication, P9, P10}
+use Rattle.statement.specs.Examples.{Example, AllHold, leadTo, enters, tableOf, publication, P9, P10}
 use Rattle.statement.specs.Examples.Example.{shows, unchanged}
 use Rattle.publication_law.specs.Rules.{damaged, step, making}
 use Rattle.grace_version_law.specs.Steps.{rules, GraceVersion, onward, looksFrom}
@@ -39,8 +40,11 @@ P4 = shows GraceVersion (given 1 1 2 0) (enters 2 0 ++ publication 0 1 (pos 100)
     (Made ∷ Synced 1 ∷ Raised ∷ At 3 ∷ At 4 ∷ Walked (Returned 1 0) ∷ At 5 ∷ Pitch (pos 100) ∷ Pitch (pos 100) ∷ [])
 
 -- P6: WALK 0 at 37: spent, all unchanged.
+abbrev pub to37 : List Call
+to37 = publication 0 1 (pos 100) ++ (Sync 0 ∷ Raise 0 ∷ [])
+
 abbrev pub P6 : Example
-P6 = unchanged GraceVersion (given 1 1 2 0) (publication 0 1 (pos 100) ++ (Sync 0 ∷ Raise 0 ∷ [])) (Walk 0 0) (Walked Spent)
+P6 = unchanged GraceVersion (given 1 1 2 0) to37 (Walk 0 0) (Walked Spent)
 
 -- P7: 3 readers out: WALK 2 spent, WALK 1 returned 3 0.
 abbrev pub P7 : Example
@@ -76,68 +80,14 @@ unfoldable pub examples : List Example
 examples = P1 ∷ P2 ∷ P3 ∷ P4 ∷ P6 ∷ P7 ∷ P8 ∷ P8-below ∷ P9 GraceVersion ∷ P10 GraceVersion ∷ P11 ∷ P12 ∷ whole ∷ []
 
 -- The reply of P6's call, at the state that it starts from.
-p6-spent : step rules (leadTo GraceVersion (given 1 1 2 0) (publication 0 1 (pos 100) ++ (Sync 0 ∷ Raise 0 ∷ []))) (Walk 0 0) .reply ≡ Walked Spent
+p6-spent : step rules (leadTo GraceVersion (given 1 1 2 0) to37) (Walk 0 0) .reply ≡ Walked Spent
 unfolding readerAt publisherAt withReader withPublisher withReaders fresh anyBelow damaged onward looksFrom step making
 p6-spent = refl
 
-p6-same : step rules (leadTo GraceVersion (given 1 1 2 0) (publication 0 1 (pos 100) ++ (Sync 0 ∷ Raise 0 ∷ []))) (Walk 0 0) .after ≡ leadTo GraceVersion (given 1 1 2 0) (publication 0 1 (pos 100) ++ (Sync 0 ∷ Raise 0 ∷ []))
+p6-same : step rules (leadTo GraceVersion (given 1 1 2 0) to37) (Walk 0 0) .after ≡ leadTo GraceVersion (given 1 1 2 0) to37
 p6-same = new-walk-zero _ 0 p6-spent
 
-p1 : Holds P1
-unfolding readerAt publisherAt withReader withPublisher withReaders fresh anyBelow damaged onward looksFrom step making
-p1 = refl
-
-p2 : Holds P2
-unfolding readerAt publisherAt withReader withPublisher withReaders fresh anyBelow damaged onward looksFrom step making
-p2 = refl
-
-p3 : Holds P3
-unfolding readerAt publisherAt withReader withPublisher withReaders fresh anyBelow damaged onward looksFrom step making
-p3 = refl
-
-p4 : Holds P4
-unfolding readerAt publisherAt withReader withPublisher withReaders fresh anyBelow damaged onward looksFrom step making
-p4 = refl
-
-p7 : Holds P7
-unfolding readerAt publisherAt withReader withPublisher withReaders fresh anyBelow damaged onward looksFrom step making
-p7 = refl
-
-p8 : Holds P8
-unfolding readerAt publisherAt withReader withPublisher withReaders fresh anyBelow damaged onward looksFrom step making
-p8 = refl
-
-p8-below : Holds P8-below
-unfolding readerAt publisherAt withReader withPublisher withReaders fresh anyBelow damaged onward looksFrom step making
-p8-below = refl
-
-p9 : Holds (P9 GraceVersion)
-unfolding readerAt publisherAt withReader withPublisher withReaders fresh anyBelow damaged onward looksFrom step making
-p9 = refl
-
-p10 : Holds (P10 GraceVersion)
-unfolding readerAt publisherAt withReader withPublisher withReaders fresh anyBelow damaged onward looksFrom step making
-p10 = refl
-
-p11 : Holds P11
-unfolding readerAt publisherAt withReader withPublisher withReaders fresh anyBelow damaged onward looksFrom step making
-p11 = refl
-
-p12 : Holds P12
-unfolding readerAt publisherAt withReader withPublisher withReaders fresh anyBelow damaged onward looksFrom step making
-p12 = refl
-
-p-whole : Holds whole
-unfolding readerAt publisherAt withReader withPublisher withReaders fresh anyBelow damaged onward looksFrom step making
-p-whole = refl
-
-p6-played : played GraceVersion (given 1 1 2 0) (publication 0 1 (pos 100) ++ (Sync 0 ∷ Raise 0 ∷ [])) (Walk 0 0 ∷ []) ≡ Made ∷ Walked Spent ∷ []
-unfolding readerAt publisherAt withReader withPublisher withReaders fresh anyBelow damaged onward looksFrom step making
-p6-played = refl
-
-p6 : Holds P6
-p6 = (p6-played, p6-same)
-
+-- Each by computation, and that P6's call changes nothing by what is promised of every such call.
 pub bench : AllHold examples
-unfolding examples
-bench = (p1, (p2, (p3, (p4, (p6, (p7, (p8, (p8-below, (p9, (p10, (p11, (p12, (p-whole, tt)))))))))))))
+unfolding examples readerAt publisherAt withReader withPublisher withReaders fresh anyBelow damaged onward looksFrom step making
+bench = (refl, (refl, (refl, (refl, ((refl, p6-same), (refl, (refl, (refl, (refl, (refl, (refl, (refl, (refl, tt)))))))))))))

@@ -3,33 +3,27 @@ use Prim.Native.Nat.{ℕ, suc, _+_, _<_, _≤_}
 use mathlib.Core.Path.{_≡_, refl, sym, subst}
 use mathlib.Core.Logic.{_≢_}
 use mathlib.Core.Bool.{Bool, true, false, not}
-use mathlib.Core.List.{List, [], _∷_}
-use lib.IntN.{pos}
-use lib.ListN.{getD}
+use mathlib.Core.List.{[], _∷_}
 use lib.Dec.{leb, eqb}
-use borrow.Author.Tests.{eqb-true, leb-false, not-false}
-use Rattle.calls.specs.declared.Call.{Call}
+use borrow.Author.Tests.{eqb-true}
 use Rattle.calls.specs.declared.Call.the-variants.{Claim, Walk}
 use Rattle.calls.specs.declared.Reply.the-variants.{Walked, Refused}
 use Rattle.calls.specs.declared.WalkReply.the-variants.{Spent}
 use Rattle.calls.specs.Numbers.{NO-SUCH-PUBLISHER, NO-SUCH-SLOT, PUBLISHER-TURN, BUSY, SLOT-IN-USE}
 use Rattle.calls.specs.Rows.{firstOf}
 use Rattle.calls.specs.Rows.Test.{_gives_}
-use Rattle.calls.specs.RowLaws.{clash}
-use Rattle.calls.specs.AnswerLaws.{NarrowPitch, Proper}
 use Rattle.calls.specs.Events.{accepted}
 use Rattle.calls.specs.Model.{firstTable}
 use Rattle.layout.specs.declared.Progress.{Progress}
 use Rattle.layout.specs.Layout.{readers, publishers, slots}
-use Rattle.statement.specs.Machine.{State, Outcome, Given, Fresh, afterAll}
+use Rattle.statement.specs.Machine.{State}
 use Rattle.statement.specs.Demand3.{Demand3}
-use Rattle.statement.specs.Companions.{Traits, MakingAccepts, RefusedLeaves, Frame, Companions}
-use Rattle.publication_law.specs.Steps.{reader, publisher, inUse, walked}
-use Rattle.publication_law.specs.Rules.{damaged, act, rows, step, making}
-use Rattle.publication_law.specs.Frames.{walk-record}
-use Rattle.publication_law.specs.Decide.{decided, decide-why}
-use Rattle.publication_law.specs.Lawful.{fine-undamaged, demand3-of, companions-of, never-damaged-of, making-accepts-of, refused-leaves-of, frame-of, proper-of, proper-making-of, walk-zero-of}
-use Rattle.grace_version_law.specs.Steps.{LAST, kind, lookedAt, looksOf, rules, GraceVersion}
+use Rattle.statement.specs.Companions.{Traits}
+use Rattle.publication_law.specs.Steps.{reader, publisher, inUse}
+use Rattle.publication_law.specs.Rules.{damaged, act, rows, step}
+use Rattle.publication_law.specs.Decide.{decide-why}
+use Rattle.publication_law.specs.Promises.{Promises, promises-of, WalkFacts, walk-facts}
+use Rattle.grace_version_law.specs.Steps.{LAST, lookedAt, looksOf, rules, GraceVersion}
 use Rattle.grace_version_law.specs.Walks.{Looked, looked, spent-if}
 use Rattle.grace_version_law.specs.Safety.{next-below, lawful}
 
@@ -37,56 +31,28 @@ use Rattle.grace_version_law.specs.Safety.{next-below, lawful}
 abbrev pub traits : Traits
 traits = record { first = λ z. firstTable; last = LAST; passes = λ z. z .readers; onward = suc; exclusive = false }
 
+pub new-promises : Promises rules traits
+new-promises = promises-of rules LAST (λ z. z .readers) suc lawful
+
 pub new-demand3 : Demand3 GraceVersion (λ z. firstTable)
-new-demand3 = demand3-of rules LAST (λ z. z .readers) suc lawful
-
-pub new-companions : Companions GraceVersion traits
-new-companions = companions-of rules LAST (λ z. z .readers) suc lawful
-
-pub new-never-damaged : (s : State) → Fresh GraceVersion s → (cs : List Call) → damaged rules (afterAll GraceVersion s cs) ≡ false
-new-never-damaged = never-damaged-of rules LAST (λ z. z .readers) suc lawful
-
-pub new-making-accepts : MakingAccepts GraceVersion traits
-new-making-accepts = making-accepts-of rules LAST (λ z. z .readers) suc lawful
-
-pub new-refused-leaves : RefusedLeaves GraceVersion
-new-refused-leaves = refused-leaves-of rules LAST (λ z. z .readers) suc lawful
-
-pub new-frame : Frame GraceVersion
-new-frame = frame-of rules LAST (λ z. z .readers) suc lawful
-
--- Every reply of a store whose entries are pitches of 64 bits has an answer that no other proper reply has.
-pub new-proper : (s : State) (c : Call) → ((j : ℕ) → NarrowPitch (getD (s .entries) j (pos 0))) → Proper (step rules s c .reply)
-new-proper = proper-of rules LAST (λ z. z .readers) suc lawful
-
-pub new-proper-making : (g : Given) (s : State) → Proper (making rules g s .reply)
-new-proper-making = proper-making-of rules LAST (λ z. z .readers) suc lawful
+new-demand3 = new-promises .demand3
 
 pub new-walk-zero : (s : State) (p : ℕ) → step rules s (Walk p 0) .reply ≡ Walked Spent → step rules s (Walk p 0) .after ≡ s
-new-walk-zero = walk-zero-of rules LAST (λ z. z .readers) suc lawful
+new-walk-zero = new-promises .walk-zero
 
--- The facts of every accepted WALK, for every state: reply and record are those of the looks made, waiting, spent and returned are said of them,
--- and spent exactly if b looks all passed and readers are left.
-pub record WalkFacts (s : State) (p b : ℕ) (k : Progress) (o : Outcome) : Type 0 where
-  pub reply-is : o .reply ≡ Walked (k .reply)
-  pub record-is : publisher (o .after) p ≡ walked (publisher s p) k
+-- What an accepted WALK says of its looks: waiting, spent and returned are said of the looks made, and spent exactly if b looks all passed and readers are left.
+pub record WalkLooks (s : State) (p b : ℕ) (k : Progress) : Type 0 where
   pub looks-are : Looked (s .words) (readers (s .words)) (publisher s p .walk .mark) b (publisher s p .walk .next) (publisher s p .walk .looks) (publisher s p .walk .waits) k
   pub spent-exactly : publisher s p .walk .next + b < readers (s .words)
       → ((i : ℕ) → publisher s p .walk .next ≤ i → i < publisher s p .walk .next + b → publisher s p .walk .mark ≤ reader s (lookedAt (readers (s .words)) i) .published) → k .reply ≡ Spent
 
-pub new-walk-facts : (s : State) (p b : ℕ) → accepted (step rules s (Walk p b) .reply) ≡ true → WalkFacts s p b (looksOf s (publisher s p .walk) b) (step rules s (Walk p b))
-unfolding step
-new-walk-facts s p b = decided (λ (o : Outcome). accepted (o .reply) ≡ true → WalkFacts s p b (looksOf s (publisher s p .walk) b) o) (rows rules s (Walk p b)) (act rules s (Walk p b)) s refl
-    (λ f _.
-    let fine = fine-undamaged rules LAST (λ z. z .readers) suc lawful s (f .0) in
-    let lt : p < publishers (s .words) = leb-false _ _ (f .1 .0) in
-    let low = next-below _ _ (publisher s p) (fine .publishers-fine p lt) (rw (eqb-true (publisher s p .place) 37 (not-false _ (f .1 .1 .0))) refl) in record {
-      reply-is = refl;
-      record-is = walk-record kind s fine p lt (looksOf s (publisher s p .walk) b);
+pub new-walk-facts : (s : State) (p b : ℕ) → accepted (step rules s (Walk p b) .reply) ≡ true
+    → let k = looksOf s (publisher s p .walk) b in WalkFacts s p k (WalkLooks s p b k) (step rules s (Walk p b))
+new-walk-facts s p b = walk-facts rules s p b (WalkLooks s p b (looksOf s (publisher s p .walk) b)) (λ fine lt turn.
+    let low = next-below _ _ (publisher s p) (fine .publishers-fine p lt) (rw (eqb-true (publisher s p .place) 37 turn) refl) in record {
       looks-are = looked (s .words) (readers (s .words)) (publisher s p .walk .mark) (publisher s p .walk .waits) b (publisher s p .walk .next) (publisher s p .walk .looks) low;
       spent-exactly = λ l all. spent-if (s .words) (readers (s .words)) (publisher s p .walk .mark) (publisher s p .walk .waits) b (publisher s p .walk .next) (publisher s p .walk .looks) l all;
     })
-    (λ ok. clash (sym ok))
 
 -- A claim on an unspoiled new store is refused only for a wrong name, a wrong turn or a slot in use.
 pub data ClaimRefusal : ℕ → Type 0 where

@@ -19,7 +19,7 @@ use Rattle.statement.specs.Demand3.{Demand3}
 use Rattle.statement.specs.Examples.{lentFor, enters, publication}
 use Rattle.statement.specs.Refute.{someLeave, not-left, ReturnsFrom, returns-from-4}
 use Rattle.publication_law.specs.Steps.{publisher, made}
-use Rattle.publication_law.specs.Rules.{Rules, damaged, step, making, machine}
+use Rattle.publication_law.specs.Rules.{Rules, damaged, step, making, machine, varied}
 use Rattle.grace_version_law.specs.Steps.{onward, progress, looksFrom, rules, GraceVersion}
 use Rattle.grace_version_law.specs.Promises.{new-demand3}
 
@@ -63,22 +63,10 @@ always-9000-refuted d =
 
 -- A walk that passes every reader: it tests against 0 in place of its mark.
 passesAllRules : Rules
-passesAllRules = record {
-  kind = rules .kind;
-  further = rules .further;
-  freshReader = rules .freshReader;
-  entered = rules .entered;
-  enterWords = rules .enterWords;
-  left = rules .left;
-  leaveWords = rules .leaveWords;
-  exclusive = rules .exclusive;
-  raisesAt = rules .raisesAt;
-  walksAt = rules .walksAt;
-  looks = λ s p b.
-      let k = publisher s p .walk in
-      let q = looksFrom (s .words) (readers (s .words)) 0 (k .waits) b (k .next) (k .looks) in
-      progress (k .mark) (q .walk .next) (q .walk .looks) (q .walk .waits) (q .reply);
-}
+passesAllRules = varied rules (rules .exclusive) (λ s p b.
+    let k = publisher s p .walk in
+    let q = looksFrom (s .words) (readers (s .words)) 0 (k .waits) b (k .next) (k .looks) in
+    progress (k .mark) (q .walk .next) (q .walk .looks) (q .walk .waits) (q .reply))
 
 pub PassesAll : Machine
 unfolding passesAllRules

@@ -23,24 +23,24 @@ use Rattle.grace_version_law.specs.Promises as new-promises
 use Rattle.kinds_law.specs.Kinds.{Name, rulesOf, number, named, anyStep, anyMaking, store}
 use Rattle.kinds_law.specs.Kinds.Name.{new}
 use Rattle.kinds_law.specs.Calls.{step-named}
-use Rattle.guarantees.specs.Named.{storeOf, traits, own-demand3, own-companions, own-never-damaged, own-making-accepts, alike, by-number, chosen-refused-leaves, chosen-frame, chosen-proper, chosen-proper-making}
+use Rattle.guarantees.specs.Named.{storeOf, traits, own, alike, by-number, chosen-refused-leaves, chosen-frame, chosen-proper, chosen-proper-making}
 
 -- Demand 3: after every list of calls from every accepted making, of whatever kind, looks, returns, slots and picks are as document 01 tells them.
 pub demand3 : (n : ℕ) → Demand3 (store n) (λ z. firstTable)
 demand3 = by-number (λ n. Demand3 (store n) (λ z. firstTable))
-    (λ k. demand3-alike (storeOf k) (store (number k)) (alike k) (λ z. firstTable) (own-demand3 k))
+    (λ k. demand3-alike (storeOf k) (store (number k)) (alike k) (λ z. firstTable) (own k .demand3))
     (λ n none s f. absurd (none s f))
 
 -- Its companions: never damaged, order, counts, whole tables, readers never wait, claims, publishers get on, releases.
 pub companions : (k : Name) → Companions (store (number k)) (traits k)
-companions k = companions-alike (storeOf k) (store (number k)) (alike k) (traits k) (own-companions k)
+companions k = companions-alike (storeOf k) (store (number k)) (alike k) (traits k) (own k .companions)
 
 pub never-damaged : (k : Name) (s : State) → Fresh (store (number k)) s → (cs : List Call) → damaged (rulesOf k) (afterAll (store (number k)) s cs) ≡ false
-never-damaged k s f cs = rw (after-alike (storeOf k) (store (number k)) (alike k) s f cs) (own-never-damaged k s (fresh-alike (storeOf k) (store (number k)) (alike k) s f) cs)
+never-damaged k s f cs = rw (after-alike (storeOf k) (store (number k)) (alike k) s f cs) (own k .never-damaged s (fresh-alike (storeOf k) (store (number k)) (alike k) s f) cs)
 
 -- A making with every argument in its range is accepted.
 pub making-accepts : (k : Name) → MakingAccepts (store (number k)) (traits k)
-making-accepts k = making-accepts-alike (storeOf k) (store (number k)) (alike k) (traits k) (own-making-accepts k)
+making-accepts k = making-accepts-alike (storeOf k) (store (number k)) (alike k) (traits k) (own k .making-accepts)
 
 -- Demand 1 on the steps: a refused call or making changes nothing, whatever the words hold.
 pub refused-leaves : (n : ℕ) → RefusedLeaves (store n)

@@ -4,7 +4,6 @@ use Prim.Native.Nat.{ℕ}
 use native.Mathlib.Omega.{arith}
 use mathlib.Core.Path.{_≡_, refl, sym, ap, _∙_, subst}
 use mathlib.Core.Bool.{Bool, true, false}
-use mathlib.Core.List.{List}
 use mathlib.Core.Option.{Option, none, some}
 use lib.IntN.{pos}
 use lib.ListN.{getD}
@@ -14,17 +13,16 @@ use Rattle.calls.specs.declared.Call.{Call}
 use Rattle.calls.specs.Events.{accepted}
 use Rattle.calls.specs.RowLaws.{clash}
 use Rattle.calls.specs.AnswerLaws.{NarrowPitch, Proper}
-use Rattle.calls.specs.Model.{firstTable}
 use Rattle.calls.specs.Numbers.{KIND-NEW, KIND-OLD}
 use Rattle.statement.specs.Machine.{State, Outcome, Given, Machine, Fresh, afterAll}
-use Rattle.statement.specs.Demand3.{Demand3}
-use Rattle.statement.specs.Companions.{Traits, MakingAccepts, RefusedLeaves, Frame, Companions}
+use Rattle.statement.specs.Companions.{Traits, RefusedLeaves, Frame}
 use Rattle.statement.specs.Alike.{Alike}
-use Rattle.publication_law.specs.Rules.{damaged, step, making, machine}
+use Rattle.publication_law.specs.Rules.{step, making, machine}
 use Rattle.publication_law.specs.Calls.{undamaged-fine}
 use Rattle.publication_law.specs.Frames.{same-framed}
-use Rattle.grace_version_law.specs.Promises as new-promises
-use Rattle.two_phase_law.specs.Promises as old-promises
+use Rattle.publication_law.specs.Promises.{Promises}
+use Rattle.grace_version_law.specs.Promises as new-store
+use Rattle.two_phase_law.specs.Promises as old-store
 use Rattle.kinds_law.specs.Kinds.{Name, rulesOf, number, stepOf, makingOf, store}
 use Rattle.kinds_law.specs.Kinds.Name.{new, old}
 use Rattle.kinds_law.specs.Calls.{number-own, step-named, making-named, making-unknown}
@@ -34,46 +32,18 @@ abbrev pub storeOf : Name → Machine
 storeOf k = machine (rulesOf k)
 
 abbrev pub traits : Name → Traits
-traits new = new-promises.traits
-traits old = old-promises.traits
+traits new = new-store.traits
+traits old = old-store.traits
 
-pub own-demand3 : (k : Name) → Demand3 (storeOf k) (λ z. firstTable)
-own-demand3 new = new-promises.new-demand3
-own-demand3 old = old-promises.old-demand3
-
-pub own-companions : (k : Name) → Companions (storeOf k) (traits k)
-own-companions new = new-promises.new-companions
-own-companions old = old-promises.old-companions
-
-pub own-never-damaged : (k : Name) (s : State) → Fresh (storeOf k) s → (cs : List Call) → damaged (rulesOf k) (afterAll (storeOf k) s cs) ≡ false
-own-never-damaged new = new-promises.new-never-damaged
-own-never-damaged old = old-promises.old-never-damaged
-
-pub own-making-accepts : (k : Name) → MakingAccepts (storeOf k) (traits k)
-own-making-accepts new = new-promises.new-making-accepts
-own-making-accepts old = old-promises.old-making-accepts
-
-own-refused-leaves : (k : Name) → RefusedLeaves (storeOf k)
-own-refused-leaves new = new-promises.new-refused-leaves
-own-refused-leaves old = old-promises.old-refused-leaves
-
-own-frame : (k : Name) → Frame (storeOf k)
-own-frame new = new-promises.new-frame
-own-frame old = old-promises.old-frame
-
-own-proper : (k : Name) (s : State) (c : Call) → ((j : ℕ) → NarrowPitch (getD (s .entries) j (pos 0))) → Proper (step (rulesOf k) s c .reply)
-own-proper new = new-promises.new-proper
-own-proper old = old-promises.old-proper
-
-own-proper-making : (k : Name) (g : Given) (s : State) → Proper (making (rulesOf k) g s .reply)
-own-proper-making new = new-promises.new-proper-making
-own-proper-making old = old-promises.old-proper-making
+pub own : (k : Name) → Promises (rulesOf k) (traits k)
+own new = new-store.new-promises
+own old = old-store.old-promises
 
 -- The store of a kind's number is alike.
 pub alike : (k : Name) → Alike (storeOf k) (store (number k))
 alike k = record {
   makings = λ g s. making-named k g s;
-  steps = λ s f cs c. step-named k (afterAll (storeOf k) s cs) c (undamaged-fine (rulesOf k) (afterAll (storeOf k) s cs) (own-never-damaged k s f cs) .head .kind-is ∙ number-own k);
+  steps = λ s f cs c. step-named k (afterAll (storeOf k) s cs) c (undamaged-fine (rulesOf k) (afterAll (storeOf k) s cs) (own k .never-damaged s f cs) .head .kind-is ∙ number-own k);
 }
 
 -- A number that names no kind has no fresh store.
@@ -95,16 +65,16 @@ Chosen o = record { making = makingOf o; step = stepOf o }
 
 pub chosen-refused-leaves : (o : Option Name) → RefusedLeaves (Chosen o)
 chosen-refused-leaves none = record { step = λ s c n e. refl; making = λ g s n e. refl }
-chosen-refused-leaves (some k) = own-refused-leaves k
+chosen-refused-leaves (some k) = own k .refused-leaves
 
 pub chosen-frame : (o : Option Name) → Frame (Chosen o)
 chosen-frame none = record { records = λ s c. same-framed c (s .words); walk-head = λ s p b k l. refl; entries = λ s c ne. refl; current = λ s c ne. refl }
-chosen-frame (some k) = own-frame k
+chosen-frame (some k) = own k .frame
 
 pub chosen-proper : (o : Option Name) (s : State) (c : Call) → ((j : ℕ) → NarrowPitch (getD (s .entries) j (pos 0))) → Proper (stepOf o s c .reply)
 chosen-proper none s c h = omega arith
-chosen-proper (some k) s c h = own-proper k s c h
+chosen-proper (some k) s c h = own k .proper s c h
 
 pub chosen-proper-making : (o : Option Name) (g : Given) (s : State) → Proper (makingOf o g s .reply)
 chosen-proper-making none g s = omega arith
-chosen-proper-making (some k) g s = own-proper-making k g s
+chosen-proper-making (some k) g s = own k .proper-making g s

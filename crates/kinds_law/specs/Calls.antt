@@ -1,7 +1,7 @@
 -- What a call and a making for words of any kind come to, from what is known of the kind word, of the kind's number or of the words' length.
 -- Assumes nothing.
 use Prim.Native.Nat.{ℕ}
-use mathlib.Core.Path.{_≡_, refl, sym}
+use mathlib.Core.Path.{_≡_, refl, sym, _∙_}
 use mathlib.Core.Logic.{_≢_}
 use mathlib.Core.Option.{Option, none, some}
 use lib.ListN.{length}
@@ -38,16 +38,17 @@ pub step-named : (k : Name) (s : State) (c : Call) → kind (s .words) ≡ numbe
 unfolding anyStep
 step-named k s c e = rw (e, number-named k) refl
 
-pub step-new : (s : State) (c : Call) → kind (s .words) ≡ KIND-NEW → step new-store.rules s c ≡ anyStep s c
-step-new s c e = sym (step-named new s c e)
+-- The same by the number that was read as kind word; a number of no kind: 1.
+module _ (s : State) (c : Call) {n : ℕ} (read : n ≡ kind (s .words)) where
+  pub step-new : n ≡ KIND-NEW → step new-store.rules s c ≡ anyStep s c
+  step-new e = sym (step-named new s c (sym read ∙ e))
 
-pub step-old : (s : State) (c : Call) → kind (s .words) ≡ KIND-OLD → step old-store.rules s c ≡ anyStep s c
-step-old s c e = sym (step-named old s c e)
+  pub step-old : n ≡ KIND-OLD → step old-store.rules s c ≡ anyStep s c
+  step-old e = sym (step-named old s c (sym read ∙ e))
 
--- Words of no kind: 1.
-pub step-unknown : (s : State) (c : Call) → kind (s .words) ≢ KIND-NEW → kind (s .words) ≢ KIND-OLD → outcome (Refused DAMAGED) s ≡ anyStep s c
-unfolding anyStep
-step-unknown s c a b = rw (named-none (kind (s .words)) a b) refl
+  pub step-unknown : n ≢ KIND-NEW → n ≢ KIND-OLD → outcome (Refused DAMAGED) s ≡ anyStep s c
+  unfolding anyStep
+  step-unknown a b = rw (← read, named-none n a b) refl
 
 -- Words of another length: 1, whatever the kind word says.
 pub step-length : (s : State) (c : Call) → length (s .words) ≢ WORDS → outcome (Refused DAMAGED) s ≡ anyStep s c

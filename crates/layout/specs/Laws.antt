@@ -37,31 +37,77 @@ put-here (v ∷ vs) w b i (suc k) l f =
     let e : b + (i + suc k) ≡ b + (i + 1 + k) = omega arith in
     rw e (put-here vs (set w (b + i) v) b (i + 1) k (omega arith) (rw (length-set w (b + i) v) (omega arith)))
 
--- Records that agree word by word.
-reader-same : (f g : ℕ → ℕ) → ((i : ℕ) → i < READER-WORDS → f i ≡ g i) → readerOf f ≡ readerOf g
-reader-same f g e = rw (e 0 (omega arith), e 1 (omega arith), e 2 (omega arith), e 3 (omega arith), e 4 (omega arith)) refl
+-- Words that are all 0.
+zero-at : (n i : ℕ) → _≡_ {A = ℕ} (getD (replicate n 0) i 0) 0
+zero-at zero i = refl
+zero-at (suc n) zero = refl
+zero-at (suc n) (suc i) = zero-at n i
 
-publisher-same : (f g : ℕ → ℕ) → ((i : ℕ) → i < PUBLISHER-WORDS → f i ≡ g i) → publisherOf f ≡ publisherOf g
-publisher-same f g e = rw (e 0 (omega arith), e 1 (omega arith), e 2 (omega arith), e 3 (omega arith), e 4 (omega arith), e 5 (omega arith)) refl
+-- A sort of records: how one is read from its words, the words of one, how many it has, how many records there are, and where each begins.
+record Sort (A : Type 0) : Type 0 where
+  of : (ℕ → ℕ) → A
+  words : A → List ℕ
+  size : ℕ
+  max : ℕ
+  at : ℕ → ℕ
+  -- what is known of them: records that agree word by word are the same, a record is read from its words, and each ends before the next
+  agree : (f g : ℕ → ℕ) → ((i : ℕ) → i < size → f i ≡ g i) → of f ≡ of g
+  back : (x : A) → of (λ i. getD (words x) i 0) ≡ x
+  long : (x : A) → length (words x) ≡ size
+  spaced : (j k : ℕ) → j < k → at j + size ≤ at k
 
--- The two views, where the words of a record agree.
+module _ {A : Type 0} (S : Sort A) where
+  abbrev view : List ℕ → ℕ → A
+  view w j = pick (ltb j (S .max)) (S .of (λ i. getD w (S .at j + i) 0)) (S .of (λ i. 0))
+
+  abbrev anew : List ℕ → ℕ → A → List ℕ
+  anew w j x = putWords w (S .at j) 0 (S .words x)
+
+  -- The view, where the words of a record agree, and of words that are all 0.
+  view-by : (v w : List ℕ) (j : ℕ) → (j < S .max → (i : ℕ) → i < S .size → getD v (S .at j + i) 0 ≡ getD w (S .at j + i) 0) → view v j ≡ view w j
+  view-by v w j f = go (ltb j (S .max)) refl
+    where
+      go : (b : Bool) → ltb j (S .max) ≡ b → pick b (S .of (λ i. getD v (S .at j + i) 0)) (S .of (λ i. 0)) ≡ pick b (S .of (λ i. getD w (S .at j + i) 0)) (S .of (λ i. 0))
+      go true e = S .agree _ _ (f (ltb-true j (S .max) e))
+      go false e = refl
+
+  view-blank : (n j : ℕ) → view (replicate n 0) j ≡ S .of (λ i. 0)
+  view-blank n j = rw (S .agree (λ i. getD (replicate n 0) (S .at j + i) 0) (λ i. 0) (λ i l. zero-at n (S .at j + i))) (pick-same (ltb j (S .max)) (S .of (λ i. 0)))
+
+  -- A record written is read there, and every other one stays; of a field or of the whole record.
+  view-put : {B : Type 0} (f : A → B) (w : List ℕ) (r : ℕ) (x : A) → r < S .max → S .at r + S .size ≤ length w → (λ j. f (view (anew w r x) j)) ≡ upd (λ j. f (view w j)) r (f x)
+  view-put f w r x lt room = fun-ext (λ j. go j (eqb j r) refl)
+    where
+      put : (i : ℕ) → i < S .size → getD (anew w r x) (S .at r + i) 0 ≡ getD (S .words x) i 0
+      put i l = let e : 0 + i ≡ i = omega arith in rw e at (put-here (S .words x) w (S .at r) 0 i (omega (arith, S .long x)) (omega (arith, S .long x)))
+
+      here : view (anew w r x) r ≡ x
+      here = rw (lt-ltb r (S .max) lt) (S .agree (λ i. getD (anew w r x) (S .at r + i) 0) (λ i. getD (S .words x) i 0) put ∙ S .back x)
+
+      apart : (j i : ℕ) → j ≢ r → i < S .size → (b : Bool) → ltb j r ≡ b → (S .at j + i < S .at r + 0) ⊎ (S .at r + 0 + length (S .words x) ≤ S .at j + i)
+      apart j i ne l true e = inl (omega (arith, S .spaced j r (ltb-true j r e)))
+      apart j i ne l false e = inr (let q = ltb-false j r e in omega (arith, S .long x, S .spaced r j (omega arith)))
+
+      go : (j : ℕ) (b : Bool) → eqb j r ≡ b → f (view (anew w r x) j) ≡ upd (λ j. f (view w j)) r (f x) j
+      go j true e = rw (e, eqb-true j r e) (ap f here)
+      go j false e = rw e (ap f (view-by (anew w r x) w j (λ l i m. put-other (S .words x) w (S .at r) 0 (S .at j + i) (apart j i (eqb-false j r e) m (ltb j r) refl))))
+
+-- Readers and publishers.
+abbrev reader-sort : Sort Reader
+reader-sort = record { of = readerOf; words = readerWords; size = READER-WORDS; max = READERS-MAX; at = λ r. HEAD + READER-WORDS * r; agree = λ f g e. rw (e 0 (omega arith), e 1 (omega arith), e 2 (omega arith), e 3 (omega arith), e 4 (omega arith)) refl; back = λ x. refl; long = λ x. refl; spaced = λ j k l. omega arith }
+
+abbrev publisher-sort : Sort Publisher
+publisher-sort = record { of = publisherOf; words = publisherWords; size = PUBLISHER-WORDS; max = PUBLISHERS-MAX; at = λ p. FIRST-PUBLISHER + PUBLISHER-WORDS * p; agree = λ f g e. rw (e 0 (omega arith), e 1 (omega arith), e 2 (omega arith), e 3 (omega arith), e 4 (omega arith), e 5 (omega arith)) refl; back = λ x. refl; long = λ x. refl; spaced = λ j k l. omega arith }
+
 reader-by : (v w : List ℕ) (j : ℕ) → (j < READERS-MAX → (i : ℕ) → i < READER-WORDS → getD v (HEAD + READER-WORDS * j + i) 0 ≡ getD w (HEAD + READER-WORDS * j + i) 0)
     → readerAt v j ≡ readerAt w j
 unfolding readerAt
-reader-by v w j f = go (ltb j READERS-MAX) refl
-  where
-    go : (b : Bool) → ltb j READERS-MAX ≡ b → pick b (readerOf (λ i. getD v (HEAD + READER-WORDS * j + i) 0)) noReader ≡ pick b (readerOf (λ i. getD w (HEAD + READER-WORDS * j + i) 0)) noReader
-    go true e = reader-same _ _ (f (ltb-true j READERS-MAX e))
-    go false e = refl
+reader-by = view-by reader-sort
 
 publisher-by : (v w : List ℕ) (j : ℕ) → (j < PUBLISHERS-MAX → (i : ℕ) → i < PUBLISHER-WORDS → getD v (FIRST-PUBLISHER + PUBLISHER-WORDS * j + i) 0 ≡ getD w (FIRST-PUBLISHER + PUBLISHER-WORDS * j + i) 0)
     → publisherAt v j ≡ publisherAt w j
 unfolding publisherAt
-publisher-by v w j f = go (ltb j PUBLISHERS-MAX) refl
-  where
-    go : (b : Bool) → ltb j PUBLISHERS-MAX ≡ b → pick b (publisherOf (λ i. getD v (FIRST-PUBLISHER + PUBLISHER-WORDS * j + i) 0)) noPublisher ≡ pick b (publisherOf (λ i. getD w (FIRST-PUBLISHER + PUBLISHER-WORDS * j + i) 0)) noPublisher
-    go true e = publisher-same _ _ (f (ltb-true j PUBLISHERS-MAX e))
-    go false e = refl
+publisher-by = view-by publisher-sort
 
 -- Lengths.
 pub length-reader : (w : List ℕ) (r : ℕ) (x : Reader) → length (withReader w r x) ≡ length w
@@ -124,70 +170,24 @@ publisher-reader w r x lt = fun-ext (λ j. publisher-by (putWords w (HEAD + READ
     (λ l i m. put-other (readerWords x) w (HEAD + READER-WORDS * r) 0 (FIRST-PUBLISHER + PUBLISHER-WORDS * j + i) (inr (omega arith))))
 
 -- A record written is read there, and every other one stays.
-reader-here : (w : List ℕ) (r : ℕ) (x : Reader) → length w ≡ WORDS → r < READERS-MAX → readerAt (withReader w r x) r ≡ x
-unfolding readerAt withReader
-reader-here w r x len lt = rw (lt-ltb r READERS-MAX lt) (reader-same (λ i. getD (putWords w (HEAD + READER-WORDS * r) 0 (readerWords x)) (HEAD + READER-WORDS * r + i) 0) (λ i. getD (readerWords x) i 0) put)
-  where
-    put : (i : ℕ) → i < READER-WORDS → getD (putWords w (HEAD + READER-WORDS * r) 0 (readerWords x)) (HEAD + READER-WORDS * r + i) 0 ≡ getD (readerWords x) i 0
-    put i l = let e : 0 + i ≡ i = omega arith in rw e at (put-here (readerWords x) w (HEAD + READER-WORDS * r) 0 i l (omega arith))
-
-reader-there : (w : List ℕ) (r : ℕ) (x : Reader) (j : ℕ) → j ≢ r → readerAt (withReader w r x) j ≡ readerAt w j
-unfolding withReader
-reader-there w r x j ne = reader-by (putWords w (HEAD + READER-WORDS * r) 0 (readerWords x)) w j
-    (λ l i m. put-other (readerWords x) w (HEAD + READER-WORDS * r) 0 (HEAD + READER-WORDS * j + i) (side (ltb j r) refl i m))
-  where
-    side : (b : Bool) → ltb j r ≡ b → (i : ℕ) → i < READER-WORDS
-        → (HEAD + READER-WORDS * j + i < HEAD + READER-WORDS * r + 0) ⊎ (HEAD + READER-WORDS * r + 0 + READER-WORDS ≤ HEAD + READER-WORDS * j + i)
-    side true e i m = inl (omega (arith, ltb-true j r e))
-    side false e i m = inr (let q = ltb-false j r e in omega arith)
-
-publisher-here : (w : List ℕ) (p : ℕ) (x : Publisher) → length w ≡ WORDS → p < PUBLISHERS-MAX → publisherAt (withPublisher w p x) p ≡ x
-unfolding publisherAt withPublisher
-publisher-here w p x len lt = rw (lt-ltb p PUBLISHERS-MAX lt) (publisher-same (λ i. getD (putWords w (FIRST-PUBLISHER + PUBLISHER-WORDS * p) 0 (publisherWords x)) (FIRST-PUBLISHER + PUBLISHER-WORDS * p + i) 0) (λ i. getD (publisherWords x) i 0) put)
-  where
-    put : (i : ℕ) → i < PUBLISHER-WORDS → getD (putWords w (FIRST-PUBLISHER + PUBLISHER-WORDS * p) 0 (publisherWords x)) (FIRST-PUBLISHER + PUBLISHER-WORDS * p + i) 0 ≡ getD (publisherWords x) i 0
-    put i l = let e : 0 + i ≡ i = omega arith in rw e at (put-here (publisherWords x) w (FIRST-PUBLISHER + PUBLISHER-WORDS * p) 0 i l (omega arith))
-
-publisher-there : (w : List ℕ) (p : ℕ) (x : Publisher) (j : ℕ) → j ≢ p → publisherAt (withPublisher w p x) j ≡ publisherAt w j
-unfolding withPublisher
-publisher-there w p x j ne = publisher-by (putWords w (FIRST-PUBLISHER + PUBLISHER-WORDS * p) 0 (publisherWords x)) w j
-    (λ l i m. put-other (publisherWords x) w (FIRST-PUBLISHER + PUBLISHER-WORDS * p) 0 (FIRST-PUBLISHER + PUBLISHER-WORDS * j + i) (side (ltb j p) refl i m))
-  where
-    side : (b : Bool) → ltb j p ≡ b → (i : ℕ) → i < PUBLISHER-WORDS
-        → (FIRST-PUBLISHER + PUBLISHER-WORDS * j + i < FIRST-PUBLISHER + PUBLISHER-WORDS * p + 0) ⊎ (FIRST-PUBLISHER + PUBLISHER-WORDS * p + 0 + PUBLISHER-WORDS ≤ FIRST-PUBLISHER + PUBLISHER-WORDS * j + i)
-    side true e i m = inl (omega (arith, ltb-true j p e))
-    side false e i m = inr (let q = ltb-false j p e in omega arith)
-
--- Both at once, of a field or of the whole record.
 pub reader-put : {B : Type 0} (f : Reader → B) (w : List ℕ) (r : ℕ) (x : Reader) → length w ≡ WORDS → r < READERS-MAX
     → (λ j. f (readerAt (withReader w r x) j)) ≡ upd (λ j. f (readerAt w j)) r (f x)
-reader-put f w r x len lt = fun-ext (λ j. go j (eqb j r) refl)
-  where
-    go : (j : ℕ) (b : Bool) → eqb j r ≡ b → f (readerAt (withReader w r x) j) ≡ upd (λ j. f (readerAt w j)) r (f x) j
-    go j true e = rw (e, eqb-true j r e) (ap f (reader-here w r x len lt))
-    go j false e = rw e (ap f (reader-there w r x j (eqb-false j r e)))
+unfolding readerAt withReader
+reader-put f w r x len lt = view-put reader-sort f w r x lt (omega arith)
 
 pub publisher-put : {B : Type 0} (f : Publisher → B) (w : List ℕ) (p : ℕ) (x : Publisher) → length w ≡ WORDS → p < PUBLISHERS-MAX
     → (λ j. f (publisherAt (withPublisher w p x) j)) ≡ upd (λ j. f (publisherAt w j)) p (f x)
-publisher-put f w p x len lt = fun-ext (λ j. go j (eqb j p) refl)
-  where
-    go : (j : ℕ) (b : Bool) → eqb j p ≡ b → f (publisherAt (withPublisher w p x) j) ≡ upd (λ j. f (publisherAt w j)) p (f x) j
-    go j true e = rw (e, eqb-true j p e) (ap f (publisher-here w p x len lt))
-    go j false e = rw e (ap f (publisher-there w p x j (eqb-false j p e)))
+unfolding publisherAt withPublisher
+publisher-put f w p x len lt = view-put publisher-sort f w p x lt (omega arith)
 
 -- Fresh words.
-zero-at : (n i : ℕ) → _≡_ {A = ℕ} (getD (replicate n 0) i 0) 0
-zero-at zero i = refl
-zero-at (suc n) zero = refl
-zero-at (suc n) (suc i) = zero-at n i
-
 blank-reader : (n j : ℕ) → readerAt (replicate n 0) j ≡ noReader
 unfolding readerAt
-blank-reader n j = rw (reader-same (λ i. getD (replicate n 0) (HEAD + READER-WORDS * j + i) 0) (λ i. 0) (λ i l. zero-at n (HEAD + READER-WORDS * j + i))) (pick-same (ltb j READERS-MAX) noReader)
+blank-reader = view-blank reader-sort
 
 blank-publisher : (n j : ℕ) → publisherAt (replicate n 0) j ≡ noPublisher
 unfolding publisherAt
-blank-publisher n j = rw (publisher-same (λ i. getD (replicate n 0) (FIRST-PUBLISHER + PUBLISHER-WORDS * j + i) 0) (λ i. 0) (λ i l. zero-at n (FIRST-PUBLISHER + PUBLISHER-WORDS * j + i))) (pick-same (ltb j PUBLISHERS-MAX) noPublisher)
+blank-publisher = view-blank publisher-sort
 
 pub length-readers : (n : ℕ) (w : List ℕ) (x : Reader) → length (withReaders n w x) ≡ length w
 unfolding withReaders
@@ -210,13 +210,17 @@ readers-put (suc n) w x len le j = at j (readers-put n w x len (omega arith) j)
             ltb-none : (j n : ℕ) → eqb j n ≡ false → ltb j n ≡ false → ltb j (suc n) ≡ false
             ltb-none j n d f = let q = eqb-false j n d in let l = ltb-false j n f in le-ltb j (suc n) (omega arith)
 
--- A word stored, read anywhere.
-set-at : (w : List ℕ) (i v j : ℕ) → i < length w → getD (set w i v) j 0 ≡ pick (eqb j i) v (getD w j 0)
-set-at w i v j lt = go (eqb j i) refl
+-- w′ is w with one word stored.
+record Stored (w w′ : List ℕ) (i v : ℕ) : Type 0 where
+  long : length w′ ≡ WORDS
+  at : (j : ℕ) → getD w′ j 0 ≡ pick (eqb j i) v (getD w j 0)
+
+stored : (w : List ℕ) (i v : ℕ) → i < WORDS → length w ≡ WORDS → Stored w (set w i v) i v
+stored w i v lt len = record { long = length-set w i v ∙ len; at = λ j. go j (eqb j i) refl }
   where
-    go : (b : Bool) → eqb j i ≡ b → getD (set w i v) j 0 ≡ pick b v (getD w j 0)
-    go true e = rw (eqb-true j i e) (getD-set-same w i v 0 lt)
-    go false e = getD-set-other w i j v 0 (eqb-false j i e)
+    go : (j : ℕ) (b : Bool) → eqb j i ≡ b → getD (set w i v) j 0 ≡ pick b v (getD w j 0)
+    go j true e = rw (eqb-true j i e) (getD-set-same w i v 0 (omega arith))
+    go j false e = getD-set-other w i j v 0 (eqb-false j i e)
 
 readers-head : (n : ℕ) (w : List ℕ) (x : Reader) (k : ℕ) → k < HEAD → getD (withReaders n w x) k 0 ≡ getD w k 0
 unfolding withReaders
@@ -252,45 +256,36 @@ module _ (k rs ps ss v : ℕ) (x : Reader) where
   unfolding u0
   u0-long = length-readers READERS-MAX (replicate WORDS 0) x
 
-  u1-long : length u1 ≡ WORDS
+  u0-at : (j : ℕ) → j < HEAD → getD u0 j 0 ≡ 0
+  unfolding u0
+  u0-at j lt = readers-head READERS-MAX (replicate WORDS 0) x j lt ∙ zero-at WORDS j
+
+  u1-is : Stored u0 u1 KIND-AT k
   unfolding u1
-  u1-long = length-set u0 KIND-AT k ∙ u0-long
+  u1-is = stored u0 KIND-AT k (omega arith) u0-long
 
-  u2-long : length u2 ≡ WORDS
+  u2-is : Stored u1 u2 READERS-AT rs
   unfolding u2
-  u2-long = length-set u1 READERS-AT rs ∙ u1-long
+  u2-is = stored u1 READERS-AT rs (omega arith) (u1-is .long)
 
-  u3-long : length u3 ≡ WORDS
+  u3-is : Stored u2 u3 PUBLISHERS-AT ps
   unfolding u3
-  u3-long = length-set u2 PUBLISHERS-AT ps ∙ u2-long
+  u3-is = stored u2 PUBLISHERS-AT ps (omega arith) (u2-is .long)
 
-  u4-long : length u4 ≡ WORDS
+  u4-is : Stored u3 u4 SLOTS-AT ss
   unfolding u4
-  u4-long = length-set u3 SLOTS-AT ss ∙ u3-long
+  u4-is = stored u3 SLOTS-AT ss (omega arith) (u3-is .long)
+
+  u5-is : Stored u4 (fresh k rs ps ss v x) VERSION-AT v
+  u5-is = rw fresh-is (stored u4 VERSION-AT v (omega arith) (u4-is .long))
 
   pub fresh-long : length (fresh k rs ps ss v x) ≡ WORDS
-  fresh-long = rw fresh-is (length-set u4 VERSION-AT v ∙ u4-long)
-
-  u1-at : (j : ℕ) → j < HEAD → getD u1 j 0 ≡ pick (eqb j KIND-AT) k 0
-  unfolding u0 u1
-  u1-at j lt = set-at u0 KIND-AT k j (omega (arith, u0-long)) ∙ rw (readers-head READERS-MAX (replicate WORDS 0) x j lt, zero-at WORDS j) refl
-
-  u2-at : (j : ℕ) → getD u2 j 0 ≡ pick (eqb j READERS-AT) rs (getD u1 j 0)
-  unfolding u2
-  u2-at j = set-at u1 READERS-AT rs j (omega (arith, u1-long))
-
-  u3-at : (j : ℕ) → getD u3 j 0 ≡ pick (eqb j PUBLISHERS-AT) ps (getD u2 j 0)
-  unfolding u3
-  u3-at j = set-at u2 PUBLISHERS-AT ps j (omega (arith, u2-long))
-
-  u4-at : (j : ℕ) → getD u4 j 0 ≡ pick (eqb j SLOTS-AT) ss (getD u3 j 0)
-  unfolding u4
-  u4-at j = set-at u3 SLOTS-AT ss j (omega (arith, u3-long))
+  fresh-long = u5-is .long
 
   -- The head of fresh words.
   pub fresh-head : (j : ℕ) → j < HEAD
       → getD (fresh k rs ps ss v x) j 0 ≡ pick (eqb j VERSION-AT) v (pick (eqb j SLOTS-AT) ss (pick (eqb j PUBLISHERS-AT) ps (pick (eqb j READERS-AT) rs (pick (eqb j KIND-AT) k 0))))
-  fresh-head j lt = rw (fresh-is, set-at u4 VERSION-AT v j (omega (arith, u4-long)), u4-at j, u3-at j, u2-at j, u1-at j lt) refl
+  fresh-head j lt = rw (u5-is .at j, u4-is .at j, u3-is .at j, u2-is .at j, u1-is .at j, u0-at j lt) refl
 
   pub fresh-reader : (j : ℕ) → readerAt (fresh k rs ps ss v x) j ≡ pick (ltb j READERS-MAX) x noReader
   unfolding u0 u1 u2 u3 u4

@@ -16,7 +16,7 @@ use Rattle.calls.specs.declared.Reply.{Reply}
 use Rattle.calls.specs.declared.Reply.the-variants.{At}
 use Rattle.calls.specs.Base.{pick, upd, is}
 use Rattle.calls.specs.Numbers.{TABLE}
-use Rattle.calls.specs.RowLaws.{clash, not-both, or-left, or-right, same, at-or}
+use Rattle.calls.specs.RowLaws.{clash, not-both, or-left, or-right, or-none, same, at-or}
 use Rattle.calls.specs.Model.{Model, model₀, shelve, entry}
 use Rattle.calls.specs.Told.{Told, told₀, tell, holds, Role, Has}
 use Rattle.calls.specs.Told.Role.{current, heldBy, free}
@@ -105,87 +105,79 @@ writing-not pl f = go (leb 1 pl) refl (leb pl 33) refl
     go true d false e = refl
     go false d b e = refl
 
-or-none : (b : Bool) → b || false ≡ b
-or-none true = refl
-or-none false = refl
-
 -- A slot that is the current one or a former one.
 or-either : (a b : Bool) → a || b ≡ true → (a ≡ true) ⊎ (b ≡ true)
 or-either true b e = inl refl
 or-either false b e = inr e
 
+-- ENTER takes a reader at pl with pick pk one place on, to pl′ with pick pk′: below 4, to 4, or from 4 to 5, where it picks the current slot.
+pub data Onward (cur pl pk pl′ pk′ : ℕ) : Type 0 where
+  stays-out : pl ≤ 3 → pl′ ≤ 3 → pk′ ≡ pk → Onward cur pl pk pl′ pk′
+  opens : pl ≤ 3 → pl′ ≡ 4 → pk′ ≡ pk → Onward cur pl pk pl′ pk′
+  picks : pl ≡ 4 → pl′ ≡ 5 → pk′ ≡ cur → Onward cur pl pk pl′ pk′
+
+-- An open section stays open, and what is picked is current.
+pub onward-open : {cur pl pk pl′ pk′ : ℕ} → Onward cur pl pk pl′ pk′ → 4 ≤ pl → 4 ≤ pl′
+onward-open (stays-out a b e) l = absurd (omega arith)
+onward-open (opens a b e) l = omega arith
+onward-open (picks a b e) l = omega arith
+
+pub onward-picked : {cur pl pk pl′ pk′ : ℕ} → Onward cur pl pk pl′ pk′ → pl′ ≡ 5 → pk′ ≡ cur
+onward-picked (stays-out a b e) five = absurd (omega arith)
+onward-picked (opens a b e) five = absurd (omega arith)
+onward-picked (picks a b e) five = e
+
 module _ (h : Model) (t : Told) (n m cur : ℕ) (rpl rpk ppl pcl : ℕ → ℕ) (F : ℕ → ℕ → Bool) (E : ℕ → ℕ → ℤ) (i : Core h t n m cur rpl rpk ppl pcl F E) where
+  -- A reader anew, with what is told of the readers and their notes.
+  reader-core : (r pl pk : ℕ) (inside : ℕ → Bool) (picked : ℕ → Option ℕ) (note : ℕ → List ℤ) → ((j : ℕ) → ReaderOk n cur F E j (upd rpl r pl j) (upd rpk r pk j) (inside j) (picked j) (note j))
+      → Core (record { table = h .table; note = note; draft = h .draft }) (record { inside = inside; picked = picked; current = t .current; claim = t .claim; writing = t .writing; former = t .former })
+      n m cur (upd rpl r pl) (upd rpk r pk) ppl pcl F E
+  reader-core r pl pk inside picked note ok = record { readers = ok; publishers = i .publishers; distinct = i .distinct; current-is = i .current-is; table = i .table; whole = i .whole }
+
   -- ENTER to a place below 4, to 4, and to 5.
-  pub enter-below : (r pl : ℕ) → r < n → rpl r ≤ 3 → pl ≤ 3
+  enter-below : (r pl : ℕ) → r < n → rpl r ≤ 3 → pl ≤ 3
       → Core (shelve h (Enter r) (At pl)) (tell t (Enter r) (At pl)) n m cur (upd rpl r pl) (upd rpk r (rpk r)) ppl pcl F E
-  enter-below r pl rn old new = rw (ne-eqb pl 4 (λ z. omega arith), ne-eqb pl 5 (λ z. omega arith)) (record {
-    readers = at-or r (rw (same r) (let o = i .readers r in record {
-      bound = λ _. rn;
-      inside-is = o .inside-is ∙ rw (lt-leb 4 (rpl r) (omega arith), lt-leb 4 pl (omega arith)) refl;
-      picked-is = o .picked-is ∙ rw (ne-eqb (rpl r) 5 (λ z. omega arith), ne-eqb pl 5 (λ z. omega arith)) refl;
-      safe = λ q. absurd (omega arith);
-      noted = λ q. absurd (omega arith);
-    }))
-        (λ j e. rw e (i .readers j));
-    publishers = i .publishers;
-    distinct = i .distinct;
-    current-is = i .current-is;
-    table = i .table;
-    whole = i .whole;
-  })
+  enter-below r pl rn old new = rw (ne-eqb pl 4 (λ z. omega arith), ne-eqb pl 5 (λ z. omega arith)) (reader-core r pl _ _ _ _ (at-or r (rw (same r) (let o = i .readers r in record {
+    bound = λ _. rn;
+    inside-is = o .inside-is ∙ rw (lt-leb 4 (rpl r) (omega arith), lt-leb 4 pl (omega arith)) refl;
+    picked-is = o .picked-is ∙ rw (ne-eqb (rpl r) 5 (λ z. omega arith), ne-eqb pl 5 (λ z. omega arith)) refl;
+    safe = λ q. absurd (omega arith);
+    noted = λ q. absurd (omega arith);
+  })) (λ j e. rw e (i .readers j))))
 
-  pub enter-open : (r : ℕ) → r < n → rpl r ≤ 3
+  enter-open : (r : ℕ) → r < n → rpl r ≤ 3
       → Core (shelve h (Enter r) (At 4)) (tell t (Enter r) (At 4)) n m cur (upd rpl r 4) (upd rpk r (rpk r)) ppl pcl F E
-  enter-open r rn old = record {
-    readers = at-or r (rw (same r) (record {
-      bound = λ _. rn;
-      inside-is = refl;
-      picked-is = refl;
-      safe = λ q. absurd (omega arith);
-      noted = λ q. absurd (omega arith);
-    }))
-        (λ j e. rw e (i .readers j));
-    publishers = i .publishers;
-    distinct = i .distinct;
-    current-is = i .current-is;
-    table = i .table;
-    whole = i .whole;
-  }
+  enter-open r rn old = reader-core r 4 _ _ _ _ (at-or r (rw (same r) (record {
+    bound = λ _. rn;
+    inside-is = refl;
+    picked-is = refl;
+    safe = λ q. absurd (omega arith);
+    noted = λ q. absurd (omega arith);
+  })) (λ j e. rw e (i .readers j)))
 
-  pub enter-pick : (r : ℕ) → r < n → rpl r ≡ 4
+  enter-pick : (r : ℕ) → r < n → rpl r ≡ 4
       → Core (shelve h (Enter r) (At 5)) (tell t (Enter r) (At 5)) n m cur (upd rpl r 5) (upd rpk r cur) ppl pcl F E
-  enter-pick r rn at4 = record {
-    readers = at-or r (rw (same r, i .current-is) (let o = i .readers r in record {
-      bound = λ _. rn;
-      inside-is = o .inside-is ∙ rw at4 refl;
-      picked-is = refl;
-      safe = λ q. is-current refl;
-      noted = λ q. i .table;
-    }))
-        (λ j e. rw e (i .readers j));
-    publishers = i .publishers;
-    distinct = i .distinct;
-    current-is = i .current-is;
-    table = i .table;
-    whole = i .whole;
-  }
+  enter-pick r rn at4 = reader-core r 5 _ _ _ _ (at-or r (rw (same r, i .current-is) (let o = i .readers r in record {
+    bound = λ _. rn;
+    inside-is = o .inside-is ∙ rw at4 refl;
+    picked-is = refl;
+    safe = λ q. is-current refl;
+    noted = λ q. i .table;
+  })) (λ j e. rw e (i .readers j)))
 
-  pub leave-core : (r : ℕ) (a : Reply) → Core h (tell t (Leave r) a) n m cur (upd rpl r 0) (upd rpk r (rpk r)) ppl pcl F E
-  leave-core r a = record {
-    readers = at-or r (rw (same r) (record {
-      bound = λ q. absurd (omega arith);
-      inside-is = refl;
-      picked-is = refl;
-      safe = λ q. absurd (omega arith);
-      noted = λ q. absurd (omega arith);
-    }))
-        (λ j e. rw e (i .readers j));
-    publishers = i .publishers;
-    distinct = i .distinct;
-    current-is = i .current-is;
-    table = i .table;
-    whole = i .whole;
-  }
+  pub enter-core : (r pl pk : ℕ) → r < n → Onward cur (rpl r) (rpk r) pl pk → Core (shelve h (Enter r) (At pl)) (tell t (Enter r) (At pl)) n m cur (upd rpl r pl) (upd rpk r pk) ppl pcl F E
+  enter-core r pl pk rn (stays-out a b e) = rw e (enter-below r pl rn a b)
+  enter-core r pl pk rn (opens a b e) = rw (b, e) (enter-open r rn a)
+  enter-core r pl pk rn (picks a b e) = rw (b, e) (enter-pick r rn a)
+
+  pub leave-core : (r pk : ℕ) (a : Reply) → Core h (tell t (Leave r) a) n m cur (upd rpl r 0) (upd rpk r pk) ppl pcl F E
+  leave-core r pk a = reader-core r 0 pk _ _ _ (at-or r (rw (same r) (record {
+    bound = λ q. absurd (omega arith);
+    inside-is = refl;
+    picked-is = refl;
+    safe = λ q. absurd (omega arith);
+    noted = λ q. absurd (omega arith);
+  })) (λ j e. rw e (i .readers j)))
 
   -- One publisher moves: each slot that it holds then it held before, or nobody did.
   distinct-moved : (p pl c : ℕ) (G : ℕ → Bool) → ((x : ℕ) → Hold pl c G x → Hold (ppl p) (pcl p) (F p) x ⊎ ((q : ℕ) → Hold (ppl q) (pcl q) (F q) x → ⊥))

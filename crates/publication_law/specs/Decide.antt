@@ -6,12 +6,13 @@ use mathlib.Core.Bool.{true}
 use mathlib.Core.List.{List}
 use lib.Dec.{eqb}
 use borrow.Author.Tests.{eqb-true, eqb-false}
-use Rattle.calls.specs.declared.Reply.the-variants.{Refused}
+use Rattle.calls.specs.declared.Reply.the-variants.{Raised, Shared, Refused}
 use Rattle.calls.specs.Rows.{Test, firstOf}
 use Rattle.calls.specs.RowLaws.{AllClear, allAbove, clear, none-applies, not-both, pick-split}
 use Rattle.calls.specs.Events.{accepted}
-use Rattle.statement.specs.Machine.{State, Outcome, outcome}
-use Rattle.publication_law.specs.Steps.{decide}
+use Rattle.layout.specs.Layout.{version, withVersion, withPublisher}
+use Rattle.statement.specs.Machine.{State, state, Outcome, outcome}
+use Rattle.publication_law.specs.Steps.{Versions, publisher, atPlace, putPublisher, raise, decide}
 
 -- Accepted, with no row that applies; or refused, with the state as it was.
 pub decided : (Q : Outcome → Type 0) (rows : List Test) (o : Outcome) (s : State) → allAbove 0 rows ≡ true
@@ -30,3 +31,9 @@ pub decide-why : (rows : List Test) (o : Outcome) (s : State) (n : ℕ) → acce
 decide-why rows o s n ok = pick-split (λ (q : Outcome). q .reply ≡ Refused n → (firstOf rows ≡ n) × (n ≢ 0)) (eqb (firstOf rows) 0)
     (λ _ e. absurd (not-both _ ok (rw e refl)))
     (λ d e. let q : firstOf rows ≡ n = cc in (q, λ z. eqb-false _ _ d (q ∙ z)))
+
+-- A RAISE, by whether it raises the version or shares it.
+pub raise-split : (Q : Outcome → Type 0) (vs : Versions) (s : State) (p : ℕ)
+    → (version (s .words) ≡ vs .beforeMark (publisher s p .walk .mark) → Q (outcome Raised (state (withVersion (withPublisher (s .words) p (atPlace (publisher s p) 37)) (publisher s p .walk .mark)) (s .entries))))
+    → Q (outcome Shared (putPublisher s p (atPlace (publisher s p) 37))) → Q (raise vs s p)
+raise-split Q vs s p f g = pick-split Q (eqb (version (s .words)) (vs .beforeMark (publisher s p .walk .mark))) (λ e. f (eqb-true _ _ e)) (λ _. g)

@@ -7,25 +7,23 @@ use mathlib.Core.Bool.{Bool}
 use mathlib.Core.List.{List}
 use mathlib.Core.Option.{some}
 use lib.IntN.{ℤ}
-use lib.ListN.{length}
-use lib.Dec.{eqb}
 use borrow.Author.Tests.{ne-eqb, leb-false}
 use Rattle.calls.specs.declared.Call.{Call}
 use Rattle.calls.specs.declared.Call.the-variants.{Claim, Write, Swap, Sync, Raise, Walk, Release}
 use Rattle.calls.specs.Base.{upd}
-use Rattle.calls.specs.Numbers.{PUBLISHERS-MAX}
-use Rattle.calls.specs.RowLaws.{AllClear, pick-split, same}
+use Rattle.calls.specs.RowLaws.{AllClear, same}
 use Rattle.layout.specs.declared.Reader.{Reader}
 use Rattle.layout.specs.declared.Publisher.{Publisher}
 use Rattle.layout.specs.declared.Progress.{Progress}
-use Rattle.layout.specs.Layout.{CURRENT-AT, VERSION-AT, RELEASES-AT, WORDS, publishers, version, readerAt, publisherAt}
+use Rattle.layout.specs.Layout.{CURRENT-AT, VERSION-AT, RELEASES-AT, publishers, readerAt, publisherAt}
 use Rattle.layout.specs.Laws.{publisher-put}
 use Rattle.statement.specs.Machine.{State, Outcome}
 use Rattle.statement.specs.Companions.{readerNamed, publisherNamed, Framed}
 use Rattle.publication_law.specs.Steps.{Versions, publisher, claim, claimTests, write, writeTests, swap, swapTests, sync, syncTests, raise, walk, walked, release, releaseTests, oneMore}
 use Rattle.publication_law.specs.Damage.{Kind}
 use Rattle.publication_law.specs.DamageLaws.{Fine, publisher-below}
-use Rattle.publication_law.specs.Moves.{MovesPublisher, MovesReader, moves-publisher, moves-head}
+use Rattle.publication_law.specs.Decide.{raise-split}
+use Rattle.publication_law.specs.Moves.{MovesPublisher, MovesReader, publisher-moves, publisher-moves-head}
 
 pub same-framed : (c : Call) (w : List ℕ) → Framed c w w
 same-framed c w = record { readers = λ r ne. refl; publishers = λ p ne. refl }
@@ -46,38 +44,31 @@ reader-framed c w w′ r x m e = record {
 }
 
 module _ (K : Kind) (s : State) (f : Fine K s) where
-  long : length (s .words) ≡ WORDS
-  long = f .head .long
-
-  few : (p : ℕ) → p < publishers (s .words) → p < PUBLISHERS-MAX
-  few = publisher-below K s f
-
   pub claim-framed : (e : Bool) (p x : ℕ) → AllClear (claimTests e s p x) → Framed (Claim p x) (s .words) (claim s p x .after .words)
-  claim-framed e p x c = publisher-framed (Claim p x) _ _ p _ _ _ _ (moves-publisher (s .words) p _ long (few p (leb-false _ _ (c .0)))) refl
+  claim-framed e p x c = publisher-framed (Claim p x) _ _ p _ _ _ _ (publisher-moves f p _ (leb-false _ _ (c .0))) refl
 
   pub write-framed : (p : ℕ) (v : ℤ) → AllClear (writeTests s p v) → Framed (Write p v) (s .words) (write s p v .after .words)
-  write-framed p v c = publisher-framed (Write p v) _ _ p _ _ _ _ (moves-publisher (s .words) p _ long (few p (leb-false _ _ (c .0)))) refl
+  write-framed p v c = publisher-framed (Write p v) _ _ p _ _ _ _ (publisher-moves f p _ (leb-false _ _ (c .0))) refl
 
   pub swap-framed : (p : ℕ) → AllClear (swapTests s p) → Framed (Swap p) (s .words) (swap s p .after .words)
   swap-framed p c = publisher-framed (Swap p) _ _ p _ _ _ _
-      (moves-head (s .words) _ p _ _ _ _ (moves-publisher (s .words) p _ long (few p (leb-false _ _ (c .0)))) long CURRENT-AT (publisher s p .held) (omega arith) (omega arith)) refl
+      (publisher-moves-head f p _ (leb-false _ _ (c .0)) CURRENT-AT (publisher s p .held) (omega arith) (omega arith)) refl
 
   pub sync-framed : (vs : Versions) (p : ℕ) → AllClear (syncTests vs s p) → Framed (Sync p) (s .words) (sync vs s p .after .words)
-  sync-framed vs p c = publisher-framed (Sync p) _ _ p _ _ _ _ (moves-publisher (s .words) p _ long (few p (leb-false _ _ (c .0)))) refl
+  sync-framed vs p c = publisher-framed (Sync p) _ _ p _ _ _ _ (publisher-moves f p _ (leb-false _ _ (c .0))) refl
 
   pub raise-framed : (vs : Versions) (p : ℕ) → p < publishers (s .words) → Framed (Raise p) (s .words) (raise vs s p .after .words)
-  raise-framed vs p lt = pick-split (λ (o : Outcome). Framed (Raise p) (s .words) (o .after .words)) (eqb (version (s .words)) (vs .beforeMark (publisher s p .walk .mark)))
-      (λ e. publisher-framed (Raise p) _ _ p _ _ _ _
-      (moves-head (s .words) _ p _ _ _ _ (moves-publisher (s .words) p _ long (few p lt)) long VERSION-AT (publisher s p .walk .mark) (omega arith) (omega arith)) refl)
-      (λ e. publisher-framed (Raise p) _ _ p _ _ _ _ (moves-publisher (s .words) p _ long (few p lt)) refl)
+  raise-framed vs p lt = raise-split (λ (o : Outcome). Framed (Raise p) (s .words) (o .after .words)) vs s p
+      (λ e. publisher-framed (Raise p) _ _ p _ _ _ _ (publisher-moves-head f p _ lt VERSION-AT (publisher s p .walk .mark) (omega arith) (omega arith)) refl)
+      (publisher-framed (Raise p) _ _ p _ _ _ _ (publisher-moves f p _ lt) refl)
 
   -- A WALK leaves its publisher's record with what its looks came to.
   pub walk-record : (p : ℕ) → p < publishers (s .words) → (k : Progress) → publisher (walk s p k .after) p ≡ walked (publisher s p) k
-  walk-record p lt k = ap (λ (g : ℕ → Publisher). g p) (publisher-put (λ (y : Publisher). y) (s .words) p (walked (publisher s p) k) long (few p lt)) ∙ rw (same p) refl
+  walk-record p lt k = ap (λ (g : ℕ → Publisher). g p) (publisher-put (λ (y : Publisher). y) (s .words) p (walked (publisher s p) k) (f .head .long) (publisher-below K s f p lt)) ∙ rw (same p) refl
 
   pub walk-framed : (p b : ℕ) (k : Progress) → p < publishers (s .words) → Framed (Walk p b) (s .words) (walk s p k .after .words)
-  walk-framed p b k lt = publisher-framed (Walk p b) _ _ p _ _ _ _ (moves-publisher (s .words) p _ long (few p lt)) refl
+  walk-framed p b k lt = publisher-framed (Walk p b) _ _ p _ _ _ _ (publisher-moves f p _ lt) refl
 
   pub release-framed : (p : ℕ) → AllClear (releaseTests s p) → Framed (Release p) (s .words) (release s p .after .words)
   release-framed p c = publisher-framed (Release p) _ _ p _ _ _ _
-      (moves-head (s .words) _ p _ _ _ _ (moves-publisher (s .words) p _ long (few p (leb-false _ _ (c .0)))) long RELEASES-AT (oneMore s) (omega arith) (omega arith)) refl
+      (publisher-moves-head f p _ (leb-false _ _ (c .0)) RELEASES-AT (oneMore s) (omega arith) (omega arith)) refl

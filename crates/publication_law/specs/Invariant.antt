@@ -1,21 +1,21 @@
 -- The shared invariant of a store on its words, through the views; each shared step keeps it. Assumes nothing.
 use Prim.Native.Nat.{ℕ, _<_}
 use native.Mathlib.Omega.{arith}
-use mathlib.Core.Path.{_≡_, _∙_}
+use mathlib.Core.Path.{_≡_, refl, _∙_}
 use mathlib.Core.Bool.{Bool, false}
 use mathlib.Core.List.{List}
 use lib.IntN.{ℤ}
-use lib.ListN.{length}
+use lib.ListN.{getD, length}
 use Rattle.calls.specs.Base.{upd}
 use Rattle.calls.specs.RowLaws.{same, at-or}
 use Rattle.layout.specs.declared.Reader.{Reader}
 use Rattle.layout.specs.declared.Publisher.{Publisher}
-use Rattle.layout.specs.Layout.{KIND-AT, READERS-AT, PUBLISHERS-AT, SLOTS-AT, CURRENT-AT, VERSION-AT, RELEASES-AT, readers, publishers, slots, current, releases, readerAt, publisherAt}
+use Rattle.layout.specs.Layout.{KIND-AT, READERS-AT, PUBLISHERS-AT, SLOTS-AT, CURRENT-AT, VERSION-AT, RELEASES-AT, readers, publishers, slots, current, version, releases, readerAt, publisherAt}
 use Rattle.statement.specs.Machine.{State, state, Given}
 use Rattle.statement.specs.Kept.{Ghost}
 use Rattle.publication_law.specs.Steps.{reader, publisher, walk}
 use Rattle.publication_law.specs.Damage.{Kind}
-use Rattle.publication_law.specs.DamageLaws.{Fine}
+use Rattle.publication_law.specs.DamageLaws.{HeadFine, Fine}
 use Rattle.publication_law.specs.Core.{Core}
 use Rattle.publication_law.specs.Grace.{Grace}
 use Rattle.publication_law.specs.Single.{formerAt}
@@ -49,23 +49,31 @@ pub record Invariant (K : Kind) (z : Given) (g : Ghost) (s : State) : Type 0 whe
   pub grace : GraceOf g (readerAt (s .words)) (publisherAt (s .words))
   pub tallied : TalliedOf g (readerAt (s .words)) (publisherAt (s .words)) (releases (s .words))
 
+-- Words and entries of the same lengths, with the same numbers of the head below the current slot, and a current slot and a version that fit.
+module _ (K : Kind) (s : State) (w′ : List ℕ) (es′ : List ℤ) (long : length w′ ≡ length (s .words)) (head : (k : ℕ) → k < CURRENT-AT → getD w′ k 0 ≡ getD (s .words) k 0) where
+  head-fine : length es′ ≡ length (s .entries) → current w′ < slots (s .words) → K .versions .tooLarge (version w′) ≡ false → HeadFine K s → HeadFine K (state w′ es′)
+  head-fine len low fits h = record {
+    long = long ∙ h .long;
+    kind-is = head KIND-AT (omega arith) ∙ h .kind-is;
+    readers-low = rw (head READERS-AT (omega arith)) (h .readers-low);
+    readers-high = rw (head READERS-AT (omega arith)) (h .readers-high);
+    publishers-low = rw (head PUBLISHERS-AT (omega arith)) (h .publishers-low);
+    publishers-high = rw (head PUBLISHERS-AT (omega arith)) (h .publishers-high);
+    slots-low = rw (head SLOTS-AT (omega arith)) (h .slots-low);
+    slots-high = rw (head SLOTS-AT (omega arith)) (h .slots-high);
+    entries-are = rw (head SLOTS-AT (omega arith)) (len ∙ h .entries-are);
+    current-below = rw (head SLOTS-AT (omega arith)) low;
+    version-fits = fits;
+  }
+
+  sized : (z : Given) → Sized z s → Sized z (state w′ es′)
+  sized z u = record { readers-are = head READERS-AT (omega arith) ∙ u .readers-are; publishers-are = head PUBLISHERS-AT (omega arith) ∙ u .publishers-are; slots-are = head SLOTS-AT (omega arith) ∙ u .slots-are }
+
 -- A reader anew.
 module _ (K : Kind) (z : Given) (g : Ghost) (s : State) (i : Invariant K z g s) (g′ : Ghost) (w′ : List ℕ) (r : ℕ) (x : Reader) (m : MovesReader (s .words) w′ r x) where
   fine-reader : K .readerDamaged (slots (s .words)) x ≡ false → Fine K (state w′ (s .entries))
   fine-reader ok = let f = i .fine in let h = f .head in record {
-    head = record {
-      long = m .long ∙ h .long;
-      kind-is = m .head KIND-AT (omega arith) ∙ h .kind-is;
-      readers-low = rw (m .head READERS-AT (omega arith)) (h .readers-low);
-      readers-high = rw (m .head READERS-AT (omega arith)) (h .readers-high);
-      publishers-low = rw (m .head PUBLISHERS-AT (omega arith)) (h .publishers-low);
-      publishers-high = rw (m .head PUBLISHERS-AT (omega arith)) (h .publishers-high);
-      slots-low = rw (m .head SLOTS-AT (omega arith)) (h .slots-low);
-      slots-high = rw (m .head SLOTS-AT (omega arith)) (h .slots-high);
-      entries-are = rw (m .head SLOTS-AT (omega arith)) (h .entries-are);
-      current-below = rw (m .head SLOTS-AT (omega arith), m .head CURRENT-AT (omega arith)) (h .current-below);
-      version-fits = rw (m .head VERSION-AT (omega arith)) (h .version-fits);
-    };
+    head = head-fine K s w′ (s .entries) (m .long) (λ k l. m .head k (omega arith)) refl (rw (m .head CURRENT-AT (omega arith)) (h .current-below)) (rw (m .head VERSION-AT (omega arith)) (h .version-fits)) h;
     readers-fine = rw (m .head READERS-AT (omega arith), m .head SLOTS-AT (omega arith), m .readers-are) (at-or r (λ l. rw (same r) ok) (λ j e l. rw e (f .readers-fine j l)));
     publishers-fine = rw (m .head READERS-AT (omega arith), m .head PUBLISHERS-AT (omega arith), m .head SLOTS-AT (omega arith), m .publishers-stay) (f .publishers-fine);
   }
@@ -78,7 +86,7 @@ module _ (K : Kind) (z : Given) (g : Ghost) (s : State) (i : Invariant K z g s) 
       → Invariant K z g′ (state w′ (s .entries))
   reader-moved ok c d e = record {
     fine = fine-reader ok;
-    sized = let u = i .sized in record { readers-are = m .head READERS-AT (omega arith) ∙ u .readers-are; publishers-are = m .head PUBLISHERS-AT (omega arith) ∙ u .publishers-are; slots-are = m .head SLOTS-AT (omega arith) ∙ u .slots-are };
+    sized = sized K s w′ (s .entries) (m .long) (λ k l. m .head k (omega arith)) z (i .sized);
     core = rw (
       m .head READERS-AT (omega arith),
       m .head PUBLISHERS-AT (omega arith),
@@ -95,20 +103,8 @@ module _ (K : Kind) (z : Given) (g : Ghost) (s : State) (i : Invariant K z g s) 
 module _ (K : Kind) (z : Given) (g : Ghost) (s : State) (i : Invariant K z g s) (g′ : Ghost) (w′ : List ℕ) (es′ : List ℤ) (p : ℕ) (y : Publisher) (cur ver rel : ℕ)
     (m : MovesPublisher (s .words) w′ p y cur ver rel) (len : length es′ ≡ length (s .entries)) where
   fine-publisher : cur < slots (s .words) → K .versions .tooLarge ver ≡ false → K .publisherDamaged (readers (s .words)) (slots (s .words)) y ≡ false → Fine K (state w′ es′)
-  fine-publisher low fits ok = let f = i .fine in let h = f .head in record {
-    head = record {
-      long = m .long ∙ h .long;
-      kind-is = m .head KIND-AT (omega arith) ∙ h .kind-is;
-      readers-low = rw (m .head READERS-AT (omega arith)) (h .readers-low);
-      readers-high = rw (m .head READERS-AT (omega arith)) (h .readers-high);
-      publishers-low = rw (m .head PUBLISHERS-AT (omega arith)) (h .publishers-low);
-      publishers-high = rw (m .head PUBLISHERS-AT (omega arith)) (h .publishers-high);
-      slots-low = rw (m .head SLOTS-AT (omega arith)) (h .slots-low);
-      slots-high = rw (m .head SLOTS-AT (omega arith)) (h .slots-high);
-      entries-are = rw (m .head SLOTS-AT (omega arith)) (len ∙ h .entries-are);
-      current-below = rw (m .head SLOTS-AT (omega arith), m .current-is) low;
-      version-fits = rw (m .version-is) fits;
-    };
+  fine-publisher low fits ok = let f = i .fine in record {
+    head = head-fine K s w′ es′ (m .long) (m .head) len (rw (m .current-is) low) (rw (m .version-is) fits) (f .head);
     readers-fine = rw (m .head READERS-AT (omega arith), m .head SLOTS-AT (omega arith), m .readers-stay) (f .readers-fine);
     publishers-fine = rw (m .head READERS-AT (omega arith), m .head PUBLISHERS-AT (omega arith), m .head SLOTS-AT (omega arith), m .publishers-are) (at-or p (λ l. rw (same p) ok) (λ j e l. rw e (f .publishers-fine j l)));
   }
@@ -121,7 +117,7 @@ module _ (K : Kind) (z : Given) (g : Ghost) (s : State) (i : Invariant K z g s) 
       → Invariant K z g′ (state w′ es′)
   publisher-moved low fits ok c d e = record {
     fine = fine-publisher low fits ok;
-    sized = let u = i .sized in record { readers-are = m .head READERS-AT (omega arith) ∙ u .readers-are; publishers-are = m .head PUBLISHERS-AT (omega arith) ∙ u .publishers-are; slots-are = m .head SLOTS-AT (omega arith) ∙ u .slots-are };
+    sized = sized K s w′ es′ (m .long) (m .head) z (i .sized);
     core = rw (
       m .head READERS-AT (omega arith),
       m .head PUBLISHERS-AT (omega arith),

@@ -10,8 +10,8 @@ use lib.IntN.{ℤ, pos}
 use lib.ListN.{getD, set, length, length-set, replicate, length-replicate}
 use lib.Dec.{ltb, eqb}
 use borrow.Author.Tests.{eqb-true, eqb-false, leb-false, le-leb, ltb-false, lt-ltb, not-true, not-false}
-use Rattle.calls.specs.declared.Call.the-variants.{Claim, Write, Swap, Sync, Raise, Walk, Release}
-use Rattle.calls.specs.declared.Reply.the-variants.{Claimed, Written, Swapped, Synced, Walked, Freed}
+use Rattle.calls.specs.declared.Call.the-variants.{Enter, Leave, Claim, Write, Swap, Sync, Raise, Walk, Release}
+use Rattle.calls.specs.declared.Reply.the-variants.{At, Left, Claimed, Written, Swapped, Synced, Walked, Freed}
 use Rattle.calls.specs.declared.WalkReply.{WalkReply}
 use Rattle.calls.specs.declared.WalkReply.the-variants.{Waiting, Spent, Quiet, Returned}
 use Rattle.calls.specs.Base.{pick, upd}
@@ -24,22 +24,24 @@ use Rattle.calls.specs.Tally.Phase.{writing, swapped, syncing, returned}
 use Rattle.layout.specs.declared.Reader.{Reader}
 use Rattle.layout.specs.declared.Publisher.{Publisher}
 use Rattle.layout.specs.declared.Progress.{Progress}
-use Rattle.layout.specs.Layout.{HEAD, KIND-AT, READERS-AT, PUBLISHERS-AT, SLOTS-AT, CURRENT-AT, VERSION-AT, RELEASES-AT, WORDS, readers, publishers, slots, current, version, releases, readerAt, publisherAt, entryAt, fresh, noReader, noPublisher}
+use Rattle.layout.specs.Layout.{HEAD, KIND-AT, READERS-AT, PUBLISHERS-AT, SLOTS-AT, CURRENT-AT, VERSION-AT, RELEASES-AT, readers, publishers, slots, current, version, releases, readerAt, publisherAt, entryAt, fresh, noReader, noPublisher}
 use Rattle.layout.specs.Laws.{fresh-long, fresh-head, fresh-reader, fresh-publisher}
-use Rattle.statement.specs.Machine.{State, Outcome, Given, heldSlot}
+use Rattle.statement.specs.Machine.{State, state, Outcome, Given, heldSlot}
 use Rattle.statement.specs.Demand3.{Slots, Picks}
 use Rattle.statement.specs.Kept.{Ghost, ghost₀, advance}
 use Rattle.publication_law.specs.Steps.{reader, publisher, atPlace, lookTests, claimTests, claim, inUse, writeTests, write, swapTests, swap, syncTests, sync, newWalk, raise, placeAfter, walked, walk, releaseTests, release, oneMore, makingTests, made}
 use Rattle.publication_law.specs.Damage.{Kind}
-use Rattle.publication_law.specs.DamageLaws.{Fine, PublisherFine, publisher-below}
+use Rattle.publication_law.specs.DamageLaws.{Fine, PublisherFine}
 use Rattle.publication_law.specs.KindLaw.{KindLaw, fine-publisher, publisher-undamaged}
-use Rattle.publication_law.specs.Core.{Core, Hold, claim-core, late-core, swap-core, release-core, write-core, held-is, held-bound, role-core, safe-core, free-core, fresh-core}
-use Rattle.publication_law.specs.Grace.{Grace, early-grace, wait-grace, sync-grace, nobody, release-grace, fresh-grace}
+use Rattle.publication_law.specs.Core.{Core, Hold, Onward, onward-open, onward-picked, enter-core, leave-core, claim-core, late-core, swap-core, release-core, write-core, held-is, held-bound, role-core, safe-core, free-core, fresh-core}
+use Rattle.publication_law.specs.Core.Hold.{by-swap}
+use Rattle.publication_law.specs.Grace.{Grace, enter-grace, leave-grace, early-grace, wait-grace, sync-grace, nobody, release-grace, fresh-grace}
 use Rattle.publication_law.specs.Single.{formerAt, former-early, former-same, former-swap, single, single-free}
-use Rattle.publication_law.specs.Tallied.{Tallied, phase-writing, phase-syncing, stay-tallied, phase-tallied, sync-tallied, wait-tallied, return-tallied, release-tallied, fresh-tallied}
+use Rattle.publication_law.specs.Tallied.{Tallied, phase-writing, phase-syncing, place-tallied, stay-tallied, phase-tallied, sync-tallied, wait-tallied, return-tallied, release-tallied, fresh-tallied}
 use Rattle.publication_law.specs.Entries.{slotEntry, set-entry, entry-same, slot-same}
-use Rattle.publication_law.specs.Moves.{moves-publisher, moves-head}
-use Rattle.publication_law.specs.Invariant.{formers, Invariant, publisher-moved}
+use Rattle.publication_law.specs.Decide.{raise-split}
+use Rattle.publication_law.specs.Moves.{MovesReader, publisher-moves, publisher-moves-head}
+use Rattle.publication_law.specs.Invariant.{formers, Invariant, reader-moved, publisher-moved}
 
 -- The waits after a walk's answer.
 abbrev pub waitsAfter : ℕ → WalkReply → ℕ
@@ -49,12 +51,6 @@ waitsAfter n Quiet = n
 waitsAfter n (Returned l w) = n
 
 module _ (K : Kind) (law : KindLaw K) (z : Given) (g : Ghost) (s : State) (i : Invariant K z g s) where
-  long : length (s .words) ≡ WORDS
-  long = i .fine .head .long
-
-  few : (p : ℕ) → p < publishers (s .words) → p < PUBLISHERS-MAX
-  few = publisher-below K s (i .fine)
-
   pub publisher-fine : (p : ℕ) → p < publishers (s .words) → PublisherFine (K .versions) (slots (s .words)) (publisher s p)
   publisher-fine p l = fine-publisher law (readers (s .words)) (slots (s .words)) (publisher s p) (i .fine .publishers-fine p l)
 
@@ -66,6 +62,21 @@ module _ (K : Kind) (law : KindLaw K) (z : Given) (g : Ghost) (s : State) (i : I
   not-current : (x : ℕ) → inUse s x ≡ false → current (s .words) ≢ x
   not-current x e = eqb-false _ _ (or-false (eqb (current (s .words)) x) _ e .0)
 
+  -- ENTER and LEAVE, whatever else of the reader and of the head a kind changes.
+  module _ (w′ : List ℕ) (r : ℕ) (x : Reader) (m : MovesReader (s .words) w′ r x) (ok : K .readerDamaged (slots (s .words)) x ≡ false) where
+    pub enter-keeps : r < readers (s .words) → Onward (current (s .words)) (reader s r .place) (reader s r .picked) (x .place) (x .picked)
+        → Invariant K z (advance g (Enter r) (At (x .place))) (state w′ (s .entries))
+    enter-keeps rn on = reader-moved K z g s i _ w′ r x m ok
+        (enter-core _ _ _ _ _ _ _ _ _ _ _ (i .core) r _ _ rn on)
+        (enter-grace _ _ _ _ _ (i .grace) r _ _ (onward-open on) (λ five p e. i .core .publishers p .apart _ (by-swap e) (onward-picked on five)))
+        (place-tallied _ _ _ _ _ (i .tallied) r (x .place))
+
+    pub leave-keeps : x .place ≡ 0 → Invariant K z (advance g (Leave r) Left) (state w′ (s .entries))
+    leave-keeps out = reader-moved K z g s i _ w′ r x m ok
+        (rw out (leave-core _ _ _ _ _ _ _ _ _ _ _ (i .core) r _ Left))
+        (rw out (leave-grace _ _ _ _ _ (i .grace) (g .told) r _))
+        (rw out (place-tallied _ _ _ _ _ (i .tallied) r 0))
+
   pub claim-keeps : (e : Bool) (p x : ℕ) → AllClear (claimTests e s p x)
       → K .publisherDamaged (readers (s .words)) (slots (s .words)) (record { place = 1; held = x; walk = publisher s p .walk }) ≡ false
       → Invariant K z (advance g (Claim p x) (Claimed x)) (claim s p x .after)
@@ -73,7 +84,7 @@ module _ (K : Kind) (law : KindLaw K) (z : Given) (g : Ghost) (s : State) (i : I
       let lt = leb-false (publishers (s .words)) p (f .0) in
       let idle-now = eqb-true (publisher s p .place) 0 (not-false _ (f .1 .1 .0)) in
       let free-slot = f .1 .1 .1 .1 .0 in
-      publisher-moved K z g s i _ _ _ p _ _ _ _ (moves-publisher (s .words) p _ long (few p lt)) refl (i .fine .head .current-below) (i .fine .head .version-fits) ok
+      publisher-moved K z g s i _ _ _ p _ _ _ _ (publisher-moves (i .fine) p _ lt) refl (i .fine .head .current-below) (i .fine .head .version-fits) ok
       (claim-core _ _ _ _ _ _ _ _ _ _ _ (i .core) p x (Claimed x) _ lt (λ a b. omega arith) (not-current x free-slot) (unheld x free-slot)
       (λ y. sym (former-early (publisher s p .place) (publisher s p .held) y (omega arith))))
       (early-grace _ _ _ _ _ (i .grace) p _ _ (omega arith) (omega arith))
@@ -94,7 +105,7 @@ module _ (K : Kind) (law : KindLaw K) (z : Given) (g : Ghost) (s : State) (i : I
       let high : publisher s p .place ≤ 32 = range .1 in
       let hd = publisher-fine p lt .held-below low in
       let room : entryAt (publisher s p .held) (publisher s p .place - 1) < length (s .entries) = omega (arith, i .fine .head .entries-are) in
-      publisher-moved K z g s i _ _ (set (s .entries) (entryAt (publisher s p .held) (publisher s p .place - 1)) v) p _ _ _ _ (moves-publisher (s .words) p _ long (few p lt)) (length-set (s .entries) _ v)
+      publisher-moved K z g s i _ _ (set (s .entries) (entryAt (publisher s p .held) (publisher s p .place - 1)) v) p _ _ _ _ (publisher-moves (i .fine) p _ lt) (length-set (s .entries) _ v)
       (i .fine .head .current-below) (i .fine .head .version-fits) ok
       (rw (set-entry (s .entries) (publisher s p .held) (publisher s p .place - 1) v (omega arith) room)
       (write-core _ _ _ _ _ _ _ _ _ _ _ (i .core) p v (Written (publisher s p .place)) _ low high
@@ -110,7 +121,7 @@ module _ (K : Kind) (law : KindLaw K) (z : Given) (g : Ghost) (s : State) (i : I
       let lt = leb-false (publishers (s .words)) p (f .0) in
       let at33 = eqb-true (publisher s p .place) 33 (not-false _ (f .1 .0)) in
       publisher-moved K z g s i _ _ _ p _ _ _ _
-      (moves-head (s .words) _ p _ _ _ _ (moves-publisher (s .words) p _ long (few p lt)) long CURRENT-AT (publisher s p .held) (omega arith) (omega arith)) refl
+      (publisher-moves-head (i .fine) p _ lt CURRENT-AT (publisher s p .held) (omega arith) (omega arith)) refl
       (publisher-fine p lt .held-below (omega arith)) (i .fine .head .version-fits) ok
       (swap-core _ _ _ _ _ _ _ _ _ _ _ (i .core) p _ (Swapped (current (s .words))) _ at33 (λ y. former-swap (publisher s p .place) (publisher s p .held) (current (s .words)) y (omega arith)))
       (early-grace _ _ _ _ _ (i .grace) p _ _ (omega arith) (omega arith))
@@ -127,7 +138,7 @@ module _ (K : Kind) (law : KindLaw K) (z : Given) (g : Ghost) (s : State) (i : I
         mark-fits = λ _. law .versions-law .mark-fits (version (s .words)) (i .fine .head .version-fits) (f .1 .1 .0);
         waits-low = λ _. omega arith;
       }) in
-      publisher-moved K z g s i _ _ _ p _ _ _ _ (moves-publisher (s .words) p _ long (few p lt)) refl (i .fine .head .current-below) (i .fine .head .version-fits) ok
+      publisher-moved K z g s i _ _ _ p _ _ _ _ (publisher-moves (i .fine) p _ lt) refl (i .fine .head .current-below) (i .fine .head .version-fits) ok
       (late-core _ _ _ _ _ _ _ _ _ _ _ (i .core) p 35 _ _ (λ a b. omega arith) (λ a b. omega arith) (λ y. former-same (publisher s p .place) 35 (publisher s p .held) y (omega arith) (omega arith)))
       (sync-grace _ _ _ _ _ (i .grace) (g .told) p _ (λ r. i .core .readers r .inside-is))
       (sync-tallied _ _ _ _ _ (i .tallied) p)
@@ -149,12 +160,10 @@ module _ (K : Kind) (law : KindLaw K) (z : Given) (g : Ghost) (s : State) (i : I
     raise-keeps clear =
         let pf = publisher-fine p lt in
         let ok = publisher-undamaged law (readers (s .words)) (slots (s .words)) (atPlace (publisher s p) 37) clear (record { held-below = λ _. pf .held-below (omega arith); mark-fits = λ _. pf .mark-fits low; waits-low = λ _. pf .waits-low low }) in
-        pick-split (λ (o : Outcome). Invariant K z (advance g (Raise p) (o .reply)) (o .after)) (eqb (version (s .words)) (K .versions .beforeMark (publisher s p .walk .mark)))
-        (λ e. publisher-moved K z g s i _ _ _ p _ _ _ _
-        (moves-head (s .words) _ p _ _ _ _ (moves-publisher (s .words) p _ long (few p lt)) long VERSION-AT (publisher s p .walk .mark) (omega arith) (omega arith)) refl
+        raise-split (λ (o : Outcome). Invariant K z (advance g (Raise p) (o .reply)) (o .after)) (K .versions) s p
+        (λ e. publisher-moved K z g s i _ _ _ p _ _ _ _ (publisher-moves-head (i .fine) p _ lt VERSION-AT (publisher s p .walk .mark) (omega arith) (omega arith)) refl
         (i .fine .head .current-below) (law .versions-law .raised-fits _ (publisher-fine p lt .mark-fits low)) ok raise-core raise-grace raise-tallied)
-        (λ e. publisher-moved K z g s i _ _ _ p _ _ _ _ (moves-publisher (s .words) p _ long (few p lt)) refl
-        (i .fine .head .current-below) (i .fine .head .version-fits) ok raise-core raise-grace raise-tallied)
+        (publisher-moved K z g s i _ _ _ p _ _ _ _ (publisher-moves (i .fine) p _ lt) refl (i .fine .head .current-below) (i .fine .head .version-fits) ok raise-core raise-grace raise-tallied)
 
   -- WALK, at 35 to 37: what it came to keeps the mark and the waits, and where it returns nobody is waited for.
   module _ (p b : ℕ) (lt : p < publishers (s .words)) (low : 35 ≤ publisher s p .place) (high : publisher s p .place ≤ 37) where
@@ -184,7 +193,7 @@ module _ (K : Kind) (law : KindLaw K) (z : Given) (g : Ghost) (s : State) (i : I
         let pf = publisher-fine p lt in
         let ok = publisher-undamaged law (readers (s .words)) (slots (s .words)) (walked (publisher s p) k) clear (record { held-below = λ _. pf .held-below (omega (arith, low)); mark-fits = λ _. rw same-mark (pf .mark-fits low); waits-low = λ _. enough }) in
         let l : 35 ≤ placeAfter (publisher s p .place) (k .reply) = after-low (k .reply) in
-        publisher-moved K z g s i _ _ _ p _ _ _ _ (moves-publisher (s .words) p _ long (few p lt)) refl (i .fine .head .current-below) (i .fine .head .version-fits) ok
+        publisher-moved K z g s i _ _ _ p _ _ _ _ (publisher-moves (i .fine) p _ lt) refl (i .fine .head .current-below) (i .fine .head .version-fits) ok
         (late-core _ _ _ _ _ _ _ _ _ _ _ (i .core) p _ _ _ (λ c d. omega arith) (λ c d. omega arith) (λ y. former-same (publisher s p .place) (placeAfter (publisher s p .place) (k .reply)) (publisher s p .held) y (omega arith) (omega arith)))
         (wait-grace _ _ _ _ _ (i .grace) p _ _ low l (after-high (k .reply)) done (λ y. former-same (publisher s p .place) (placeAfter (publisher s p .place) (k .reply)) (publisher s p .held) y (omega arith) (omega arith)))
         (walk-tallied (k .reply) _ ws)
@@ -196,7 +205,7 @@ module _ (K : Kind) (law : KindLaw K) (z : Given) (g : Ghost) (s : State) (i : I
       let lt = leb-false (publishers (s .words)) p (f .0) in
       let at38 = eqb-true (publisher s p .place) 38 (not-false _ (f .1 .0)) in
       publisher-moved K z g s i _ _ _ p _ _ _ _
-      (moves-head (s .words) _ p _ _ _ _ (moves-publisher (s .words) p _ long (few p lt)) long RELEASES-AT (oneMore s) (omega arith) (omega arith)) refl
+      (publisher-moves-head (i .fine) p _ lt RELEASES-AT (oneMore s) (omega arith) (omega arith)) refl
       (i .fine .head .current-below) (i .fine .head .version-fits) ok
       (release-core _ _ _ _ _ _ _ _ _ _ _ (i .core) p _ (Freed (publisher s p .held) (oneMore s)) _ (omega arith) (nobody _ _ _ _ _ (i .grace) p at38) (λ y. refl))
       (release-grace _ _ _ _ _ (i .grace) p _ at38)

@@ -20,7 +20,7 @@ use Rattle.calls.specs.declared.Reply.the-variants.{Made, At, Pitch, Left, Writ
 use Rattle.calls.specs.declared.WalkReply.the-variants.{Spent, Returned}
 use Rattle.calls.specs.Numbers.{READERS-MAX, PUBLISHERS-MAX, SLOTS-MIN, SLOTS-MAX, TABLE, PITCH-LOW, PITCH-HIGH, NUMBER-MAX, MODULUS, DAMAGED, BUSY}
 use Rattle.calls.specs.Rows.{Test, firstOf, outside}
-use Rattle.calls.specs.RowLaws.{clash, and-not, or-false, neither, negated, within, not-outside, no-below, some-below, pick-split, AllClear, allAbove, all-above, first-within}
+use Rattle.calls.specs.RowLaws.{clash, and-not, neither, negated, within, not-outside, no-below, some-below, AllClear, allAbove, all-above, first-within}
 use Rattle.calls.specs.AnswerLaws.{NarrowPitch, Proper}
 use Rattle.calls.specs.Events.{accepted}
 use Rattle.calls.specs.Events.Event.{_⇒_}
@@ -29,7 +29,7 @@ use Rattle.calls.specs.Told.{holds}
 use Rattle.calls.specs.Tally.{Phase}
 use Rattle.calls.specs.Tally.Phase.{writing, swapped, syncing, returned}
 use Rattle.layout.specs.declared.Publisher.{Publisher}
-use Rattle.layout.specs.Layout.{CURRENT-AT, VERSION-AT, RELEASES-AT, WORDS, readers, publishers, slots, current, version, noPublisher, withPublisher}
+use Rattle.layout.specs.Layout.{CURRENT-AT, VERSION-AT, RELEASES-AT, readers, publishers, slots, current, version, noPublisher, withPublisher}
 use Rattle.layout.specs.Laws.{head-publisher, publisher-back}
 use Rattle.statement.specs.Machine.{State, state, Outcome, outcome, Given, Fresh, afterAll}
 use Rattle.statement.specs.Demand3.{Demand3}
@@ -38,13 +38,14 @@ use Rattle.statement.specs.Kept.{Ghost, ghost₀, advance, next, Back, Kept, de
 use Rattle.publication_law.specs.Steps.{reader, publisher, atPlace, anotherBusy, enterTests, leaveTests, syncTests, sync, raise, walk, oneMore, makingTests, made}
 use Rattle.publication_law.specs.Damage.{Kind, sharedDamage}
 use Rattle.publication_law.specs.Rules.{Rules, traitsOf, damaged, tests, act, rows, step, making, machine}
-use Rattle.publication_law.specs.DamageLaws.{Fine, fine-of, fine-to, publisher-below}
-use Rattle.publication_law.specs.Moves.{MovesPublisher, MovesReader, moves-publisher, moves-head}
+use Rattle.publication_law.specs.DamageLaws.{Fine, fine-to, publisher-below}
+use Rattle.publication_law.specs.Moves.{MovesPublisher, MovesReader, publisher-moves, publisher-moves-head}
 use Rattle.publication_law.specs.Tallied.{InPhase, in-phase}
 use Rattle.publication_law.specs.Invariant.{Invariant}
 use Rattle.publication_law.specs.KindLaw.{KindLaw, places, early-fits}
 use Rattle.publication_law.specs.Keeps.{publisher-fine, claim-keeps, claim-unpicked, write-keeps, swap-keeps, release-keeps, look-right, released-in-order, slots-right, picks-right, table-right, idle-told, busy-told, former-told, free-told, made-invariant}
-use Rattle.publication_law.specs.Decide.{decided, decide-accepts, decide-leaves, decide-why}
+use Rattle.publication_law.specs.Calls.{undamaged-fine}
+use Rattle.publication_law.specs.Decide.{raise-split, decided, decide-accepts, decide-leaves, decide-why}
 use Rattle.publication_law.specs.Frames.{same-framed, reader-framed, claim-framed, write-framed, swap-framed, sync-framed, raise-framed, walk-framed, release-framed}
 
 -- The shared invariant with a kind's own.
@@ -85,36 +86,34 @@ pub record Lawful (R : Rules) (last : ℕ) (passes : Given → ℕ) (onward-plac
       → R .looks s p b .reply ≡ Returned l w → Back (traitsOf R last passes onward-place) z g p l w
 
 module _ (R : Rules) (last : ℕ) (passes : Given → ℕ) (onward-place : ℕ → ℕ) (L : Lawful R last passes onward-place) where
-  above-one : (s : State) (c : Call) → allAbove DAMAGED (tests R s c) ≡ true
-  above-one s (Enter r) = refl
-  above-one s (Look r k) = refl
-  above-one s (Leave r) = refl
-  above-one s (Claim p x) = refl
-  above-one s (Write p v) = refl
-  above-one s (Swap p) = refl
-  above-one s (Sync p) = refl
-  above-one s (Raise p) = refl
-  above-one s (Walk p b) = refl
-  above-one s (Release p) = refl
+  -- What each call's rows and step show of themselves.
+  record Plain (s : State) (c : Call) : Type 0 where
+    -- its numbers are above 1 and below 100, and what it does where none applies is accepted
+    numbers : allAbove DAMAGED (tests R s c) ≡ true
+    accepts : accepted (act R s c .reply) ≡ true
+    -- a pitch is an entry, and only WRITE moves the entries
+    proper : ((j : ℕ) → NarrowPitch (getD (s .entries) j (pos 0))) → Proper (act R s c .reply)
+    entries-stay : ((p : ℕ) (v : ℤ) → c ≢ Write p v) → act R s c .after .entries ≡ s .entries
+
+  plain : (s : State) (c : Call) → Plain s c
+  plain s (Enter r) = record { numbers = refl; accepts = refl; proper = λ _. tt; entries-stay = λ _. refl }
+  plain s (Look r k) = record { numbers = refl; accepts = refl; proper = λ n. n _; entries-stay = λ _. refl }
+  plain s (Leave r) = record { numbers = refl; accepts = refl; proper = λ _. tt; entries-stay = λ _. refl }
+  plain s (Claim p x) = record { numbers = refl; accepts = refl; proper = λ _. tt; entries-stay = λ _. refl }
+  plain s (Write p v) = record { numbers = refl; accepts = refl; proper = λ _. tt; entries-stay = λ ne. absurd (ne p v refl) }
+  plain s (Swap p) = record { numbers = refl; accepts = refl; proper = λ _. tt; entries-stay = λ _. refl }
+  plain s (Sync p) = record { numbers = refl; accepts = refl; proper = λ _. tt; entries-stay = λ _. refl }
+  plain s (Raise p) = record {
+    numbers = refl;
+    accepts = raise-split (λ (o : Outcome). accepted (o .reply) ≡ true) (R .kind .versions) s p (λ _. refl) refl;
+    proper = λ _. raise-split (λ (o : Outcome). Proper (o .reply)) (R .kind .versions) s p (λ _. tt) tt;
+    entries-stay = λ _. raise-split (λ (o : Outcome). o .after .entries ≡ s .entries) (R .kind .versions) s p (λ _. refl) refl;
+  }
+  plain s (Walk p b) = record { numbers = refl; accepts = refl; proper = λ _. tt; entries-stay = λ _. refl }
+  plain s (Release p) = record { numbers = refl; accepts = refl; proper = λ _. tt; entries-stay = λ _. refl }
 
   all-numbers : (s : State) (c : Call) → allAbove 0 (rows R s c) ≡ true
-  all-numbers s c = all-above DAMAGED 0 (omega arith) (tests R s c) (above-one s c)
-
-  act-accepted : (s : State) (c : Call) → accepted (act R s c .reply) ≡ true
-  act-accepted s (Enter r) = refl
-  act-accepted s (Look r k) = refl
-  act-accepted s (Leave r) = refl
-  act-accepted s (Claim p x) = refl
-  act-accepted s (Write p v) = refl
-  act-accepted s (Swap p) = refl
-  act-accepted s (Sync p) = refl
-  act-accepted s (Raise p) = pick-split (λ (o : Outcome). accepted (o .reply) ≡ true) (eqb (version (s .words)) (R .kind .versions .beforeMark (publisher s p .walk .mark))) (λ _. refl) (λ _. refl)
-  act-accepted s (Walk p b) = refl
-  act-accepted s (Release p) = refl
-
-  pub fine-undamaged : (s : State) → damaged R s ≡ false → Fine (R .kind) s
-  unfolding damaged
-  fine-undamaged s e = fine-of (R .kind) s (or-false (sharedDamage (R .kind) s) (R .further s) e .0)
+  all-numbers s c = all-above DAMAGED 0 (omega arith) (tests R s c) (plain s c .numbers)
 
   -- Each step keeps the invariant.
   module _ (z : Given) (g : Ghost) (s : State) (i : Good (R .kind) (L .Own) z g s) where
@@ -125,18 +124,12 @@ module _ (R : Rules) (last : ℕ) (passes : Given → ℕ) (onward-place : ℕ �
     unfolding damaged
     undamaged-now = neither (sharedDamage (R .kind) s) (R .further s) (fine-to (R .kind) s (i .shared .fine)) (L .no-further z g s i)
 
-    long : length (s .words) ≡ WORDS
-    long = i .shared .fine .head .long
-
-    few : (p : ℕ) → p < publishers (s .words) → p < PUBLISHERS-MAX
-    few = publisher-below (R .kind) s (i .shared .fine)
-
     claim-kept : (p x : ℕ) → AllClear (tests R s (Claim p x)) → After (Claim p x) (act R s (Claim p x))
     unfolding After
     claim-kept p x f =
         let y : Publisher = record { place = 1; held = x; walk = publisher s p .walk } in record {
           shared = claim-keeps (R .kind) (L .kind-law) z g s (i .shared) (R .exclusive) p x f (early-fits (L .kind-law) (readers (s .words)) (slots (s .words)) y (omega arith) (λ _. leb-false _ _ (f .1 .0)));
-          own = L .early-own g _ s _ _ p y _ _ (i .own) refl (moves-publisher (s .words) p y long (few p (leb-false _ _ (f .0)))) refl (omega arith);
+          own = L .early-own g _ s _ _ p y _ _ (i .own) refl (publisher-moves (i .shared .fine) p y (leb-false _ _ (f .0))) refl (omega arith);
         }
 
     write-kept : (p : ℕ) (v : ℤ) → AllClear (tests R s (Write p v)) → After (Write p v) (act R s (Write p v))
@@ -148,7 +141,7 @@ module _ (R : Rules) (last : ℕ) (passes : Given → ℕ) (onward-place : ℕ �
         let low-now : publisher s p .place + 1 ≤ 34 = omega (arith, range .1) in record {
           shared = write-keeps (R .kind) (L .kind-law) z g s (i .shared) p v f
               (early-fits (L .kind-law) (readers (s .words)) (slots (s .words)) y low-now (λ _. publisher-fine (R .kind) (L .kind-law) z g s (i .shared) p lt .held-below (range .0)));
-          own = L .early-own g _ s _ _ p y _ _ (i .own) refl (moves-publisher (s .words) p y long (few p lt)) refl low-now;
+          own = L .early-own g _ s _ _ p y _ _ (i .own) refl (publisher-moves (i .shared .fine) p y lt) refl low-now;
         }
 
     swap-kept : (p : ℕ) → AllClear (tests R s (Swap p)) → After (Swap p) (act R s (Swap p))
@@ -157,7 +150,7 @@ module _ (R : Rules) (last : ℕ) (passes : Given → ℕ) (onward-place : ℕ �
         let y : Publisher = record { place = 34; held = current (s .words); walk = publisher s p .walk } in record {
           shared = swap-keeps (R .kind) (L .kind-law) z g s (i .shared) p f (early-fits (L .kind-law) (readers (s .words)) (slots (s .words)) y (omega arith) (λ _. i .shared .fine .head .current-below));
           own = L .early-own g _ s _ _ p y _ _ (i .own) refl
-              (moves-head (s .words) _ p y _ _ _ (moves-publisher (s .words) p y long (few p (leb-false _ _ (f .0)))) long CURRENT-AT (publisher s p .held) (omega arith) (omega arith)) refl (omega arith);
+              (publisher-moves-head (i .shared .fine) p y (leb-false _ _ (f .0)) CURRENT-AT (publisher s p .held) (omega arith) (omega arith)) refl (omega arith);
         }
 
     release-kept : (p : ℕ) → AllClear (tests R s (Release p)) → After (Release p) (act R s (Release p))
@@ -166,13 +159,13 @@ module _ (R : Rules) (last : ℕ) (passes : Given → ℕ) (onward-place : ℕ �
         let y : Publisher = atPlace (publisher s p) 0 in record {
           shared = release-keeps (R .kind) (L .kind-law) z g s (i .shared) p f (early-fits (L .kind-law) (readers (s .words)) (slots (s .words)) y (omega arith) (λ l. absurd (omega arith)));
           own = L .early-own g _ s _ _ p y _ _ (i .own) refl
-              (moves-head (s .words) _ p y _ _ _ (moves-publisher (s .words) p y long (few p (leb-false _ _ (f .0)))) long RELEASES-AT (oneMore s) (omega arith) (omega arith)) refl (omega arith);
+              (publisher-moves-head (i .shared .fine) p y (leb-false _ _ (f .0)) RELEASES-AT (oneMore s) (omega arith) (omega arith)) refl (omega arith);
         }
 
     raised-kept : (p : ℕ) → AllClear (tests R s (Raise p)) → After (Raise p) (act R s (Raise p))
     unfolding After
-    raised-kept p f = pick-split (λ (o : Outcome). Good (R .kind) (L .Own) z g (o .after) → Good (R .kind) (L .Own) z (next g (Raise p ⇒ o .reply)) (o .after))
-        (eqb (version (s .words)) (R .kind .versions .beforeMark (publisher s p .walk .mark))) (λ _ x. record { shared = x .shared; own = x .own }) (λ _ x. record { shared = x .shared; own = x .own })
+    raised-kept p f = raise-split (λ (o : Outcome). Good (R .kind) (L .Own) z g (o .after) → Good (R .kind) (L .Own) z (next g (Raise p ⇒ o .reply)) (o .after))
+        (R .kind .versions) s p (λ _ x. record { shared = x .shared; own = x .own }) (λ x. record { shared = x .shared; own = x .own })
         (L .raise-kept z g s i p (leb-false _ _ (f .0)) (not-false _ (f .1 .0)))
 
     acted : (c : Call) → AllClear (tests R s c) → After c (act R s c)
@@ -216,9 +209,9 @@ module _ (R : Rules) (last : ℕ) (passes : Given → ℕ) (onward-place : ℕ �
     not-damaged : (c : Call) → step R s c .reply ≢ Refused DAMAGED
     unfolding step
     not-damaged c e =
-        let q = decide-why (rows R s c) (act R s c) s DAMAGED (act-accepted s c) e in
+        let q = decide-why (rows R s c) (act R s c) s DAMAGED (plain s c .accepts) e in
         let d : firstOf (tests R s c) ≡ DAMAGED = rw undamaged-now at (q .0) in
-        omega (arith, first-within DAMAGED (tests R s c) (above-one s c) (λ y. omega arith) .0)
+        omega (arith, first-within DAMAGED (tests R s c) (plain s c .numbers) (λ y. omega arith) .0)
 
     accepts : (c : Call) → AllClear (tests R s c) → step R s c ≡ act R s c
     unfolding step
@@ -274,7 +267,7 @@ module _ (R : Rules) (last : ℕ) (passes : Given → ℕ) (onward-place : ℕ �
     waits-on p b pn ph few-looks = go (L .goes-on _ _ (publisher s p) (i .shared .fine .publishers-fine p (leb-false _ _ (named-publisher p pn))) (placed p syncing ph .0) (placed p syncing ph .1))
       where
         go : (R .raisesAt (publisher s p .place) ≡ true) ⊎ (R .walksAt (publisher s p .place) ≡ true) → (accepted (step R s (Raise p) .reply) ≡ true) ⊎ (accepted (step R s (Walk p b) .reply) ≡ true)
-        go (inl e) = inl (rw (accepts (Raise p) (named-publisher p pn, (negated _ e, tt))) (act-accepted s (Raise p)))
+        go (inl e) = inl (rw (accepts (Raise p) (named-publisher p pn, (negated _ e, tt))) (plain s (Raise p) .accepts))
         go (inr e) = inr (rw (accepts (Walk p b) (named-publisher p pn, (negated _ e, (le-ltb NUMBER-MAX (publisher s p .walk .looks + b) few-looks, tt)))) refl)
 
     frees-on : (p : ℕ) → p < z .publishers → g .tally .phase p ≡ returned
@@ -355,49 +348,37 @@ module _ (R : Rules) (last : ℕ) (passes : Given → ℕ) (onward-place : ℕ �
   pub refused-leaves-of : RefusedLeaves (machine R)
   unfolding step making
   refused-leaves-of = record {
-    step = λ s c n e. decide-leaves (rows R s c) (act R s c) s n (act-accepted s c) e;
+    step = λ s c n e. decide-leaves (rows R s c) (act R s c) s n (plain s c .accepts) e;
     making = λ g s n e. decide-leaves (makingTests (R .kind .versions) g s) (outcome Made (made (R .kind .number) (R .freshReader) g s)) s n refl e;
   }
 
   -- A call moves the record that it names, and no other.
   framed : (s : State) (c : Call) → AllClear (rows R s c) → Framed c (s .words) (act R s c .after .words)
-  framed s (Enter r) f = reader-framed (Enter r) _ _ r _ (L .enter-moves s (fine-undamaged s (f .0)) r (leb-false _ _ (f .1 .0))) refl
+  framed s (Enter r) f = reader-framed (Enter r) _ _ r _ (L .enter-moves s (undamaged-fine R s (f .0)) r (leb-false _ _ (f .1 .0))) refl
   framed s (Look r k) f = same-framed (Look r k) (s .words)
-  framed s (Leave r) f = reader-framed (Leave r) _ _ r _ (L .leave-moves s (fine-undamaged s (f .0)) r (leb-false _ _ (f .1 .0))) refl
-  framed s (Claim p x) f = claim-framed (R .kind) s (fine-undamaged s (f .0)) (R .exclusive) p x (f .1)
-  framed s (Write p v) f = write-framed (R .kind) s (fine-undamaged s (f .0)) p v (f .1)
-  framed s (Swap p) f = swap-framed (R .kind) s (fine-undamaged s (f .0)) p (f .1)
-  framed s (Sync p) f = sync-framed (R .kind) s (fine-undamaged s (f .0)) (R .kind .versions) p (f .1)
-  framed s (Raise p) f = raise-framed (R .kind) s (fine-undamaged s (f .0)) (R .kind .versions) p (leb-false _ _ (f .1 .0))
-  framed s (Walk p b) f = walk-framed (R .kind) s (fine-undamaged s (f .0)) p b (R .looks s p b) (leb-false _ _ (f .1 .0))
-  framed s (Release p) f = release-framed (R .kind) s (fine-undamaged s (f .0)) p (f .1)
+  framed s (Leave r) f = reader-framed (Leave r) _ _ r _ (L .leave-moves s (undamaged-fine R s (f .0)) r (leb-false _ _ (f .1 .0))) refl
+  framed s (Claim p x) f = claim-framed (R .kind) s (undamaged-fine R s (f .0)) (R .exclusive) p x (f .1)
+  framed s (Write p v) f = write-framed (R .kind) s (undamaged-fine R s (f .0)) p v (f .1)
+  framed s (Swap p) f = swap-framed (R .kind) s (undamaged-fine R s (f .0)) p (f .1)
+  framed s (Sync p) f = sync-framed (R .kind) s (undamaged-fine R s (f .0)) (R .kind .versions) p (f .1)
+  framed s (Raise p) f = raise-framed (R .kind) s (undamaged-fine R s (f .0)) (R .kind .versions) p (leb-false _ _ (f .1 .0))
+  framed s (Walk p b) f = walk-framed (R .kind) s (undamaged-fine R s (f .0)) p b (R .looks s p b) (leb-false _ _ (f .1 .0))
+  framed s (Release p) f = release-framed (R .kind) s (undamaged-fine R s (f .0)) p (f .1)
 
   step-framed : (s : State) (c : Call) → Framed c (s .words) (step R s c .after .words)
   unfolding step
   step-framed s c = decided (λ (o : Outcome). Framed c (s .words) (o .after .words)) (rows R s c) (act R s c) s (all-numbers s c) (framed s c) (same-framed c (s .words))
 
-  entries-stay : (s : State) (c : Call) → ((p : ℕ) (v : ℤ) → c ≢ Write p v) → act R s c .after .entries ≡ s .entries
-  entries-stay s (Enter r) ne = refl
-  entries-stay s (Look r k) ne = refl
-  entries-stay s (Leave r) ne = refl
-  entries-stay s (Claim p x) ne = refl
-  entries-stay s (Write p v) ne = absurd (ne p v refl)
-  entries-stay s (Swap p) ne = refl
-  entries-stay s (Sync p) ne = refl
-  entries-stay s (Raise p) ne = pick-split (λ (o : Outcome). o .after .entries ≡ s .entries) (eqb (version (s .words)) (R .kind .versions .beforeMark (publisher s p .walk .mark))) (λ _. refl) (λ _. refl)
-  entries-stay s (Walk p b) ne = refl
-  entries-stay s (Release p) ne = refl
-
   current-stays : (s : State) (c : Call) → AllClear (rows R s c) → ((p : ℕ) → c ≢ Swap p) → current (act R s c .after .words) ≡ current (s .words)
-  current-stays s (Enter r) f ne = L .enter-moves s (fine-undamaged s (f .0)) r (leb-false _ _ (f .1 .0)) .head CURRENT-AT (omega arith)
+  current-stays s (Enter r) f ne = L .enter-moves s (undamaged-fine R s (f .0)) r (leb-false _ _ (f .1 .0)) .head CURRENT-AT (omega arith)
   current-stays s (Look r k) f ne = refl
-  current-stays s (Leave r) f ne = L .leave-moves s (fine-undamaged s (f .0)) r (leb-false _ _ (f .1 .0)) .head CURRENT-AT (omega arith)
+  current-stays s (Leave r) f ne = L .leave-moves s (undamaged-fine R s (f .0)) r (leb-false _ _ (f .1 .0)) .head CURRENT-AT (omega arith)
   current-stays s (Claim p x) f ne = head-publisher (s .words) p _ CURRENT-AT (omega arith)
   current-stays s (Write p v) f ne = head-publisher (s .words) p _ CURRENT-AT (omega arith)
   current-stays s (Swap p) f ne = absurd (ne p refl)
   current-stays s (Sync p) f ne = head-publisher (s .words) p _ CURRENT-AT (omega arith)
-  current-stays s (Raise p) f ne = pick-split (λ (o : Outcome). current (o .after .words) ≡ current (s .words)) (eqb (version (s .words)) (R .kind .versions .beforeMark (publisher s p .walk .mark)))
-      (λ _. getD-set-other (withPublisher (s .words) p (atPlace (publisher s p) 37)) VERSION-AT CURRENT-AT (publisher s p .walk .mark) 0 (λ e. omega arith) ∙ head-publisher (s .words) p _ CURRENT-AT (omega arith)) (λ _. head-publisher (s .words) p _ CURRENT-AT (omega arith))
+  current-stays s (Raise p) f ne = raise-split (λ (o : Outcome). current (o .after .words) ≡ current (s .words)) (R .kind .versions) s p
+      (λ _. getD-set-other (withPublisher (s .words) p (atPlace (publisher s p) 37)) VERSION-AT CURRENT-AT (publisher s p .walk .mark) 0 (λ e. omega arith) ∙ head-publisher (s .words) p _ CURRENT-AT (omega arith)) (head-publisher (s .words) p _ CURRENT-AT (omega arith))
   current-stays s (Walk p b) f ne = head-publisher (s .words) p _ CURRENT-AT (omega arith)
   current-stays s (Release p) f ne = getD-set-other (withPublisher (s .words) p (atPlace (publisher s p) 0)) RELEASES-AT CURRENT-AT (oneMore s) 0 (λ e. omega arith) ∙ head-publisher (s .words) p _ CURRENT-AT (omega arith)
 
@@ -406,7 +387,7 @@ module _ (R : Rules) (last : ℕ) (passes : Given → ℕ) (onward-place : ℕ �
   frame-of = record {
     records = step-framed;
     walk-head = λ s p b k l. decided (λ (o : Outcome). getD (o .after .words) k 0 ≡ getD (s .words) k 0) (rows R s (Walk p b)) (act R s (Walk p b)) s refl (λ f. head-publisher (s .words) p _ k l) refl;
-    entries = λ s c ne. decided (λ (o : Outcome). o .after .entries ≡ s .entries) (rows R s c) (act R s c) s (all-numbers s c) (λ f. entries-stay s c ne) refl;
+    entries = λ s c ne. decided (λ (o : Outcome). o .after .entries ≡ s .entries) (rows R s c) (act R s c) s (all-numbers s c) (λ f. plain s c .entries-stay ne) refl;
     current = λ s c ne. decided (λ (o : Outcome). current (o .after .words) ≡ current (s .words)) (rows R s c) (act R s c) s (all-numbers s c) (λ f. current-stays s c f ne) refl;
   }
 
@@ -417,18 +398,6 @@ module _ (R : Rules) (last : ℕ) (passes : Given → ℕ) (onward-place : ℕ �
       (negated _ (eq-eqb _ _ long), (not-outside 1 READERS-MAX _ rl rh, (not-outside 1 PUBLISHERS-MAX _ pl ph, (not-outside SLOTS-MIN SLOTS-MAX _ sl sh, (negated _ (eq-eqb _ _ len), (L .last-fits _ low, tt))))))) refl
 
   -- A reply of a step or a making has an answer that no other proper reply has: a refusal's number is below 100, a pitch is an entry.
-  act-proper : (s : State) (c : Call) → ((j : ℕ) → NarrowPitch (getD (s .entries) j (pos 0))) → Proper (act R s c .reply)
-  act-proper s (Enter r) n = tt
-  act-proper s (Look r k) n = n _
-  act-proper s (Leave r) n = tt
-  act-proper s (Claim p x) n = tt
-  act-proper s (Write p v) n = tt
-  act-proper s (Swap p) n = tt
-  act-proper s (Sync p) n = tt
-  act-proper s (Raise p) n = pick-split (λ (o : Outcome). Proper (o .reply)) (eqb (version (s .words)) (R .kind .versions .beforeMark (publisher s p .walk .mark))) (λ _. tt) (λ _. tt)
-  act-proper s (Walk p b) n = tt
-  act-proper s (Release p) n = tt
-
   below-100 : (l : List Test) → allAbove 0 l ≡ true → firstOf l < 100
   below-100 l n = go (eqb (firstOf l) 0) refl
     where
@@ -438,7 +407,7 @@ module _ (R : Rules) (last : ℕ) (passes : Given → ℕ) (onward-place : ℕ �
 
   pub proper-of : (s : State) (c : Call) → ((j : ℕ) → NarrowPitch (getD (s .entries) j (pos 0))) → Proper (step R s c .reply)
   unfolding step
-  proper-of s c n = decided (λ (o : Outcome). Proper (o .reply)) (rows R s c) (act R s c) s (all-numbers s c) (λ f. act-proper s c n) (below-100 (rows R s c) (all-numbers s c))
+  proper-of s c n = decided (λ (o : Outcome). Proper (o .reply)) (rows R s c) (act R s c) s (all-numbers s c) (λ f. plain s c .proper n) (below-100 (rows R s c) (all-numbers s c))
 
   pub proper-making-of : (g : Given) (s : State) → Proper (making R g s .reply)
   unfolding making
@@ -448,5 +417,5 @@ module _ (R : Rules) (last : ℕ) (passes : Given → ℕ) (onward-place : ℕ �
   pub walk-zero-of : (s : State) (p : ℕ) → step R s (Walk p 0) .reply ≡ Walked Spent → step R s (Walk p 0) .after ≡ s
   unfolding step
   walk-zero-of s p = decided (λ (o : Outcome). o .reply ≡ Walked Spent → o .after ≡ s) (rows R s (Walk p 0)) (act R s (Walk p 0)) s refl
-      (λ f _. rw (L .no-looks s p) (ap (λ (w : List ℕ). state w (s .entries)) (publisher-back (s .words) p (publisher-below (R .kind) s (fine-undamaged s (f .0)) p (leb-false _ _ (f .1 .0))))))
+      (λ f _. rw (L .no-looks s p) (ap (λ (w : List ℕ). state w (s .entries)) (publisher-back (s .words) p (publisher-below (R .kind) s (undamaged-fine R s (f .0)) p (leb-false _ _ (f .1 .0))))))
       (λ _. refl)

@@ -16,3 +16,5 @@ pub mod Calls
 pub mod Decide
 pub mod Frames
 pub mod Lawful
+pub mod Detector
+pub mod Promises

@@ -12,8 +12,11 @@ use Rattle.calls.specs.Base.{pick, upd}
 use Rattle.calls.specs.Numbers.{READERS-MAX, PUBLISHERS-MAX}
 use Rattle.layout.specs.declared.Reader.{Reader}
 use Rattle.layout.specs.declared.Publisher.{Publisher}
-use Rattle.layout.specs.Layout.{HEAD, indicator, CURRENT-AT, VERSION-AT, RELEASES-AT, WORDS, current, version, releases, readerAt, publisherAt, withReader, withPublisher}
+use Rattle.layout.specs.Layout.{HEAD, indicator, CURRENT-AT, VERSION-AT, RELEASES-AT, WORDS, readers, publishers, current, version, releases, readerAt, publisherAt, withReader, withPublisher}
 use Rattle.layout.specs.Laws.{length-reader, length-publisher, head-reader, head-publisher, reader-head, publisher-head, reader-publisher, publisher-reader, reader-put, publisher-put, indicator-by}
+use Rattle.statement.specs.Machine.{State}
+use Rattle.publication_law.specs.Damage.{Kind}
+use Rattle.publication_law.specs.DamageLaws.{Fine, reader-below, publisher-below}
 
 upd-field : {A B : Type 0} (f : A → B) (u v : ℕ → A) (i : ℕ) (x : A) → u ≡ upd v i x → _≡_ {A = ℕ → B} (λ j. f (u j)) (upd (λ j. f (v j)) i (f x))
 upd-field f u v i x e = fun-ext (λ j. ap (λ (w : ℕ → _). f (w j)) e ∙ go (eqb j i) j)
@@ -37,7 +40,7 @@ pub publisher-field : {B : Type 0} (f : Publisher → B) (w w′ : List ℕ) (p 
     → _≡_ {A = ℕ → B} (λ j. f (publisherAt w′ j)) (upd (λ j. f (publisherAt w j)) p (f y))
 publisher-field f w w′ p y cur ver rel m = upd-field f (publisherAt w′) (publisherAt w) p y (m .publishers-are)
 
-pub moves-publisher : (w : List ℕ) (p : ℕ) (y : Publisher) → length w ≡ WORDS → p < PUBLISHERS-MAX
+moves-publisher : (w : List ℕ) (p : ℕ) (y : Publisher) → length w ≡ WORDS → p < PUBLISHERS-MAX
     → MovesPublisher w (withPublisher w p y) p y (current w) (version w) (releases w)
 moves-publisher w p y len lt = record {
   long = length-publisher w p y;
@@ -51,7 +54,7 @@ moves-publisher w p y len lt = record {
 }
 
 -- .. and one of current slot, version and releases anew besides.
-pub moves-head : (w w′ : List ℕ) (p : ℕ) (y : Publisher) (cur ver rel : ℕ) → MovesPublisher w w′ p y cur ver rel → length w ≡ WORDS → (k v : ℕ) → CURRENT-AT ≤ k → k ≤ RELEASES-AT
+moves-head : (w w′ : List ℕ) (p : ℕ) (y : Publisher) (cur ver rel : ℕ) → MovesPublisher w w′ p y cur ver rel → length w ≡ WORDS → (k v : ℕ) → CURRENT-AT ≤ k → k ≤ RELEASES-AT
     → MovesPublisher w (set w′ k v) p y (pick (eqb CURRENT-AT k) v cur) (pick (eqb VERSION-AT k) v ver) (pick (eqb RELEASES-AT k) v rel)
 moves-head w w′ p y cur ver rel m len k v low high = record {
   long = length-set w′ k v ∙ m .long;
@@ -82,7 +85,7 @@ pub reader-field : {B : Type 0} (f : Reader → B) (w w′ : List ℕ) (r : ℕ)
     → _≡_ {A = ℕ → B} (λ j. f (readerAt w′ j)) (upd (λ j. f (readerAt w j)) r (f x))
 reader-field f w w′ r x m = upd-field f (readerAt w′) (readerAt w) r x (m .readers-are)
 
-pub moves-reader : (w : List ℕ) (r : ℕ) (x : Reader) → length w ≡ WORDS → r < READERS-MAX → MovesReader w (withReader w r x) r x
+moves-reader : (w : List ℕ) (r : ℕ) (x : Reader) → length w ≡ WORDS → r < READERS-MAX → MovesReader w (withReader w r x) r x
 moves-reader w r x len lt = record {
   long = length-reader w r x;
   head = λ k l. head-reader w r x k (omega arith);
@@ -97,3 +100,15 @@ moves-indicator w w′ r x m k v low high = record {
   readers-are = reader-head w′ k v high ∙ m .readers-are;
   publishers-stay = publisher-head w′ k v high ∙ m .publishers-stay;
 }
+
+-- Of a store that is fine: each of its publishers and readers has a record.
+module _ {K : Kind} {s : State} (f : Fine K s) where
+  pub publisher-moves : (p : ℕ) (y : Publisher) → p < publishers (s .words) → MovesPublisher (s .words) (withPublisher (s .words) p y) p y (current (s .words)) (version (s .words)) (releases (s .words))
+  publisher-moves p y lt = moves-publisher (s .words) p y (f .head .long) (publisher-below K s f p lt)
+
+  pub publisher-moves-head : (p : ℕ) (y : Publisher) → p < publishers (s .words) → (k v : ℕ) → CURRENT-AT ≤ k → k ≤ RELEASES-AT
+      → MovesPublisher (s .words) (set (withPublisher (s .words) p y) k v) p y (pick (eqb CURRENT-AT k) v (current (s .words))) (pick (eqb VERSION-AT k) v (version (s .words))) (pick (eqb RELEASES-AT k) v (releases (s .words)))
+  publisher-moves-head p y lt k v low high = moves-head (s .words) (withPublisher (s .words) p y) p y _ _ _ (publisher-moves p y lt) (f .head .long) k v low high
+
+  pub reader-moves : (r : ℕ) (x : Reader) → r < readers (s .words) → MovesReader (s .words) (withReader (s .words) r x) r x
+  reader-moves r x lt = moves-reader (s .words) r x (f .head .long) (reader-below K s f r lt)

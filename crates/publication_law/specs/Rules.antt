@@ -83,3 +83,19 @@ module _ (R : Rules) where
 
   abbrev pub machine : Machine
   machine = record { making = making; step = step }
+
+-- Other rules that differ from R in number 31 and in the looks of a walk.
+abbrev pub varied : Rules → Bool → (State → ℕ → ℕ → Progress) → Rules
+varied R exclusive looks = record {
+  kind = R .kind;
+  further = R .further;
+  freshReader = R .freshReader;
+  entered = R .entered;
+  enterWords = R .enterWords;
+  left = R .left;
+  leaveWords = R .leaveWords;
+  exclusive = exclusive;
+  raisesAt = R .raisesAt;
+  walksAt = R .walksAt;
+  looks = looks;
+}

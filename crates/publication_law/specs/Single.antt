@@ -5,7 +5,7 @@ use mathlib.Core.Path.{_≡_, refl, sym}
 use mathlib.Core.Bool.{Bool, true, false, not, _&&_, _||_}
 use lib.Dec.{leb, eqb}
 use borrow.Author.Tests.{eqb-true, eqb-false, eq-eqb, ne-eqb, leb-true, leb-false, le-leb, lt-leb}
-use Rattle.calls.specs.RowLaws.{clash, not-both}
+use Rattle.calls.specs.RowLaws.{clash, not-both, or-none}
 use Rattle.publication_law.specs.Core.{Hold, hold-map}
 
 -- The former slots of a publisher at place pl that holds hd.
@@ -19,11 +19,7 @@ pub former-same : (pl pl′ hd x : ℕ) → 34 ≤ pl → 34 ≤ pl′ → forme
 former-same pl pl′ hd x l l′ = rw (le-leb 34 pl l, le-leb 34 pl′ l′) refl
 
 pub former-swap : (pl hd cur x : ℕ) → pl ≤ 33 → formerAt 34 cur x ≡ eqb cur x || formerAt pl hd x
-former-swap pl hd cur x l = rw (former-early pl hd x l) (go (eqb cur x))
-  where
-    go : (b : Bool) → b ≡ b || false
-    go true = refl
-    go false = refl
+former-swap pl hd cur x l = rw (former-early pl hd x l) (sym (or-none (eqb cur x)))
 
 -- The store's own test for a slot that a publisher holds.
 pub single : (pl hd x : ℕ) → (not (eqb pl 0) && eqb hd x) ≡ ((leb 1 pl && leb pl 33) && eqb hd x) || formerAt pl hd x

@@ -58,48 +58,33 @@ module _ (y : Tally) (rpl ppl pws : ℕ → ℕ) (rel : ℕ) (i : Tallied y rpl 
     releases = i .releases;
   }
 
-  -- A publisher whose phase stays.
-  pub stay-tallied : (p pl ws : ℕ) → phaseAt pl ≡ phaseAt (ppl p) → (35 ≤ pl → 35 ≤ ppl p) → (35 ≤ pl → ws ≡ pws p) → Tallied y rpl (upd ppl p pl) (upd pws p ws) rel
-  stay-tallied p pl ws e low same-waits = record {
+  -- A publisher at another place, with what is told of its phase and of its waits.
+  move-tallied : (p pl ws : ℕ) (φ : ℕ → Phase) (ω : ℕ → ℕ) → φ p ≡ phaseAt pl → ((q : ℕ) → eqb q p ≡ false → φ q ≡ y .phase q) → (35 ≤ pl → ω p ≡ ws) → ((q : ℕ) → eqb q p ≡ false → ω q ≡ y .waits q)
+      → Tallied (record { place = y .place; phase = φ; waits = ω; releases = y .releases }) rpl (upd ppl p pl) (upd pws p ws) rel
+  move-tallied p pl ws φ ω phase phases waits others = record {
     places = i .places;
-    phases = at-or p (rw (same p) (i .phases p ∙ sym e)) (λ q d. rw d (i .phases q));
-    waits = at-or p (rw (same p) (λ l. i .waits p (low l) ∙ sym (same-waits l))) (λ q d. rw d (i .waits q));
+    phases = at-or p (rw (same p) phase) (λ q d. rw d (phases q d ∙ i .phases q));
+    waits = at-or p (rw (same p) waits) (λ q d. rw d (λ l. others q d ∙ i .waits q l));
     releases = i .releases;
   }
+
+  -- A publisher whose phase stays.
+  pub stay-tallied : (p pl ws : ℕ) → phaseAt pl ≡ phaseAt (ppl p) → (35 ≤ pl → 35 ≤ ppl p) → (35 ≤ pl → ws ≡ pws p) → Tallied y rpl (upd ppl p pl) (upd pws p ws) rel
+  stay-tallied p pl ws e low same-waits = move-tallied p pl ws _ _ (i .phases p ∙ sym e) (λ q d. refl) (λ l. i .waits p (low l) ∙ sym (same-waits l)) (λ q d. refl)
 
   -- CLAIM and SWAP.
   pub phase-tallied : (p pl ws : ℕ) (x : Phase) → x ≡ phaseAt pl → pl ≤ 34 → Tallied (withPhase y p x) rpl (upd ppl p pl) (upd pws p ws) rel
-  phase-tallied p pl ws x e low = record {
-    places = i .places;
-    phases = at-or p (rw (same p) e) (λ q d. rw d (i .phases q));
-    waits = at-or p (rw (same p) (λ l. absurd (omega arith))) (λ q d. rw d (i .waits q));
-    releases = i .releases;
-  }
+  phase-tallied p pl ws x e low = move-tallied p pl ws _ _ (rw (same p) e) (λ q d. rw d refl) (λ l. absurd (omega arith)) (λ q d. refl)
 
   pub sync-tallied : (p : ℕ) → Tallied (withWaits (withPhase y p syncing) p 0) rpl (upd ppl p 35) (upd pws p 0) rel
-  sync-tallied p = record {
-    places = i .places;
-    phases = at-or p (rw (same p) refl) (λ q d. rw d (i .phases q));
-    waits = at-or p (rw (same p) (λ l. refl)) (λ q d. rw d (i .waits q));
-    releases = i .releases;
-  }
+  sync-tallied p = move-tallied p 35 0 _ _ (rw (same p) refl) (λ q d. rw d refl) (λ l. rw (same p) refl) (λ q d. rw d refl)
 
   -- A WALK that replies waiting, and one that returns.
   pub wait-tallied : (p pl : ℕ) → phaseAt pl ≡ phaseAt (ppl p) → 35 ≤ ppl p → Tallied (withWaits y p (suc (y .waits p))) rpl (upd ppl p pl) (upd pws p (pws p + 1)) rel
-  wait-tallied p pl e low = record {
-    places = i .places;
-    phases = at-or p (rw (same p) (i .phases p ∙ sym e)) (λ q d. rw d (i .phases q));
-    waits = at-or p (rw (same p) (λ l. omega (arith, i .waits p low))) (λ q d. rw d (i .waits q));
-    releases = i .releases;
-  }
+  wait-tallied p pl e low = move-tallied p pl _ _ _ (i .phases p ∙ sym e) (λ q d. refl) (λ l. rw (same p) (omega (arith, i .waits p low))) (λ q d. rw d refl)
 
   pub return-tallied : (p ws : ℕ) → 35 ≤ ppl p → ws ≡ pws p → Tallied (withPhase y p returned) rpl (upd ppl p 38) (upd pws p ws) rel
-  return-tallied p ws low e = record {
-    places = i .places;
-    phases = at-or p (rw (same p) refl) (λ q d. rw d (i .phases q));
-    waits = at-or p (rw (same p) (λ l. i .waits p low ∙ sym e)) (λ q d. rw d (i .waits q));
-    releases = i .releases;
-  }
+  return-tallied p ws low e = move-tallied p 38 ws _ _ (rw (same p) refl) (λ q d. rw d refl) (λ l. i .waits p low ∙ sym e) (λ q d. refl)
 
   pub release-tallied : (p ws : ℕ) → Tallied (withReleases (withPhase y p idle) (suc (y .releases))) rpl (upd ppl p 0) (upd pws p ws) ((rel + 1) % MODULUS)
   release-tallied p ws = record {

@@ -143,10 +143,14 @@ Inner w Unread = Unit {0}
 Inner w (Read c) = (innerText c ≡ w) × Fits c
 
 module _ (w : List ℕ) where
-  two-only : (f : ℕ → ℕ → Line) → ((n m : ℕ) → decimal n ++ (SPACE ∷ decimal m) ≡ rest w → FitsNarrow n → FitsNarrow m → Inner w (f n m))
+  -- A word with one number behind it, and with two.
+  one-only : (v : List ℕ) → v ≡ first w → (f : ℕ → Line) → ((n : ℕ) → v ++ (SPACE ∷ decimal n) ≡ w → FitsNarrow n → Inner w (f n)) → Inner w (given (narrow (rest w)) f)
+  one-only v e f h = narrow-only (Inner w) tt (rest w) f (λ n d fits. h n (rejoined v (decimal n) w e d (decimal-some n)) fits)
+
+  two-only : (v : List ℕ) → v ≡ first w → (f : ℕ → ℕ → Line) → ((n m : ℕ) → v ++ (SPACE ∷ (decimal n ++ (SPACE ∷ decimal m))) ≡ w → FitsNarrow n → FitsNarrow m → Inner w (f n m))
       → Inner w (given (narrow (first (rest w))) (λ n. given (narrow (rest (rest w))) (f n)))
-  two-only f h = narrow-only (Inner w) tt (first (rest w)) _ (λ n en fn. narrow-only (Inner w) tt (rest (rest w)) (f n) (λ m em fm.
-      h n m (rejoined (decimal n) (decimal m) (rest w) en em (decimal-some m)) fn fm))
+  two-only v e f h = narrow-only (Inner w) tt (first (rest w)) _ (λ n en fn. narrow-only (Inner w) tt (rest (rest w)) (f n) (λ m em fm.
+      h n m (rejoined v (decimal n ++ (SPACE ∷ decimal m)) w e (rejoined (decimal n) (decimal m) (rest w) en em (decimal-some m)) (spaced-some (decimal n) (decimal m))) fn fm))
 
   store-text : (k rs ps ss v : ℕ) → text "store" ≡ first w → kindText k ≡ first (rest w) → decimal rs ≡ first (rest (rest w)) → decimal ps ≡ first (rest (rest (rest w)))
       → decimal ss ≡ first (rest (rest (rest (rest w)))) → decimal v ≡ rest (rest (rest (rest (rest w)))) → innerText (Make k rs ps ss v) ≡ w
@@ -171,17 +175,17 @@ module _ (w : List ℕ) where
 
   command-only : (x : Word) → Named (first w) x → Inner w (command x (rest w))
   command-only Store e = store-only e
-  command-only Enter e = narrow-only (Inner w) tt (rest w) (oneOf Enter) (λ r d f. (rejoined (text "enter") (decimal r) w e d (decimal-some r), f))
-  command-only Look e = two-only (twoOf Look) (λ r k d f g. (rejoined (text "look") (decimal r ++ (SPACE ∷ decimal k)) w e d (spaced-some (decimal r) (decimal k)), (f, g)))
-  command-only Leave e = narrow-only (Inner w) tt (rest w) (oneOf Leave) (λ r d f. (rejoined (text "leave") (decimal r) w e d (decimal-some r), f))
-  command-only Claim e = two-only (twoOf Claim) (λ p s d f g. (rejoined (text "claim") (decimal p ++ (SPACE ∷ decimal s)) w e d (spaced-some (decimal p) (decimal s)), (f, g)))
+  command-only Enter e = one-only _ e (oneOf Enter) (λ n d f. (d, f))
+  command-only Look e = two-only _ e (twoOf Look) (λ n m d f g. (d, (f, g)))
+  command-only Leave e = one-only _ e (oneOf Leave) (λ n d f. (d, f))
+  command-only Claim e = two-only _ e (twoOf Claim) (λ n m d f g. (d, (f, g)))
   command-only Write e = narrow-only (Inner w) tt (first (rest w)) _ (λ p ep f. angle-only (Inner w) tt (rest (rest w)) (λ v. Read (Run (call.Write p v))) (λ v ev g.
       (rejoined (text "write") (decimal p ++ (SPACE ∷ angleText v)) w e (rejoined (decimal p) (angleText v) (rest w) ep ev (angle-some v)) (spaced-some (decimal p) (angleText v)), (f, g))))
-  command-only Swap e = narrow-only (Inner w) tt (rest w) (oneOf Swap) (λ p d f. (rejoined (text "swap") (decimal p) w e d (decimal-some p), f))
-  command-only Sync e = narrow-only (Inner w) tt (rest w) (oneOf Sync) (λ p d f. (rejoined (text "sync") (decimal p) w e d (decimal-some p), f))
-  command-only Raise e = narrow-only (Inner w) tt (rest w) (oneOf Raise) (λ p d f. (rejoined (text "raise") (decimal p) w e d (decimal-some p), f))
-  command-only Walk e = two-only (twoOf Walk) (λ p b d f g. (rejoined (text "walk") (decimal p ++ (SPACE ∷ decimal b)) w e d (spaced-some (decimal p) (decimal b)), (f, g)))
-  command-only Release e = narrow-only (Inner w) tt (rest w) (oneOf Release) (λ p d f. (rejoined (text "release") (decimal p) w e d (decimal-some p), f))
+  command-only Swap e = one-only _ e (oneOf Swap) (λ n d f. (d, f))
+  command-only Sync e = one-only _ e (oneOf Sync) (λ n d f. (d, f))
+  command-only Raise e = one-only _ e (oneOf Raise) (λ n d f. (d, f))
+  command-only Walk e = two-only _ e (twoOf Walk) (λ n m d f g. (d, (f, g)))
+  command-only Release e = one-only _ e (oneOf Release) (λ n d f. (d, f))
   command-only Unknown e = tt
 
 -- A line in brackets is what stands between them, in brackets.

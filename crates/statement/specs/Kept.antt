@@ -66,38 +66,23 @@ abbrev pub nextAll : Ghost → List Event → Ghost
 nextAll g es = foldEvents advance g es
 
 -- The parts of the ghost are the folds of the statement.
-next-model : (g : Ghost) (c : Call) (a : Reply) → next g (c ⇒ a) .model ≡ moved shelve (g .model) (c ⇒ a)
-next-model g c a = go (accepted a)
+all-part : {A : Type 0} (part : Ghost → A) (f : A → Call → Reply → A) → ((g : Ghost) (c : Call) (a : Reply) → part (advance g c a) ≡ f (part g) c a)
+    → (g : Ghost) (es : List Event) → part (nextAll g es) ≡ foldEvents f (part g) es
+all-part part f along g [] = refl
+all-part part f along g ((c ⇒ a) ∷ es) = all-part part f along (next g (c ⇒ a)) es ∙ ap (λ x. foldEvents f x es) (go (accepted a))
   where
-    go : (b : Bool) → pick b (advance g c a) g .model ≡ pick b (shelve (g .model) c a) (g .model)
-    go true = refl
-    go false = refl
-
-next-told : (g : Ghost) (c : Call) (a : Reply) → next g (c ⇒ a) .told ≡ moved tell (g .told) (c ⇒ a)
-next-told g c a = go (accepted a)
-  where
-    go : (b : Bool) → pick b (advance g c a) g .told ≡ pick b (tell (g .told) c a) (g .told)
-    go true = refl
-    go false = refl
-
-next-tally : (g : Ghost) (c : Call) (a : Reply) → next g (c ⇒ a) .tally ≡ moved tally (g .tally) (c ⇒ a)
-next-tally g c a = go (accepted a)
-  where
-    go : (b : Bool) → pick b (advance g c a) g .tally ≡ pick b (tally (g .tally) c a) (g .tally)
-    go true = refl
+    go : (b : Bool) → part (pick b (advance g c a) g) ≡ pick b (f (part g) c a) (part g)
+    go true = along g c a
     go false = refl
 
 all-model : (g : Ghost) (es : List Event) → nextAll g es .model ≡ foldEvents shelve (g .model) es
-all-model g [] = refl
-all-model g ((c ⇒ a) ∷ es) = all-model (next g (c ⇒ a)) es ∙ ap (λ x. foldEvents shelve x es) (next-model g c a)
+all-model = all-part (λ g. g .model) shelve (λ g c a. refl)
 
 all-told : (g : Ghost) (es : List Event) → nextAll g es .told ≡ foldEvents tell (g .told) es
-all-told g [] = refl
-all-told g ((c ⇒ a) ∷ es) = all-told (next g (c ⇒ a)) es ∙ ap (λ x. foldEvents tell x es) (next-told g c a)
+all-told = all-part (λ g. g .told) tell (λ g c a. refl)
 
 all-tally : (g : Ghost) (es : List Event) → nextAll g es .tally ≡ foldEvents tally (g .tally) es
-all-tally g [] = refl
-all-tally g ((c ⇒ a) ∷ es) = all-tally (next g (c ⇒ a)) es ∙ ap (λ x. foldEvents tally x es) (next-tally g c a)
+all-tally = all-part (λ g. g .tally) tally (λ g c a. refl)
 
 -- What a return shows.
 pub record Back (T : Traits) (z : Given) (g : Ghost) (p l w : ℕ) : Type 0 where

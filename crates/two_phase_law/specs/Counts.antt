@@ -5,7 +5,7 @@ use mathlib.Core.Path.{_≡_, refl, sym, _∙_}
 use mathlib.Core.Logic.{_≢_, _⊎_, inl, inr}
 use mathlib.Core.Bool.{Bool, true, false, _||_}
 use lib.Dec.{leb, eqb}
-use borrow.Author.Tests.{eqb-true, eqb-false, eq-eqb, le-leb, lt-leb}
+use borrow.Author.Tests.{eqb-true, eqb-false, eq-eqb, ne-eqb, le-leb, lt-leb}
 use Rattle.calls.specs.declared.WalkReply.the-variants.{Quiet, Waiting, Spent, Returned}
 use Rattle.calls.specs.Base.{pick, upd}
 use Rattle.calls.specs.Rows.{countBelow}
@@ -17,7 +17,7 @@ use Rattle.layout.specs.Layout.{readers, indicator, readerAt}
 use Rattle.statement.specs.Machine.{State}
 use Rattle.publication_law.specs.Steps.{placeAfter}
 use Rattle.publication_law.specs.Keeps.{waitsAfter}
-use Rattle.two_phase_law.specs.Steps.{parity, addedTo, miscounted, watched, lookAt}
+use Rattle.two_phase_law.specs.Steps.{parity, addedTo, miscounted, watched, progress, lookAt}
 
 -- Each indicator is the number of readers that added to it.
 abbrev pub Counted : ℕ → (ℕ → ℕ) → (ℕ → Reader) → Type 0
@@ -65,7 +65,6 @@ pub record Looked (count : ℕ) (y : Publisher) (b : ℕ) (k : Progress) : Type 
   -- each look passed or waited
   pub counted : k .walk .looks + passedAt (y .place) + y .walk .waits ≡ y .walk .looks + passedAt (placeAfter (y .place) (k .reply)) + k .walk .waits
   pub waits-are : k .walk .waits ≡ waitsAfter (y .walk .waits) (k .reply)
-  pub enough : y .walk .waits ≤ y .walk .looks → k .walk .waits ≤ k .walk .looks
   pub quiet-zero : y .place ≡ 35 → placeAfter (y .place) (k .reply) ≢ 35 → count ≡ 0
   pub returned-zero : y .place ≡ 37 → placeAfter (y .place) (k .reply) ≢ 37 → count ≡ 0
   -- quiet is said at 35 only; waiting names the indicator looked at, which is not zero; spent exactly if b = 0
@@ -74,7 +73,6 @@ pub record Looked (count : ℕ) (y : Publisher) (b : ℕ) (k : Progress) : Type 
   pub spent-only : k .reply ≡ Spent → b ≡ 0
   pub spent-if : b ≡ 0 → k .reply ≡ Spent
   pub returns : (l w : ℕ) → k .reply ≡ Returned l w → (y .place ≢ 35) × (l ≡ k .walk .looks) × (w ≡ k .walk .waits)
-  pub low : 35 ≤ placeAfter (y .place) (k .reply)
   pub high : placeAfter (y .place) (k .reply) ≤ 38
 
 pub look-turn : (place : ℕ) → (eqb place 35 || eqb place 37) ≡ true → (place ≡ 35) ⊎ (place ≡ 37)
@@ -84,28 +82,24 @@ look-turn place e = go (eqb place 35) refl
     go true d = inl (eqb-true place 35 d)
     go false d = inr (eqb-true place 37 (rw d at e))
 
--- At 35 and at 37.
-module _ (count mark next looks waits held b : ℕ) where
-  at : ℕ → Publisher
-  at place = record { place = place; held = held; walk = record { mark = mark; next = next; looks = looks; waits = waits } }
+pub turn-low : (place : ℕ) → (place ≡ 35) ⊎ (place ≡ 37) → 35 ≤ place
+turn-low place (inl e) = omega arith
+turn-low place (inr e) = omega arith
 
-  looked-35 : Looked count (at 35) b (lookAt count (at 35) b)
-  unfolding lookAt at
-  looked-35 = pick-split (Looked count (at 35) b) (eqb b 0)
-      (λ s. record { mark-same = refl; counted = refl; waits-are = refl; enough = λ l. l; returned-zero = λ e. absurd (omega arith); quiet-zero = λ _ n. absurd (n refl); quiets = λ _. refl; waiting-is = λ w e. absurd (let z : _≡_ {A = ℕ} 0 1 = cc in omega arith); spent-only = λ _. eqb-true b 0 s; spent-if = λ _. refl; returns = λ l w e. absurd (let z : _≡_ {A = ℕ} 0 1 = cc in omega arith); low = omega arith; high = omega arith })
-      (λ s. pick-split (Looked count (at 35) b) (eqb count 0)
-      (λ z. record { mark-same = refl; counted = omega arith; waits-are = refl; enough = λ l. omega arith; returned-zero = λ e. absurd (omega arith); quiet-zero = λ _ _. eqb-true count 0 z; quiets = λ _. refl; waiting-is = λ w e. absurd (let z : _≡_ {A = ℕ} 0 1 = cc in omega arith); spent-only = λ e. absurd (let z : _≡_ {A = ℕ} 0 1 = cc in omega arith); spent-if = λ e. absurd (eqb-false b 0 s e); returns = λ l w e. absurd (let z : _≡_ {A = ℕ} 0 1 = cc in omega arith); low = omega arith; high = omega arith })
-      (λ z. record { mark-same = refl; counted = omega arith; waits-are = refl; enough = λ l. omega arith; returned-zero = λ e. absurd (omega arith); quiet-zero = λ _ n. absurd (n refl); quiets = λ _. refl; waiting-is = λ w e. ((let c : watched (at 35) ≡ w = cc in sym c), eqb-false count 0 z); spent-only = λ e. absurd (let z : _≡_ {A = ℕ} 0 1 = cc in omega arith); spent-if = λ e. absurd (eqb-false b 0 s e); returns = λ l w e. absurd (let z : _≡_ {A = ℕ} 0 1 = cc in omega arith); low = omega arith; high = omega arith }))
+pub turn-high : (place : ℕ) → (place ≡ 35) ⊎ (place ≡ 37) → place ≤ 37
+turn-high place (inl e) = omega arith
+turn-high place (inr e) = omega arith
 
-  looked-37 : Looked count (at 37) b (lookAt count (at 37) b)
-  unfolding lookAt at
-  looked-37 = pick-split (Looked count (at 37) b) (eqb b 0)
-      (λ s. record { mark-same = refl; counted = refl; waits-are = refl; enough = λ l. l; quiet-zero = λ e. absurd (omega arith); returned-zero = λ _ n. absurd (n refl); quiets = λ e. absurd (let z : _≡_ {A = ℕ} 0 1 = cc in omega arith); waiting-is = λ w e. absurd (let z : _≡_ {A = ℕ} 0 1 = cc in omega arith); spent-only = λ _. eqb-true b 0 s; spent-if = λ _. refl; returns = λ l w e. absurd (let z : _≡_ {A = ℕ} 0 1 = cc in omega arith); low = omega arith; high = omega arith })
-      (λ s. pick-split (Looked count (at 37) b) (eqb count 0)
-      (λ z. record { mark-same = refl; counted = omega arith; waits-are = refl; enough = λ l. omega arith; quiet-zero = λ e. absurd (omega arith); returned-zero = λ _ _. eqb-true count 0 z; quiets = λ e. absurd (let z : _≡_ {A = ℕ} 0 1 = cc in omega arith); waiting-is = λ w e. absurd (let z : _≡_ {A = ℕ} 0 1 = cc in omega arith); spent-only = λ e. absurd (let z : _≡_ {A = ℕ} 0 1 = cc in omega arith); spent-if = λ e. absurd (eqb-false b 0 s e); returns = λ l w e. (λ q. omega arith, (let c : looks + 1 ≡ l = cc in sym c), (let d : waits ≡ w = cc in sym d)); low = omega arith; high = omega arith })
-      (λ z. record { mark-same = refl; counted = omega arith; waits-are = refl; enough = λ l. omega arith; quiet-zero = λ e. absurd (omega arith); returned-zero = λ _ n. absurd (n refl); quiets = λ e. absurd (let z : _≡_ {A = ℕ} 0 1 = cc in omega arith); waiting-is = λ w e. ((let c : watched (at 37) ≡ w = cc in sym c), eqb-false count 0 z); spent-only = λ e. absurd (let z : _≡_ {A = ℕ} 0 1 = cc in omega arith); spent-if = λ e. absurd (eqb-false b 0 s e); returns = λ l w e. absurd (let z : _≡_ {A = ℕ} 0 1 = cc in omega arith); low = omega arith; high = omega arith }))
+-- A look that passes is quiet at 35 and a return at 37; one that waits and none at all leave the place.
+module _ (count : ℕ) (y : Publisher) (b : ℕ) where
+  passing : count ≡ 0 → b ≢ 0 → (y .place ≡ 35) ⊎ (y .place ≡ 37)
+      → Looked count y b (progress y (y .walk .looks + 1) (y .walk .waits) (pick (eqb (y .place) 35) Quiet (Returned (y .walk .looks + 1) (y .walk .waits))))
+  passing z s (inl e) = rw (eq-eqb (y .place) 35 e) (record { mark-same = refl; counted = rw (eq-eqb (y .place) 35 e) (omega arith); waits-are = refl; quiet-zero = λ _ _. z; returned-zero = λ q. absurd (omega arith); quiets = λ _. e; waiting-is = λ w q. absurd (let d : _≡_ {A = ℕ} 0 1 = cc in omega arith); spent-only = λ q. absurd (let d : _≡_ {A = ℕ} 0 1 = cc in omega arith); spent-if = λ q. absurd (s q); returns = λ l w q. absurd (let d : _≡_ {A = ℕ} 0 1 = cc in omega arith); high = omega arith })
+  passing z s (inr e) = rw (ne-eqb (y .place) 35 (λ q. omega arith)) (record { mark-same = refl; counted = rw e (omega arith); waits-are = refl; quiet-zero = λ q. absurd (omega arith); returned-zero = λ _ _. z; quiets = λ q. absurd (let d : _≡_ {A = ℕ} 0 1 = cc in omega arith); waiting-is = λ w q. absurd (let d : _≡_ {A = ℕ} 0 1 = cc in omega arith); spent-only = λ q. absurd (let d : _≡_ {A = ℕ} 0 1 = cc in omega arith); spent-if = λ q. absurd (s q); returns = λ l w q. (λ f. omega arith, (let c : y .walk .looks + 1 ≡ l = cc in sym c), (let d : y .walk .waits ≡ w = cc in sym d)); high = omega arith })
 
-pub looked : (count : ℕ) (y : Publisher) (b : ℕ) → (y .place ≡ 35) ⊎ (y .place ≡ 37) → Looked count y b (lookAt count y b)
-unfolding at
-looked count y b (inl e) = rw (← e) at (looked-35 count (y .walk .mark) (y .walk .next) (y .walk .looks) (y .walk .waits) (y .held) b)
-looked count y b (inr e) = rw (← e) at (looked-37 count (y .walk .mark) (y .walk .next) (y .walk .looks) (y .walk .waits) (y .held) b)
+  pub looked : (y .place ≡ 35) ⊎ (y .place ≡ 37) → Looked count y b (lookAt count y b)
+  unfolding lookAt
+  looked turn = pick-split (Looked count y b) (eqb b 0)
+      (λ s. record { mark-same = refl; counted = refl; waits-are = refl; quiet-zero = λ e n. absurd (n e); returned-zero = λ e n. absurd (n e); quiets = λ q. absurd (let d : _≡_ {A = ℕ} 0 1 = cc in omega arith); waiting-is = λ w q. absurd (let d : _≡_ {A = ℕ} 0 1 = cc in omega arith); spent-only = λ _. eqb-true b 0 s; spent-if = λ _. refl; returns = λ l w q. absurd (let d : _≡_ {A = ℕ} 0 1 = cc in omega arith); high = omega (arith, turn-high (y .place) turn) })
+      (λ s. pick-split (Looked count y b) (eqb count 0) (λ z. passing (eqb-true count 0 z) (eqb-false b 0 s) turn)
+      (λ z. record { mark-same = refl; counted = omega arith; waits-are = refl; quiet-zero = λ e n. absurd (n e); returned-zero = λ e n. absurd (n e); quiets = λ q. absurd (let d : _≡_ {A = ℕ} 0 1 = cc in omega arith); waiting-is = λ w q. ((let c : watched y ≡ w = cc in sym c), eqb-false count 0 z); spent-only = λ q. absurd (let d : _≡_ {A = ℕ} 0 1 = cc in omega arith); spent-if = λ q. absurd (eqb-false b 0 s q); returns = λ l w q. absurd (let d : _≡_ {A = ℕ} 0 1 = cc in omega arith); high = omega (arith, turn-high (y .place) turn) }))

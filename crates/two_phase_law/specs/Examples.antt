@@ -2,13 +2,14 @@
 use mathlib.Core.Path.{_≡_, refl}
 use mathlib.Core.List.{List, [], _∷_, _++_}
 use lib.IntN.{pos}
+use Rattle.calls.specs.declared.Call.{Call}
 use Rattle.calls.specs.declared.Call.the-variants.{Enter, Claim, Swap, Sync, Raise, Walk, Release}
 use Rattle.calls.specs.declared.Reply.the-variants.{Made, Swapped, Synced, Raised, Walked, Freed, Refused}
 use Rattle.calls.specs.declared.WalkReply.the-variants.{Waiting, Spent, Quiet, Returned}
 use Rattle.calls.specs.Rows.{anyBelow, countBelow}
 use Rattle.layout.specs.Layout.{indicator, readerAt, publisherAt, withReader, withPublisher, withReaders, fresh}
 use Rattle.statement.specs.Machine.{given}
-use Rattle.statement.specs.Examples.{Example, Holds, AllHold, played, leadTo, enters, tableOf, publication, P9, P10}
+use Rattle.statement.specs.Examples.{Example, AllHold, leadTo, enters, tableOf, publication, P9, P10}
 use Rattle.statement.specs.Examples.Example.{shows, unchanged}
 use Rattle.publication_law.specs.Rules.{damaged, step, making}
 use Rattle.two_phase_law.specs.Steps.{rules, TwoPhase, onward, lookAt}
@@ -22,8 +23,11 @@ P5 = shows TwoPhase (given 1 1 2 0)
     (Made ∷ Synced 2 ∷ Walked (Waiting 0) ∷ [])
 
 -- P6: WALK 0 at 37: spent, all unchanged.
+abbrev pub to37 : List Call
+to37 = publication 0 1 (pos 100) ++ (Sync 0 ∷ Walk 0 1 ∷ Raise 0 ∷ [])
+
 abbrev pub P6 : Example
-P6 = unchanged TwoPhase (given 1 1 2 0) (publication 0 1 (pos 100) ++ (Sync 0 ∷ Walk 0 1 ∷ Raise 0 ∷ [])) (Walk 0 0) (Walked Spent)
+P6 = unchanged TwoPhase (given 1 1 2 0) to37 (Walk 0 0) (Walked Spent)
 
 -- P11: another publisher's CLAIM of a free slot during a wait: old 31.
 abbrev pub P11 : Example
@@ -41,38 +45,15 @@ whole = shows TwoPhase (given 1 1 2 0) (tableOf 0 1 (pos 100))
 unfoldable pub examples : List Example
 examples = P5 ∷ P6 ∷ P9 TwoPhase ∷ P10 TwoPhase ∷ P11 ∷ whole ∷ []
 
-p5 : Holds P5
-unfolding indicator readerAt publisherAt withReader withPublisher withReaders fresh anyBelow countBelow damaged onward lookAt step making
-p5 = refl
-
 -- The reply of P6's call, at the state that it starts from.
-p6-spent : step rules (leadTo TwoPhase (given 1 1 2 0) (publication 0 1 (pos 100) ++ (Sync 0 ∷ Walk 0 1 ∷ Raise 0 ∷ []))) (Walk 0 0) .reply ≡ Walked Spent
+p6-spent : step rules (leadTo TwoPhase (given 1 1 2 0) to37) (Walk 0 0) .reply ≡ Walked Spent
 unfolding indicator readerAt publisherAt withReader withPublisher withReaders fresh anyBelow countBelow damaged onward lookAt step making
 p6-spent = refl
 
-p6-played : played TwoPhase (given 1 1 2 0) (publication 0 1 (pos 100) ++ (Sync 0 ∷ Walk 0 1 ∷ Raise 0 ∷ [])) (Walk 0 0 ∷ []) ≡ Made ∷ Walked Spent ∷ []
-unfolding indicator readerAt publisherAt withReader withPublisher withReaders fresh anyBelow countBelow damaged onward lookAt step making
-p6-played = refl
+p6-same : step rules (leadTo TwoPhase (given 1 1 2 0) to37) (Walk 0 0) .after ≡ leadTo TwoPhase (given 1 1 2 0) to37
+p6-same = old-walk-zero _ 0 p6-spent
 
-p6 : Holds P6
-p6 = (p6-played, old-walk-zero _ 0 p6-spent)
-
-p9 : Holds (P9 TwoPhase)
-unfolding indicator readerAt publisherAt withReader withPublisher withReaders fresh anyBelow countBelow damaged onward lookAt step making
-p9 = refl
-
-p10 : Holds (P10 TwoPhase)
-unfolding indicator readerAt publisherAt withReader withPublisher withReaders fresh anyBelow countBelow damaged onward lookAt step making
-p10 = refl
-
-p11 : Holds P11
-unfolding indicator readerAt publisherAt withReader withPublisher withReaders fresh anyBelow countBelow damaged onward lookAt step making
-p11 = refl
-
-p-whole : Holds whole
-unfolding indicator readerAt publisherAt withReader withPublisher withReaders fresh anyBelow countBelow damaged onward lookAt step making
-p-whole = refl
-
+-- Each by computation, and that P6's call changes nothing by what is promised of every such call.
 pub bench : AllHold examples
-unfolding examples
-bench = (p5, (p6, (p9, (p10, (p11, (p-whole, tt))))))
+unfolding examples indicator readerAt publisherAt withReader withPublisher withReaders fresh anyBelow countBelow damaged onward lookAt step making
+bench = (refl, ((refl, p6-same), (refl, (refl, (refl, (refl, tt))))))

@@ -22,24 +22,12 @@ use Rattle.statement.specs.Demand3.{Demand3}
 use Rattle.statement.specs.Examples.{lentFor, tableOf, publication}
 use Rattle.statement.specs.Refute.{someLeave, not-left, events-append}
 use Rattle.publication_law.specs.Steps.{publisher, putPublisher, atPlace}
-use Rattle.publication_law.specs.Rules.{Rules, damaged, step, making}
+use Rattle.publication_law.specs.Rules.{Rules, damaged, step, making, varied}
 use Rattle.two_phase_law.specs.Steps.{onward, watched, lookAt, rules}
 
 -- Several publishers: no 31.
 several : Rules
-several = record {
-  kind = rules .kind;
-  further = rules .further;
-  freshReader = rules .freshReader;
-  entered = rules .entered;
-  enterWords = rules .enterWords;
-  left = rules .left;
-  leaveWords = rules .leaveWords;
-  exclusive = false;
-  raisesAt = rules .raisesAt;
-  walksAt = rules .walksAt;
-  looks = rules .looks;
-}
+several = varied rules false (rules .looks)
 
 -- Line 21: while the first indicator is not empty, a walk whose version has become its mark breaks off the first wait; the second one follows.
 breaksOff : State → ℕ → Bool

@@ -7,41 +7,34 @@ use mathlib.Core.Path.{_≡_, refl, sym, _∙_}
 use mathlib.Core.Logic.{_≢_, _⊎_, inl, inr}
 use mathlib.Core.Bool.{Bool, true, false, _||_}
 use mathlib.Core.List.{List}
-use lib.IntN.{ℤ}
 use lib.ListN.{length}
 use lib.Dec.{leb, ltb, eqb}
-use borrow.Author.Tests.{eqb-true, eqb-false, eq-eqb, ne-eqb, leb-false, le-leb, lt-leb, ltb-false, le-ltb, not-false}
+use borrow.Author.Tests.{eqb-true, eqb-false, eq-eqb, ne-eqb, leb-false, le-leb, lt-leb, ltb-false, le-ltb}
 use Rattle.calls.specs.declared.Call.the-variants.{Enter, Leave, Sync, Walk}
 use Rattle.calls.specs.declared.Reply.the-variants.{At, Left, Synced, Walked}
 use Rattle.calls.specs.declared.WalkReply.{WalkReply}
 use Rattle.calls.specs.declared.WalkReply.the-variants.{Waiting, Spent, Quiet, Returned}
 use Rattle.calls.specs.Base.{pick, upd}
-use Rattle.calls.specs.Numbers.{READERS-MAX, PUBLISHERS-MAX, KIND-OLD}
-use Rattle.calls.specs.RowLaws.{clash, by-test, or-none, all-false, none-true, count-none, pick-split, same, at-or, AllClear, AllFalse}
-use Rattle.calls.specs.Model.{shelve, firstTable}
-use Rattle.calls.specs.Told.{tell}
+use Rattle.calls.specs.Numbers.{READERS-MAX, KIND-OLD}
+use Rattle.calls.specs.RowLaws.{by-test, or-none, all-false, none-true, count-none, pick-split, AllClear, AllFalse}
 use Rattle.layout.specs.declared.Reader.{Reader}
 use Rattle.layout.specs.declared.Publisher.{Publisher}
-use Rattle.layout.specs.Layout.{HEAD, INDICATORS, READERS-AT, VERSION-AT, INDICATORS-AT, readers, publishers, slots, current, version, indicator, readerAt, publisherAt, withReader, withIndicator, noReader}
-use Rattle.layout.specs.Laws.{length-reader, indicator-reader, indicator-put, fresh-indicator, fresh-reader, fresh-publisher}
-use Rattle.statement.specs.Machine.{State, state, Outcome, Given}
-use Rattle.statement.specs.Kept.{Pend, Ghost, ghost₀, Back}
+use Rattle.layout.specs.Layout.{HEAD, INDICATORS, INDICATORS-AT, readers, publishers, slots, current, version, indicator, readerAt, withReader, withIndicator, noReader}
+use Rattle.layout.specs.Laws.{length-reader, indicator-reader, indicator-put, fresh-indicator, fresh-reader}
+use Rattle.statement.specs.Machine.{State, state, Given}
+use Rattle.statement.specs.Kept.{Ghost, Back}
 use Rattle.statement.specs.Kept as kept
-use Rattle.publication_law.specs.Steps.{reader, publisher, atPlace, enterTests, leaveTests, syncTests, sync, raise, walked, walk, newWalk, placeAfter, made}
-use Rattle.publication_law.specs.DamageLaws.{Fine, reader-below, publisher-below}
-use Rattle.publication_law.specs.Core.{Core, enter-below, enter-open, enter-pick, leave-core}
-use Rattle.publication_law.specs.Core.Hold.{by-swap}
-use Rattle.publication_law.specs.Grace.{enter-grace, leave-grace}
-use Rattle.publication_law.specs.Tallied.{place-tallied}
-use Rattle.publication_law.specs.Entries.{slotEntry}
-use Rattle.publication_law.specs.Moves.{MovesPublisher, MovesReader, moves-publisher, moves-head, moves-reader, moves-indicator}
-use Rattle.publication_law.specs.Invariant.{formers, CoreOf, reader-moved}
+use Rattle.publication_law.specs.Steps.{reader, publisher, enterTests, leaveTests, syncTests, sync, raise, walk, placeAfter, made}
+use Rattle.publication_law.specs.DamageLaws.{Fine}
+use Rattle.publication_law.specs.Core.{Onward}
+use Rattle.publication_law.specs.Core.Onward.{stays-out, opens, picks}
+use Rattle.publication_law.specs.Moves.{MovesReader, reader-moves, moves-indicator}
 use Rattle.publication_law.specs.KindLaw.{KindLaw, up-to-law}
-use Rattle.publication_law.specs.Keeps.{publisher-fine, sync-keeps, raise-keeps, walk-keeps, syncing-in-order}
 use Rattle.publication_law.specs.Rules.{traitsOf}
 use Rattle.publication_law.specs.Lawful.{Good, Lawful}
+use Rattle.publication_law.specs.Detector.{Detector, OwnOf, start-own, early-own, enter-good, leave-good, sync-good, raise-good, walk-good, return-good}
 use Rattle.two_phase_law.specs.Steps.{LAST, versions, kind, readerRows, parity, addedTo, onward, placeOn, entered, enterWords, leaving, leaveWords, watched, looksOf, lookAt, rules}
-use Rattle.two_phase_law.specs.Counts.{Counted, counted-to, none-added, stays-counted, arrives-counted, leaves-counted, passedAt, Looked, look-turn, looked}
+use Rattle.two_phase_law.specs.Counts.{Counted, counted-to, none-added, stays-counted, arrives-counted, leaves-counted, passedAt, Looked, look-turn, turn-low, turn-high, looked}
 
 abbrev pub law : KindLaw kind
 law = record {
@@ -53,28 +46,25 @@ law = record {
   own-beyond = λ rs y e. ltb-false 38 (y .place) e;
 }
 
--- The kind's own numbers: from 36 on a synchronise waits only for readers that added to the other indicator.
-record Own (w : Pend) (n : ℕ) (ind : ℕ → ℕ) (R : ℕ → Reader) (P : ℕ → Publisher) : Type 0 where
-  behind : (p r : ℕ) → w p r ≡ true → 36 ≤ P p .place → parity (R r .first) ≢ parity (P p .walk .mark)
-  -- each look passed or waited
-  looks-counted : (p : ℕ) → 35 ≤ P p .place → P p .walk .looks ≡ passedAt (P p .place) + P p .walk .waits
-  indicators : Counted n ind R
-
-abbrev OwnOf : Ghost → State → Type 0
-OwnOf g s = Own (g .pend) (readers (s .words)) (indicator (s .words)) (readerAt (s .words)) (publisherAt (s .words))
+-- From 36 on a synchronise waits only for readers that added to the other indicator; a look passes at 35 and at 37.
+abbrev detector : Detector
+detector = record {
+  Behind = λ n x y r. 36 ≤ y .place → parity (x .first) ≢ parity (y .walk .mark);
+  early = λ n x y y′ r e low b l. absurd (omega arith);
+  passed = λ y. passedAt (y .place);
+  Readers = λ ver n ind R. Counted n ind R;
+}
 
 -- ENTER, by the place.
 module _ (ver cur : ℕ) where
-  onward-open : (pl f s u k : ℕ) → 4 ≤ pl → 4 ≤ onward ver cur (record { place = pl; first = f; second = s; published = u; picked = k }) .place
+  onward-goes : (pl f s u k : ℕ) → pl ≤ 4 → pl ≢ 2 → pl ≢ 3 → let x = onward ver cur (record { place = pl; first = f; second = s; published = u; picked = k }) in Onward cur pl k (x .place) (x .picked)
   unfolding onward
-  onward-open pl f s u k l = rw (ne-eqb pl 0 (λ z. omega arith), ne-eqb pl 1 (λ z. omega arith)) (omega arith)
-
-  onward-picks : (pl f s u k : ℕ) → onward ver cur (record { place = pl; first = f; second = s; published = u; picked = k }) .place ≡ 5
-      → onward ver cur (record { place = pl; first = f; second = s; published = u; picked = k }) .picked ≡ cur
-  unfolding onward
-  onward-picks zero f s u k five = absurd (omega arith)
-  onward-picks (suc zero) f s u k five = absurd (omega arith)
-  onward-picks (suc (suc pl)) f s u k five = rw (ne-eqb (suc (suc pl)) 0 (λ z. omega arith), ne-eqb (suc (suc pl)) 1 (λ z. omega arith)) refl
+  onward-goes zero f s u k l n2 n3 = stays-out (omega arith) (omega arith) refl
+  onward-goes (suc zero) f s u k l n2 n3 = opens (omega arith) refl refl
+  onward-goes (suc (suc zero)) f s u k l n2 n3 = absurd (n2 refl)
+  onward-goes (suc (suc (suc zero))) f s u k l n2 n3 = absurd (n3 refl)
+  onward-goes (suc (suc (suc (suc zero)))) f s u k l n2 n3 = picks refl refl refl
+  onward-goes (suc (suc (suc (suc (suc pl))))) f s u k l n2 n3 = absurd (omega arith)
 
   onward-fits : (slots pl f s u k : ℕ) → cur < slots → AllFalse (readerRows slots (onward ver cur (record { place = pl; first = f; second = s; published = u; picked = k })))
   unfolding onward
@@ -97,28 +87,15 @@ onward-first : (ver cur : ℕ) (x : Reader) → 4 ≤ x .place → onward ver cu
 unfolding onward
 onward-first ver cur x l = rw (ne-eqb (x .place) 0 (λ z. omega arith), ne-eqb (x .place) 1 (λ z. omega arith)) refl
 
-module _ (g : Ghost) (n m cur ver : ℕ) (R : ℕ → Reader) (P : ℕ → Publisher) (es : List ℤ) (i : CoreOf g n m cur R P es) (r : ℕ) (rn : r < n) where
-  enter-core : (pl : ℕ) → R r .place ≡ pl → pl ≤ 4 → pl ≢ 2 → pl ≢ 3
-      → let x : Reader = onward ver cur (record { place = pl; first = R r .first; second = R r .second; published = R r .published; picked = R r .picked }) in
-      Core (shelve (g .model) (Enter r) (At (x .place))) (tell (g .told) (Enter r) (At (x .place))) n m cur (upd (λ j. R j .place) r (x .place)) (upd (λ j. R j .picked) r (x .picked))
-      (λ p. P p .place) (λ p. P p .held) (λ p. formers (P p)) (slotEntry es)
-  unfolding onward
-  enter-core zero e l n2 n3 = enter-below _ _ _ _ _ _ _ _ _ _ _ i r 1 rn (omega arith) (omega arith)
-  enter-core (suc zero) e l n2 n3 = enter-open _ _ _ _ _ _ _ _ _ _ _ i r rn (omega arith)
-  enter-core (suc (suc zero)) e l n2 n3 = absurd (n2 refl)
-  enter-core (suc (suc (suc zero))) e l n2 n3 = absurd (n3 refl)
-  enter-core (suc (suc (suc (suc zero)))) e l n2 n3 = enter-pick _ _ _ _ _ _ _ _ _ _ _ i r rn e
-  enter-core (suc (suc (suc (suc (suc pl))))) e l n2 n3 = absurd (omega arith)
-
 -- The words after an ENTER and a LEAVE.
 enter-moves : (s : State) → Fine kind s → (r : ℕ) → r < readers (s .words) → MovesReader (s .words) (enterWords s r) r (entered s r)
 enter-moves s f r l =
-    let m = moves-reader (s .words) r (entered s r) (f .head .long) (reader-below kind s f r l) in
+    let m = reader-moves f r (entered s r) l in
     pick-split (λ (w : List ℕ). MovesReader (s .words) w r (entered s r)) (eqb (reader s r .place) 1)
     (λ _. moves-indicator _ _ r _ m (INDICATORS-AT + parity (reader s r .first)) _ (omega arith) (omega arith)) (λ _. m)
 
 leave-moves : (s : State) → Fine kind s → (r : ℕ) → r < readers (s .words) → MovesReader (s .words) (leaveWords s r) r (leaving (reader s r))
-leave-moves s f r l = moves-indicator _ _ r _ (moves-reader (s .words) r (leaving (reader s r)) (f .head .long) (reader-below kind s f r l))
+leave-moves s f r l = moves-indicator _ _ r _ (reader-moves f r (leaving (reader s r)) l)
     (INDICATORS-AT + parity (reader s r .first)) _ (omega arith) (omega arith)
 
 -- The indicators after a reader is written, with one of them anew.
@@ -130,29 +107,8 @@ changed-indicator w len r x k low d i = indicator-put (withReader w r x) k (d (i
     go true e = rw (eqb-true k i e) refl
     go false e = refl
 
--- The kind's own numbers, as a reader or a publisher moves.
-module _ (w : Pend) (n : ℕ) (ind : ℕ → ℕ) (R : ℕ → Reader) (P : ℕ → Publisher) (o : Own w n ind R P) where
-  reader-own : (r : ℕ) (x : Reader) (w′ : Pend) (ind′ : ℕ → ℕ) → ((p q : ℕ) → w′ p q ≡ true → w p q ≡ true) → ((p : ℕ) → w′ p r ≡ true → x .first ≡ R r .first) → Counted n ind′ (upd R r x) → Own w′ n ind′ (upd R r x) P
-  reader-own r x w′ ind′ sub e c = record {
-    behind = λ p. at-or r (rw (same r) (λ q. rw (e p q) (o .behind p r (sub p r q)))) (λ j d. rw d (λ q. o .behind p j (sub p j q)));
-    looks-counted = o .looks-counted;
-    indicators = c;
-  }
-
-  publisher-own : (p : ℕ) (y : Publisher) (w′ : Pend) → ((q r : ℕ) → eqb q p ≡ false → w′ q r ≡ w q r)
-      → ((r : ℕ) → w′ p r ≡ true → 36 ≤ y .place → parity (R r .first) ≢ parity (y .walk .mark))
-      → (35 ≤ y .place → y .walk .looks ≡ passedAt (y .place) + y .walk .waits) → Own w′ n ind R (upd P p y)
-  publisher-own p y w′ others a c = record {
-    behind = at-or p (rw (same p) a) (λ q e r. rw (e, others q r e) (o .behind q r));
-    looks-counted = at-or p (rw (same p) c) (λ q e. rw e (o .looks-counted q));
-    indicators = o .indicators;
-  }
-
 -- Each of the kind's own steps keeps the invariant.
-module _ (z : Given) (g : Ghost) (s : State) (i : Good kind OwnOf z g s) where
-  p16 : (p : ℕ) → p < publishers (s .words) → p < PUBLISHERS-MAX
-  p16 = publisher-below kind s (i .shared .fine)
-
+module _ (z : Given) (g : Ghost) (s : State) (i : Good kind (OwnOf detector) z g s) where
   head-long : HEAD ≤ length (s .words)
   head-long = omega (arith, i .shared .fine .head .long)
 
@@ -164,7 +120,7 @@ module _ (z : Given) (g : Ghost) (s : State) (i : Good kind OwnOf z g s) where
   in-added x k l = rw (le-leb 4 (x .place) l) refl
 
   same-counted : (r : ℕ) (x : Reader) → r < readers (s .words) → ((k : ℕ) → addedTo k x ≡ addedTo k (reader s r)) → Counted (readers (s .words)) (indicator (withReader (s .words) r x)) (upd (readerAt (s .words)) r x)
-  same-counted r x rn e = rw (indicator-reader (s .words) r x) (stays-counted (readers (s .words)) (indicator (s .words)) (readerAt (s .words)) (i .own .indicators) r rn x e)
+  same-counted r x rn e = rw (indicator-reader (s .words) r x) (stays-counted (readers (s .words)) (indicator (s .words)) (readerAt (s .words)) (i .own .readers-are) r rn x e)
 
   arrived : (r pl : ℕ) → r < readers (s .words) → reader s r .place ≡ pl → pl ≤ 4 → pl ≢ 2 → pl ≢ 3 → Counted (readers (s .words)) (indicator (enterWords s r)) (upd (readerAt (s .words)) r (entered s r))
   unfolding onward
@@ -172,7 +128,7 @@ module _ (z : Given) (g : Ghost) (s : State) (i : Good kind OwnOf z g s) where
       let x : Reader = record { place = 1; first = version (s .words); second = reader s r .second; published = reader s r .published; picked = reader s r .picked } in
       rw (eq-eqb (reader s r .place) 0 e, ne-eqb (reader s r .place) 1 (λ q. omega arith)) (same-counted r x rn (λ k. sym (out-added (reader s r) k (omega arith))))
   arrived r (suc zero) rn e l n2 n3 = rw (ne-eqb (reader s r .place) 0 (λ q. omega arith), eq-eqb (reader s r .place) 1 e)
-      (arrives-counted _ (indicator (s .words)) (readerAt (s .words)) (i .own .indicators) r rn _ _ (omega arith) (omega arith)
+      (arrives-counted _ (indicator (s .words)) (readerAt (s .words)) (i .own .readers-are) r rn _ _ (omega arith) (omega arith)
       (λ k _. changed-indicator (s .words) head-long r _ (parity (reader s r .first)) (omega arith) (λ n. n + 1) k))
   arrived r (suc (suc zero)) rn e l n2 n3 = absurd (n2 refl)
   arrived r (suc (suc (suc zero))) rn e l n2 n3 = absurd (n3 refl)
@@ -181,71 +137,31 @@ module _ (z : Given) (g : Ghost) (s : State) (i : Good kind OwnOf z g s) where
       rw (ne-eqb (reader s r .place) 0 (λ q. omega arith), ne-eqb (reader s r .place) 1 (λ q. omega arith)) (same-counted r x rn (λ k. sym (in-added (reader s r) k (omega arith))))
   arrived r (suc (suc (suc (suc (suc pl))))) rn e l n2 n3 = absurd (omega arith)
 
-  enter-kept : (r : ℕ) → AllClear (enterTests s r) → Good kind OwnOf z (kept.advance g (Enter r) (At (entered s r .place))) (state (enterWords s r) (s .entries))
+  enter-kept : (r : ℕ) → AllClear (enterTests s r) → Good kind (OwnOf detector) z (kept.advance g (Enter r) (At (entered s r .place))) (state (enterWords s r) (s .entries))
   enter-kept r f =
       let lt : r < readers (s .words) = leb-false _ _ (f .0) in
       let l : reader s r .place ≤ 4 = let q = leb-false 5 (reader s r .place) (f .1 .0) in omega arith in
       let rf = all-false (readerRows (slots (s .words)) (reader s r)) (i .shared .fine .readers-fine r lt) in
       let n2 = eqb-false (reader s r .place) 2 (rf .1 .0) in
       let n3 = eqb-false (reader s r .place) 3 (rf .1 .1 .0) in
-      let m = enter-moves s (i .shared .fine) r lt in record {
-        shared = reader-moved kind z g s (i .shared) _ _ r (entered s r) m
-            (none-true (readerRows (slots (s .words)) (entered s r)) (onward-fits _ _ _ _ _ _ _ _ (i .shared .fine .head .current-below)))
-            (enter-core g _ _ _ (version (s .words)) (readerAt (s .words)) (publisherAt (s .words)) (s .entries) (i .shared .core) r lt _ refl l n2 n3)
-            (enter-grace _ _ _ _ _ (i .shared .grace) r _ _ (onward-open (version (s .words)) (current (s .words)) (reader s r .place) (reader s r .first) (reader s r .second) (reader s r .published) (reader s r .picked))
-            (λ five p e. i .shared .core .publishers p .apart _ (by-swap e) (onward-picks _ _ _ _ _ _ _ five)))
-            (place-tallied _ _ _ _ _ (i .shared .tallied) r (entered s r .place));
-        own = rw (m .head READERS-AT (omega arith), m .readers-are, m .publishers-stay)
-            (reader-own _ _ _ _ _ (i .own) r (entered s r) _ _ (λ p q e. e) (λ p e. onward-first _ _ (reader s r) (i .shared .grace .awaited p r e .opened))
-            (arrived r _ lt refl l n2 n3));
-      }
+      enter-good detector kind law z g s i _ r (entered s r) (enter-moves s (i .shared .fine) r lt)
+      (none-true (readerRows (slots (s .words)) (entered s r)) (onward-fits _ _ _ _ _ _ _ _ (i .shared .fine .head .current-below)))
+      (arrived r _ lt refl l n2 n3) lt (onward-goes _ _ _ _ _ _ _ l n2 n3) (λ four y b. rw (onward-first (version (s .words)) (current (s .words)) (reader s r) four) b)
 
-  leave-kept : (r : ℕ) → AllClear (leaveTests s r) → Good kind OwnOf z (kept.advance g (Leave r) Left) (state (leaveWords s r) (s .entries))
+  leave-kept : (r : ℕ) → AllClear (leaveTests s r) → Good kind (OwnOf detector) z (kept.advance g (Leave r) Left) (state (leaveWords s r) (s .entries))
   leave-kept r f =
       let lt : r < readers (s .words) = leb-false _ _ (f .0) in
-      let inside : 4 ≤ reader s r .place = ltb-false _ _ (f .1 .0) in
-      let m = leave-moves s (i .shared .fine) r lt in record {
-        shared = reader-moved kind z g s (i .shared) _ _ r (leaving (reader s r)) m refl
-            (leave-core _ _ _ _ _ _ _ _ _ _ _ (i .shared .core) r Left)
-            (leave-grace _ _ _ _ _ (i .shared .grace) (g .told) r _)
-            (place-tallied _ _ _ _ _ (i .shared .tallied) r 0);
-        own = rw (m .head READERS-AT (omega arith), m .readers-are, m .publishers-stay)
-            (reader-own _ _ _ _ _ (i .own) r (leaving (reader s r)) _ _
-            (λ p q. pick-split (λ (b : Bool). b ≡ true → g .pend p q ≡ true) (eqb q r) (λ _ e. clash (sym e)) (λ _ e. e))
-            (λ p. rw (same r) (λ e. clash (sym e)))
-            (leaves-counted _ (indicator (s .words)) (readerAt (s .words)) (i .own .indicators) r lt _ _ inside (omega arith)
-            (λ k _. changed-indicator (s .words) head-long r _ (parity (reader s r .first)) (omega arith) (λ n. n - 1) k)));
-      }
+      leave-good detector kind law z g s i _ r (leaving (reader s r)) (leave-moves s (i .shared .fine) r lt) refl
+      (leaves-counted _ (indicator (s .words)) (readerAt (s .words)) (i .own .readers-are) r lt _ _ (ltb-false _ _ (f .1 .0)) (omega arith)
+      (λ k _. changed-indicator (s .words) head-long r _ (parity (reader s r .first)) (omega arith) (λ n. n - 1) k)) refl
 
-  -- A publisher's move.
-  moved-own : (g′ : Ghost) (w′ : List ℕ) (es′ : List ℤ) (p : ℕ) (y : Publisher) (cur ver rel : ℕ) → MovesPublisher (s .words) w′ p y cur ver rel → ((q r : ℕ) → eqb q p ≡ false → g′ .pend q r ≡ g .pend q r)
-      → ((r : ℕ) → g′ .pend p r ≡ true → 36 ≤ y .place → parity (reader s r .first) ≢ parity (y .walk .mark))
-      → (35 ≤ y .place → y .walk .looks ≡ passedAt (y .place) + y .walk .waits) → OwnOf g′ (state w′ es′)
-  moved-own g′ w′ es′ p y cur ver rel m others a c = rw (m .head READERS-AT (omega arith), m .indicators-stay, m .readers-stay, m .publishers-are)
-      (publisher-own _ _ _ _ _ (i .own) p y _ others a c)
+  sync-kept : (p : ℕ) → AllClear (syncTests versions s p) → Good kind (OwnOf detector) z (kept.advance g (Sync p) (Synced (version (s .words) + 1))) (sync versions s p .after)
+  sync-kept p f = sync-good detector kind law z g s i p f refl refl (λ r _ l. absurd (omega arith))
 
-  sync-kept : (p : ℕ) → AllClear (syncTests versions s p) → Good kind OwnOf z (kept.advance g (Sync p) (Synced (version (s .words) + 1))) (sync versions s p .after)
-  sync-kept p f =
-      let lt : p < publishers (s .words) = leb-false _ _ (f .0) in
-      let at34 = eqb-true (publisher s p .place) 34 (not-false _ (f .1 .0)) in
-      let h = i .shared .fine .head in
-      let y : Publisher = record { place = 35; held = publisher s p .held; walk = newWalk (version (s .words) + 1) } in record {
-        shared = sync-keeps kind law z g s (i .shared) p f refl;
-        own = moved-own (kept.advance g (Sync p) (Synced (version (s .words) + 1))) _ (s .entries) p y _ _ _ (moves-publisher (s .words) p y (h .long) (p16 p lt)) (λ q r e. rw e refl) (λ r e l. absurd (omega arith)) (λ l. refl);
-      }
-
-  raise-kept : (p : ℕ) → p < publishers (s .words) → eqb (publisher s p .place) 36 ≡ true → Good kind OwnOf z g (raise versions s p .after)
+  raise-kept : (p : ℕ) → p < publishers (s .words) → eqb (publisher s p .place) 36 ≡ true → Good kind (OwnOf detector) z g (raise versions s p .after)
   raise-kept p lt turn =
       let at36 = eqb-true (publisher s p .place) 36 turn in
-      let y : Publisher = atPlace (publisher s p) 37 in
-      let m = moves-publisher (s .words) p y (i .shared .fine .head .long) (p16 p lt) in
-      let counted : publisher s p .walk .looks ≡ 1 + publisher s p .walk .waits = rw at36 at (i .own .looks-counted p (omega arith)) in record {
-        shared = raise-keeps kind law z g s (i .shared) p lt (omega arith) (omega arith) refl;
-        own = pick-split (λ (o : Outcome). OwnOf g (o .after)) (eqb (version (s .words)) (versions .beforeMark (publisher s p .walk .mark)))
-            (λ e. moved-own g _ (s .entries) p y _ _ _ (moves-head (s .words) _ p y _ _ _ m (i .shared .fine .head .long) VERSION-AT (publisher s p .walk .mark) (omega arith) (omega arith))
-            (λ q r d. refl) (λ r q _. i .own .behind p r q (omega arith)) (λ _. counted))
-            (λ e. moved-own g _ (s .entries) p y _ _ _ m (λ q r d. refl) (λ r q _. i .own .behind p r q (omega arith)) (λ _. counted));
-      }
+      raise-good detector kind law z g s i p lt (omega arith) (omega arith) refl (rw at36 refl) (λ r b _. b (omega arith)) (λ _. i .own .readers-are)
 
   -- A look of publisher p.
   module _ (p b : ℕ) (lt : p < publishers (s .words)) (turn : (publisher s p .place ≡ 35) ⊎ (publisher s p .place ≡ 37)) where
@@ -253,23 +169,15 @@ module _ (z : Given) (g : Ghost) (s : State) (i : Good kind OwnOf z g s) where
     came = looked (indicator (s .words) (watched (publisher s p))) (publisher s p) b turn
 
     low : 35 ≤ publisher s p .place
-    low = go turn
-      where
-        go : (publisher s p .place ≡ 35) ⊎ (publisher s p .place ≡ 37) → 35 ≤ publisher s p .place
-        go (inl e) = omega arith
-        go (inr e) = omega arith
+    low = turn-low (publisher s p .place) turn
 
     high : publisher s p .place ≤ 37
-    high = go turn
-      where
-        go : (publisher s p .place ≡ 35) ⊎ (publisher s p .place ≡ 37) → publisher s p .place ≤ 37
-        go (inl e) = omega arith
-        go (inr e) = omega arith
+    high = turn-high (publisher s p .place) turn
 
     -- A reader that is waited for did not add to an indicator that is zero.
     not-added : (k : ℕ) → k < 2 → indicator (s .words) k ≡ 0 → (r : ℕ) → g .pend p r ≡ true → parity (reader s r .first) ≢ k
     not-added k k2 e r q = let a = i .shared .grace .awaited p r q in
-        none-added _ (indicator (s .words)) (readerAt (s .words)) (i .own .indicators) k k2 e r (i .shared .core .readers r .bound (omega (arith, a .opened))) (a .opened)
+        none-added _ (indicator (s .words)) (readerAt (s .words)) (i .own .readers-are) k k2 e r (i .shared .core .readers r .bound (omega (arith, a .opened))) (a .opened)
 
     after-behind : (r : ℕ) → g .pend p r ≡ true → 36 ≤ placeAfter (publisher s p .place) (looksOf s (publisher s p) b .reply) → parity (reader s r .first) ≢ parity (publisher s p .walk .mark)
     after-behind r q l = go turn
@@ -295,51 +203,28 @@ module _ (z : Given) (g : Ghost) (s : State) (i : Good kind OwnOf z g s) where
             let y = not-added (1 - parity (publisher s p .walk .mark)) (omega arith) (rw (ne-eqb (publisher s p .place) 35 (λ e. omega arith)) at (came .returned-zero at37 (λ e. omega arith))) r q in
             omega arith
 
-    walk-kept : Good kind OwnOf z (kept.advance g (Walk p b) (Walked (looksOf s (publisher s p) b .reply))) (walk s p (looksOf s (publisher s p) b) .after)
-    walk-kept =
-        let pf = publisher-fine kind law z g s (i .shared) p lt in
-        let k = looksOf s (publisher s p) b in
-        let y : Publisher = walked (publisher s p) k in record {
-          shared = walk-keeps kind law z g s (i .shared) p b lt low high k none-pending (came .waits-are) (came .mark-same) (came .enough (pf .waits-low low)) (le-ltb 38 (y .place) (came .high));
-          own = moved-own (kept.advance g (Walk p b) (Walked (k .reply))) _ (s .entries) p y _ _ _ (moves-publisher (s .words) p y (i .shared .fine .head .long) (p16 p lt)) (λ q r e. refl)
-              (λ r q l. rw (came .mark-same) (after-behind r q l)) (λ _. omega (arith, came .counted, i .own .looks-counted p low));
-        }
+    still-counted : looksOf s (publisher s p) b .walk .looks ≡ passedAt (placeAfter (publisher s p .place) (looksOf s (publisher s p) b .reply)) + looksOf s (publisher s p) b .walk .waits
+    still-counted = omega (arith, came .counted, i .own .counted p low)
+
+    walk-kept : Good kind (OwnOf detector) z (kept.advance g (Walk p b) (Walked (looksOf s (publisher s p) b .reply))) (walk s p (looksOf s (publisher s p) b) .after)
+    walk-kept = walk-good detector kind law z g s i p b lt low high (looksOf s (publisher s p) b) (came .waits-are) still-counted
+        none-pending (came .mark-same) (le-ltb 38 _ (came .high)) (λ r q l. rw (came .mark-same) (after-behind r q l))
 
     return-shown : (l w : ℕ) → looksOf s (publisher s p) b .reply ≡ Returned l w → Back (traitsOf rules LAST (λ z. 2) placeOn) z g p l w
     return-shown l w q =
         let n = came .returns l w q in
-        let at37 : publisher s p .place ≡ 37 = second turn (n .0) in
-        let same-waits : looksOf s (publisher s p) b .walk .waits ≡ publisher s p .walk .waits = came .waits-are ∙ rw q refl in
-        let one : passedAt (publisher s p .place) ≡ 1 = rw at37 refl in
-        let both : passedAt (placeAfter (publisher s p .place) (looksOf s (publisher s p) b .reply)) ≡ 2 = rw q refl in
-        record {
-          none-pending = none-pending (rw q refl);
-          in-order = syncing-in-order kind law z g s (i .shared) p low high;
-          looks-are = omega (arith, n .1, n .2, came .counted, i .own .looks-counted p low);
-          waits-are = n .2 ∙ (same-waits ∙ sym (i .shared .tallied .waits p low));
-        }
-      where
-        second : (publisher s p .place ≡ 35) ⊎ (publisher s p .place ≡ 37) → publisher s p .place ≢ 35 → publisher s p .place ≡ 37
-        second (inl e) ne = absurd (ne e)
-        second (inr e) ne = e
+        return-good detector kind law z g s i p b lt low high (looksOf s (publisher s p) b) (came .waits-are) still-counted (traitsOf rules LAST (λ z. 2) placeOn) l w q
+        (none-pending (rw q refl)) (n .1) (n .2) (rw q refl)
 
-early-own : (g g′ : Ghost) (s : State) (w′ : List ℕ) (es′ : List ℤ) (p : ℕ) (y : Publisher) (cur rel : ℕ) → OwnOf g s → g′ .pend ≡ g .pend
-    → MovesPublisher (s .words) w′ p y cur (version (s .words)) rel → y .walk ≡ publisher s p .walk → y .place ≤ 34 → OwnOf g′ (state w′ es′)
-early-own g g′ s w′ es′ p y cur rel o same-pend m e low = rw (same-pend, m .head READERS-AT (omega arith), m .indicators-stay, m .readers-stay, m .publishers-are)
-    (publisher-own _ _ _ _ _ o p y _ (λ q r d. refl) (λ r q l. absurd (omega arith)) (λ l. absurd (omega arith)))
-
-start-own : (z : Given) (s : State) → OwnOf (ghost₀ firstTable) (made KIND-OLD noReader z s)
-start-own z s = record {
-  behind = λ p r e. clash (sym e);
-  looks-counted = λ p. rw (fresh-publisher KIND-OLD (z .readers) (z .publishers) (z .slots) (z .version) noReader p) (λ l. absurd (omega arith));
-  indicators = λ k _. fresh-indicator KIND-OLD (z .readers) (z .publishers) (z .slots) (z .version) noReader k ∙ sym (count-none (λ r. addedTo k (readerAt w r)) (readers w) (λ r l. none k r));
-}
+-- At the start no reader has added to an indicator.
+start-counted : (z : Given) (s : State) → let w = made KIND-OLD noReader z s .words in Counted (readers w) (indicator w) (readerAt w)
+start-counted z s k _ = fresh-indicator KIND-OLD (z .readers) (z .publishers) (z .slots) (z .version) noReader k ∙ sym (count-none (λ r. addedTo k (readerAt w r)) (readers w) (λ r l. none r))
   where
     w : List ℕ
     w = made KIND-OLD noReader z s .words
 
-    none : (k r : ℕ) → addedTo k (readerAt w r) ≡ false
-    none k r = rw (fresh-reader KIND-OLD (z .readers) (z .publishers) (z .slots) (z .version) noReader r) (pick-split (λ (x : Reader). addedTo k x ≡ false) (ltb r READERS-MAX) (λ _. refl) (λ _. refl))
+    none : (r : ℕ) → addedTo k (readerAt w r) ≡ false
+    none r = rw (fresh-reader KIND-OLD (z .readers) (z .publishers) (z .slots) (z .version) noReader r) (pick-split (λ (x : Reader). addedTo k x ≡ false) (ltb r READERS-MAX) (λ _. refl) (λ _. refl))
 
 -- From 35 to 37 a RAISE (36) or a WALK (35, 37) is in turn.
 goes-on : (rs ss : ℕ) (y : Publisher) → kind .publisherDamaged rs ss y ≡ false → 35 ≤ y .place → y .place ≤ 37 → (eqb (y .place) 36 ≡ true) ⊎ ((eqb (y .place) 35 || eqb (y .place) 37) ≡ true)
@@ -362,12 +247,12 @@ lawful = record {
   below-last = λ v l. ne-eqb v LAST (λ e. omega arith);
   goes-on = goes-on;
   no-looks = no-looks;
-  Own = OwnOf;
-  start-own = λ z s f. start-own z s;
+  Own = OwnOf detector;
+  start-own = λ z s f. start-own detector KIND-OLD noReader z s (start-counted z s);
   fresh-out = (refl, refl);
   fresh-reader-fits = λ ss. refl;
-  no-further = λ z g s i. counted-to s (i .own .indicators);
-  early-own = early-own;
+  no-further = λ z g s i. counted-to s (i .own .readers-are);
+  early-own = early-own detector;
   enter-moves = enter-moves;
   leave-moves = leave-moves;
   enter-place = λ s f r l low. onward-place (version (s .words)) (current (s .words)) (reader s r);

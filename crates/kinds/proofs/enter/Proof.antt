@@ -1,6 +1,6 @@
 -- `enter` meets its contract: words of another length and of no kind are refused; else the kind's own call is the step. Assumes nothing.
 use borrow.Author.Needs.{needs}
-use mathlib.Core.Path.{sym, _∙_}
+use mathlib.Core.Path.{_∙_}
 use Rattle.calls.specs.declared.Call.the-variants.{Enter}
 use Rattle.kinds_law.specs.Calls.{step-new, step-old, step-unknown, step-length}
 use Rattle.kinds.proofs.enter.Statement.{statement}
@@ -26,19 +26,19 @@ same-length : tie.Need-same-length
 same-length c = search needs
 
 returns-2 : tie.Need-returns-2
-returns-2 c = c .before .before .enter .ensures ∙ step-new _ (Enter _) (sym (c .before .before .before .before .before .kind-of .ensures) ∙ c .before .before .before .before .match .keys1)
+returns-2 c = c .before .before .enter .ensures ∙ step-new _ (Enter _) (c .before .before .before .before .before .kind-of .ensures) (c .before .before .before .before .match .keys1)
 
 same-length-2 : tie.Need-same-length-2
 same-length-2 c = search needs
 
 returns-3 : tie.Need-returns-3
-returns-3 c = c .before .before .enter2 .ensures ∙ step-old _ (Enter _) (sym (c .before .before .before .before .before .kind-of .ensures) ∙ c .before .before .before .before .match .keys2)
+returns-3 c = c .before .before .enter2 .ensures ∙ step-old _ (Enter _) (c .before .before .before .before .before .kind-of .ensures) (c .before .before .before .before .match .keys2)
 
 same-length-3 : tie.Need-same-length-3
 same-length-3 c = search needs
 
 returns-4 : tie.Need-returns-4
-returns-4 c = step-unknown _ (Enter _) (λ e. c .match .rest .0 .1 (c .before .kind-of .ensures ∙ e)) (λ e. c .match .rest .1 (c .before .kind-of .ensures ∙ e))
+returns-4 c = step-unknown _ (Enter _) (c .before .kind-of .ensures) (c .match .rest .0 .1) (c .match .rest .1)
 
 pub enter-spec : {M : Type 1} → statement M
 enter-spec =

@@ -1,6 +1,6 @@
 -- `look` meets its contract: words of another length and of no kind are refused; else the kind's own call is the step. Assumes nothing.
 use borrow.Author.Needs.{needs}
-use mathlib.Core.Path.{sym, _∙_}
+use mathlib.Core.Path.{_∙_}
 use Rattle.calls.specs.declared.Call.the-variants.{Look}
 use Rattle.kinds_law.specs.Calls.{step-new, step-old, step-unknown, step-length}
 use Rattle.kinds.proofs.look.Statement.{statement}
@@ -23,13 +23,13 @@ look-requires-2 : tie.Need-look-requires-2
 look-requires-2 c κs = tt
 
 returns-2 : tie.Need-returns-2
-returns-2 c = c .look .ensures ∙ step-new _ (Look _ _) (sym (c .before .before .kind-of .ensures) ∙ c .before .match .keys1)
+returns-2 c = c .look .ensures ∙ step-new _ (Look _ _) (c .before .before .kind-of .ensures) (c .before .match .keys1)
 
 returns-3 : tie.Need-returns-3
-returns-3 c = c .look2 .ensures ∙ step-old _ (Look _ _) (sym (c .before .before .kind-of .ensures) ∙ c .before .match .keys2)
+returns-3 c = c .look2 .ensures ∙ step-old _ (Look _ _) (c .before .before .kind-of .ensures) (c .before .match .keys2)
 
 returns-4 : tie.Need-returns-4
-returns-4 c = step-unknown _ (Look _ _) (λ e. c .match .rest .0 .1 (c .before .kind-of .ensures ∙ e)) (λ e. c .match .rest .1 (c .before .kind-of .ensures ∙ e))
+returns-4 c = step-unknown _ (Look _ _) (c .before .kind-of .ensures) (c .match .rest .0 .1) (c .match .rest .1)
 
 pub look-spec : {M : Type 1} → statement M
 look-spec =

@@ -1,7 +1,7 @@
 -- `write` meets its contract: words of another length and of no kind are refused; else the kind's own call is the step, and a pitch is the same number in 16 bits. Assumes nothing.
 use borrow.Author.Needs.{needs}
 use mir.ValLaws.{toZ-ofZ}
-use mathlib.Core.Path.{sym, _∙_}
+use mathlib.Core.Path.{_∙_}
 use Rattle.calls.specs.declared.Call.the-variants.{Write}
 use Rattle.kinds_law.specs.Calls.{step-new, step-old, step-unknown, step-length}
 use Rattle.kinds.proofs.write.Statement.{statement}
@@ -30,7 +30,7 @@ same-length-2 : tie.Need-same-length-2
 same-length-2 c = search needs
 
 returns-2 : tie.Need-returns-2
-returns-2 c = (simp (toZ-ofZ _ _ (c .before .before .before .before .before .before .before .before .before .before .before .fits .v)) at (c .before .before .before .write .ensures)) ∙ step-new _ (Write _ _) (sym (c .before .before .before .before .before .before .before .kind-of .ensures) ∙ c .before .before .before .before .before .before .match .keys1)
+returns-2 c = (simp (toZ-ofZ _ _ (c .before .before .before .before .before .before .before .before .before .before .before .fits .v)) at (c .before .before .before .write .ensures)) ∙ step-new _ (Write _ _) (c .before .before .before .before .before .before .before .kind-of .ensures) (c .before .before .before .before .before .before .match .keys1)
 
 same-length-3 : tie.Need-same-length-3
 same-length-3 c = search needs
@@ -39,13 +39,13 @@ same-length-4 : tie.Need-same-length-4
 same-length-4 c = search needs
 
 returns-3 : tie.Need-returns-3
-returns-3 c = (simp (toZ-ofZ _ _ (c .before .before .before .before .before .before .before .before .before .before .before .fits .v)) at (c .before .before .before .write2 .ensures)) ∙ step-old _ (Write _ _) (sym (c .before .before .before .before .before .before .before .kind-of .ensures) ∙ c .before .before .before .before .before .before .match .keys2)
+returns-3 c = (simp (toZ-ofZ _ _ (c .before .before .before .before .before .before .before .before .before .before .before .fits .v)) at (c .before .before .before .write2 .ensures)) ∙ step-old _ (Write _ _) (c .before .before .before .before .before .before .before .kind-of .ensures) (c .before .before .before .before .before .before .match .keys2)
 
 same-length-5 : tie.Need-same-length-5
 same-length-5 c = search needs
 
 returns-4 : tie.Need-returns-4
-returns-4 c = step-unknown _ (Write _ _) (λ e. c .match .rest .0 .1 (c .before .kind-of .ensures ∙ e)) (λ e. c .match .rest .1 (c .before .kind-of .ensures ∙ e))
+returns-4 c = step-unknown _ (Write _ _) (c .before .kind-of .ensures) (c .match .rest .0 .1) (c .match .rest .1)
 
 pub write-spec : {M : Type 1} → statement M
 write-spec =

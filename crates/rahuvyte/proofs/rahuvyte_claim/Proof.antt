@@ -1,6 +1,6 @@
 -- `rahuvyte_claim` meets its contract: the kind's own step, told by the kind word, its reply as numbers. Assumes nothing.
 use borrow.Author.Needs.{needs}
-use mathlib.Core.Path.{sym, _∙_}
+use mathlib.Core.Path.{_∙_}
 use Rattle.calls.specs.declared.Call.the-variants.{Claim}
 use Rattle.calls.specs.declared.Reply.the-variants.{Refused}
 use Rattle.calls.specs.Numbers.{DAMAGED}
@@ -43,19 +43,19 @@ same-length : tie.Need-same-length
 same-length c = search needs
 
 returns-2 : tie.Need-returns-2
-returns-2 c = answered _ _ _ _ (c .answer-of .ensures) (c .before .before .before .claim .ensures ∙ step-new _ (Claim _ _) (sym (c .before .before .before .before .before .before .kind-of .ensures) ∙ c .before .before .before .before .before .match .keys1))
+returns-2 c = answered _ _ _ _ (c .answer-of .ensures) (c .before .before .before .claim .ensures ∙ step-new _ (Claim _ _) (c .before .before .before .before .before .before .kind-of .ensures) (c .before .before .before .before .before .match .keys1))
 
 same-length-2 : tie.Need-same-length-2
 same-length-2 c = search needs
 
 returns-3 : tie.Need-returns-3
-returns-3 c = answered _ _ _ _ (c .answer-of2 .ensures) (c .before .before .before .claim2 .ensures ∙ step-old _ (Claim _ _) (sym (c .before .before .before .before .before .before .kind-of .ensures) ∙ c .before .before .before .before .before .match .keys2))
+returns-3 c = answered _ _ _ _ (c .answer-of2 .ensures) (c .before .before .before .claim2 .ensures ∙ step-old _ (Claim _ _) (c .before .before .before .before .before .before .kind-of .ensures) (c .before .before .before .before .before .match .keys2))
 
 same-length-3 : tie.Need-same-length-3
 same-length-3 c = search needs
 
 returns-4 : tie.Need-returns-4
-returns-4 c = answered _ (Refused DAMAGED) _ _ (c .numbers2 .ensures) (step-unknown _ (Claim _ _) (λ e. c .before .match .rest .0 .1 (c .before .before .kind-of .ensures ∙ e)) (λ e. c .before .match .rest .1 (c .before .before .kind-of .ensures ∙ e)))
+returns-4 c = answered _ (Refused DAMAGED) _ _ (c .numbers2 .ensures) (step-unknown _ (Claim _ _) (c .before .before .kind-of .ensures) (c .before .match .rest .0 .1) (c .before .match .rest .1))
 
 pub rahuvyte-claim-spec : {M : Type 1} → statement M
 rahuvyte-claim-spec =

@@ -1,6 +1,6 @@
 -- `rahuvyte_look` meets its contract: the kind's own step, told by the kind word, its reply as numbers. Assumes nothing.
 use borrow.Author.Needs.{needs}
-use mathlib.Core.Path.{sym, _∙_}
+use mathlib.Core.Path.{_∙_}
 use Rattle.calls.specs.declared.Call.the-variants.{Look}
 use Rattle.calls.specs.declared.Reply.the-variants.{Refused}
 use Rattle.calls.specs.Numbers.{DAMAGED}
@@ -40,13 +40,13 @@ numbers-requires-2 : tie.Need-numbers-requires-2
 numbers-requires-2 c κs = search needs
 
 returns-2 : tie.Need-returns-2
-returns-2 c = answered _ _ _ _ (c .answer-of .ensures) (c .before .look .ensures ∙ step-new _ (Look _ _) (sym (c .before .before .before .kind-of .ensures) ∙ c .before .before .match .keys1))
+returns-2 c = answered _ _ _ _ (c .answer-of .ensures) (c .before .look .ensures ∙ step-new _ (Look _ _) (c .before .before .before .kind-of .ensures) (c .before .before .match .keys1))
 
 returns-3 : tie.Need-returns-3
-returns-3 c = answered _ _ _ _ (c .answer-of2 .ensures) (c .before .look2 .ensures ∙ step-old _ (Look _ _) (sym (c .before .before .before .kind-of .ensures) ∙ c .before .before .match .keys2))
+returns-3 c = answered _ _ _ _ (c .answer-of2 .ensures) (c .before .look2 .ensures ∙ step-old _ (Look _ _) (c .before .before .before .kind-of .ensures) (c .before .before .match .keys2))
 
 returns-4 : tie.Need-returns-4
-returns-4 c = answered _ (Refused DAMAGED) _ _ (c .numbers2 .ensures) (step-unknown _ (Look _ _) (λ e. c .before .match .rest .0 .1 (c .before .before .kind-of .ensures ∙ e)) (λ e. c .before .match .rest .1 (c .before .before .kind-of .ensures ∙ e)))
+returns-4 c = answered _ (Refused DAMAGED) _ _ (c .numbers2 .ensures) (step-unknown _ (Look _ _) (c .before .before .kind-of .ensures) (c .before .match .rest .0 .1) (c .before .match .rest .1))
 
 pub rahuvyte-look-spec : {M : Type 1} → statement M
 rahuvyte-look-spec =

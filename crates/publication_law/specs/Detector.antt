@@ -1,0 +1,151 @@
+-- What a kind adds to the shared invariant to know that a walk waits long enough: of each reader that a synchronise still waits for, of the looks of each walk,
+-- and of its readers. It is kept wherever what the kind says of the record that moves holds; so a kind shows only that. Assumes nothing.
+use Prim.Native.Nat.{ℕ, _+_, _<_, _≤_}
+use native.Mathlib.Omega.{arith}
+use mathlib.Core.Path.{_≡_, refl, sym, _∙_}
+use mathlib.Core.Bool.{Bool, true, false}
+use mathlib.Core.List.{List}
+use lib.IntN.{ℤ}
+use lib.Dec.{eqb}
+use borrow.Author.Tests.{leb-true, leb-false}
+use Rattle.calls.specs.declared.Call.the-variants.{Enter, Leave, Sync, Walk}
+use Rattle.calls.specs.declared.Reply.the-variants.{At, Left, Synced, Walked}
+use Rattle.calls.specs.declared.WalkReply.the-variants.{Returned}
+use Rattle.calls.specs.Base.{upd}
+use Rattle.calls.specs.RowLaws.{clash, pick-split, same, at-or, AllClear}
+use Rattle.calls.specs.Model.{firstTable}
+use Rattle.layout.specs.declared.Reader.{Reader}
+use Rattle.layout.specs.declared.Publisher.{Publisher}
+use Rattle.layout.specs.declared.Progress.{Progress}
+use Rattle.layout.specs.Layout.{READERS-AT, VERSION-AT, readers, publishers, slots, current, version, releases, indicator, readerAt, publisherAt}
+use Rattle.layout.specs.Laws.{fresh-publisher}
+use Rattle.statement.specs.Machine.{State, state, Outcome, Given}
+use Rattle.statement.specs.Companions.{Traits}
+use Rattle.statement.specs.Kept.{Pend, Ghost, ghost₀, advance, Back}
+use Rattle.publication_law.specs.Steps.{reader, publisher, atPlace, syncTests, sync, newWalk, raise, placeAfter, walked, walk, made}
+use Rattle.publication_law.specs.Damage.{Kind}
+use Rattle.publication_law.specs.KindLaw.{KindLaw}
+use Rattle.publication_law.specs.Core.{Onward}
+use Rattle.publication_law.specs.Decide.{raise-split}
+use Rattle.publication_law.specs.Moves.{MovesPublisher, MovesReader, publisher-moves, publisher-moves-head}
+use Rattle.publication_law.specs.Keeps.{waitsAfter, enter-keeps, leave-keeps, sync-keeps, raise-keeps, walk-keeps, syncing-in-order}
+use Rattle.publication_law.specs.Lawful.{Good}
+
+pub record Detector : Type 1 where
+  -- what holds of reader r of n, here x, while a synchronise of publisher y waits for it; below 35 that is of the walk's numbers alone
+  pub Behind : ℕ → Reader → Publisher → ℕ → Type 0
+  pub early : (n : ℕ) (x : Reader) (y y′ : Publisher) (r : ℕ) → y′ .walk ≡ y .walk → y′ .place ≤ 34 → Behind n x y r → Behind n x y′ r
+  -- how many of a walk's looks passed
+  pub passed : Publisher → ℕ
+  -- what holds of the n readers and the indicators at a version
+  pub Readers : ℕ → ℕ → (ℕ → ℕ) → (ℕ → Reader) → Type 0
+
+pub record Own (D : Detector) (w : Pend) (ver n : ℕ) (ind : ℕ → ℕ) (R : ℕ → Reader) (P : ℕ → Publisher) : Type 0 where
+  pub behind : (p r : ℕ) → w p r ≡ true → D .Behind n (R r) (P p) r
+  -- each look passed or waited
+  pub counted : (p : ℕ) → 35 ≤ P p .place → P p .walk .looks ≡ D .passed (P p) + P p .walk .waits
+  pub readers-are : D .Readers ver n ind R
+
+abbrev pub OwnOf : Detector → Ghost → State → Type 0
+OwnOf D g s = Own D (g .pend) (version (s .words)) (readers (s .words)) (indicator (s .words)) (readerAt (s .words)) (publisherAt (s .words))
+
+module _ (D : Detector) where
+  -- At the start nobody is waited for.
+  pub start-own : (k : ℕ) (x : Reader) (z : Given) (s : State) → (let w = made k x z s .words in D .Readers (version w) (readers w) (indicator w) (readerAt w)) → OwnOf D (ghost₀ firstTable) (made k x z s)
+  start-own k x z s f = record {
+    behind = λ p r e. clash (sym e);
+    counted = λ p. rw (fresh-publisher k (z .readers) (z .publishers) (z .slots) (z .version) x p) (λ l. absurd (omega arith));
+    readers-are = f;
+  }
+
+  -- A reader moves, and is waited for only where it was and what holds of it stays.
+  reader-own : (g g′ : Ghost) (s : State) (w′ : List ℕ) (r : ℕ) (x : Reader) → OwnOf D g s → MovesReader (s .words) w′ r x → ((p q : ℕ) → g′ .pend p q ≡ true → g .pend p q ≡ true)
+      → ((p : ℕ) → g′ .pend p r ≡ true → D .Behind (readers (s .words)) (reader s r) (publisher s p) r → D .Behind (readers (s .words)) x (publisher s p) r)
+      → D .Readers (version (s .words)) (readers (s .words)) (indicator w′) (upd (readerAt (s .words)) r x) → OwnOf D g′ (state w′ (s .entries))
+  reader-own g g′ s w′ r x o m sub stays f = rw (m .head VERSION-AT (omega arith), m .head READERS-AT (omega arith), m .readers-are, m .publishers-stay) (record {
+    behind = λ p. at-or r (rw (same r) (λ e. stays p e (o .behind p r (sub p r e)))) (λ j d. rw d (λ e. o .behind p j (sub p j e)));
+    counted = o .counted;
+    readers-are = f;
+  })
+
+  -- A publisher moves, and perhaps the version.
+  moved-own : (g g′ : Ghost) (s : State) (w′ : List ℕ) (es′ : List ℤ) (p : ℕ) (y : Publisher) (cur ver rel : ℕ) → OwnOf D g s → MovesPublisher (s .words) w′ p y cur ver rel
+      → ((q r : ℕ) → eqb q p ≡ false → g′ .pend q r ≡ g .pend q r) → ((r : ℕ) → g′ .pend p r ≡ true → D .Behind (readers (s .words)) (reader s r) y r)
+      → (35 ≤ y .place → y .walk .looks ≡ D .passed y + y .walk .waits) → D .Readers ver (readers (s .words)) (indicator (s .words)) (readerAt (s .words)) → OwnOf D g′ (state w′ es′)
+  moved-own g g′ s w′ es′ p y cur ver rel o m others a c f = rw (m .version-is, m .head READERS-AT (omega arith), m .indicators-stay, m .readers-stay, m .publishers-are) (record {
+    behind = at-or p (rw (same p) a) (λ q e r. rw (e, others q r e) (o .behind q r));
+    counted = at-or p (rw (same p) c) (λ q e. rw e (o .counted q));
+    readers-are = f;
+  })
+
+  pub early-own : (g g′ : Ghost) (s : State) (w′ : List ℕ) (es′ : List ℤ) (p : ℕ) (y : Publisher) (cur rel : ℕ) → OwnOf D g s → g′ .pend ≡ g .pend
+      → MovesPublisher (s .words) w′ p y cur (version (s .words)) rel → y .walk ≡ publisher s p .walk → y .place ≤ 34 → OwnOf D g′ (state w′ es′)
+  early-own g g′ s w′ es′ p y cur rel o same-pend m e low = moved-own g g′ s w′ es′ p y cur _ rel o m (λ q r d. rw same-pend refl)
+      (λ r. rw same-pend (λ q. D .early _ _ (publisher s p) y r e low (o .behind p r q))) (λ l. absurd (omega arith)) (o .readers-are)
+
+  module _ (K : Kind) (law : KindLaw K) (z : Given) (g : Ghost) (s : State) (i : Good K (OwnOf D) z g s) where
+    -- ENTER: what holds of a reader in a section stays; LEAVE: it is waited for no more.
+    module _ (w′ : List ℕ) (r : ℕ) (x : Reader) (m : MovesReader (s .words) w′ r x) (ok : K .readerDamaged (slots (s .words)) x ≡ false)
+        (f : D .Readers (version (s .words)) (readers (s .words)) (indicator w′) (upd (readerAt (s .words)) r x)) where
+      pub enter-good : r < readers (s .words) → Onward (current (s .words)) (reader s r .place) (reader s r .picked) (x .place) (x .picked)
+          → (4 ≤ reader s r .place → (y : Publisher) → D .Behind (readers (s .words)) (reader s r) y r → D .Behind (readers (s .words)) x y r)
+          → Good K (OwnOf D) z (advance g (Enter r) (At (x .place))) (state w′ (s .entries))
+      enter-good rn on stays = record {
+        shared = enter-keeps K law z g s (i .shared) w′ r x m ok rn on;
+        own = reader-own g (advance g (Enter r) (At (x .place))) s w′ r x (i .own) m (λ p q e. e) (λ p e. stays (i .shared .grace .awaited p r e .opened) (publisher s p)) f;
+      }
+
+      pub leave-good : x .place ≡ 0 → Good K (OwnOf D) z (advance g (Leave r) Left) (state w′ (s .entries))
+      leave-good out = record {
+        shared = leave-keeps K law z g s (i .shared) w′ r x m ok out;
+        own = reader-own g (advance g (Leave r) Left) s w′ r x (i .own) m
+            (λ p q. pick-split (λ (b : Bool). b ≡ true → g .pend p q ≡ true) (eqb q r) (λ _ e. clash (sym e)) (λ _ e. e)) (λ p. rw (same r) (λ e. clash (sym e))) f;
+      }
+
+    pub sync-good : (p : ℕ) → AllClear (syncTests (K .versions) s p)
+        → (let y : Publisher = record { place = 35; held = publisher s p .held; walk = newWalk (K .versions .markAt (version (s .words))) } in
+        law .own (readers (s .words)) y ≡ false → D .passed y ≡ 0 → ((r : ℕ) → 4 ≤ reader s r .place → D .Behind (readers (s .words)) (reader s r) y r)
+        → Good K (OwnOf D) z (advance g (Sync p) (Synced (K .versions .markAt (version (s .words))))) (sync (K .versions) s p .after))
+    sync-good p f clear none open-behind =
+        let y : Publisher = record { place = 35; held = publisher s p .held; walk = newWalk (K .versions .markAt (version (s .words))) } in record {
+          shared = sync-keeps K law z g s (i .shared) p f clear;
+          own = moved-own g (advance g (Sync p) (Synced (K .versions .markAt (version (s .words))))) s _ (s .entries) p y _ _ _ (i .own) (publisher-moves (i .shared .fine) p y (leb-false _ _ (f .0))) (λ q r e. rw e refl)
+              (λ r. rw (same p) (λ e. open-behind r (leb-true 4 (reader s r .place) (sym (i .shared .core .readers r .inside-is) ∙ e)))) (λ l. rw none refl) (i .own .readers-are);
+        }
+
+    -- RAISE, at 35 or 36; the raised version is the mark.
+    pub raise-good : (p : ℕ) → p < publishers (s .words) → 35 ≤ publisher s p .place → publisher s p .place ≤ 36 → law .own (readers (s .words)) (atPlace (publisher s p) 37) ≡ false
+        → D .passed (atPlace (publisher s p) 37) ≡ D .passed (publisher s p)
+        → ((r : ℕ) → D .Behind (readers (s .words)) (reader s r) (publisher s p) r → D .Behind (readers (s .words)) (reader s r) (atPlace (publisher s p) 37) r)
+        → (version (s .words) ≡ K .versions .beforeMark (publisher s p .walk .mark) → D .Readers (publisher s p .walk .mark) (readers (s .words)) (indicator (s .words)) (readerAt (s .words)))
+        → Good K (OwnOf D) z g (raise (K .versions) s p .after)
+    raise-good p lt low high clear passes still-behind raised = record {
+      shared = raise-keeps K law z g s (i .shared) p lt low high clear;
+      own = raise-split (λ (o : Outcome). OwnOf D g (o .after)) (K .versions) s p
+          (λ e. to _ _ (publisher-moves-head (i .shared .fine) p (atPlace (publisher s p) 37) lt VERSION-AT (publisher s p .walk .mark) (omega arith) (omega arith)) (raised e))
+          (to _ _ (publisher-moves (i .shared .fine) p (atPlace (publisher s p) 37) lt) (i .own .readers-are));
+    }
+      where
+        to : (w′ : List ℕ) (ver : ℕ) → MovesPublisher (s .words) w′ p (atPlace (publisher s p) 37) (current (s .words)) ver (releases (s .words))
+            → D .Readers ver (readers (s .words)) (indicator (s .words)) (readerAt (s .words)) → OwnOf D g (state w′ (s .entries))
+        to w′ ver m f = moved-own g g s w′ (s .entries) p _ _ _ _ (i .own) m (λ q r d. refl) (λ r q. still-behind r (i .own .behind p r q)) (λ _. rw passes (i .own .counted p low)) f
+
+    -- WALK, at 35 to 37: what its looks came to keeps the mark, counts them, and returns only where nobody is waited for.
+    module _ (p b : ℕ) (lt : p < publishers (s .words)) (low : 35 ≤ publisher s p .place) (high : publisher s p .place ≤ 37) (k : Progress)
+        (waits-are : k .walk .waits ≡ waitsAfter (publisher s p .walk .waits) (k .reply)) (counted : k .walk .looks ≡ D .passed (walked (publisher s p) k) + k .walk .waits) where
+      pub walk-good : (placeAfter (publisher s p .place) (k .reply) ≡ 38 → (r : ℕ) → g .pend p r ≡ false) → k .walk .mark ≡ publisher s p .walk .mark → law .own (readers (s .words)) (walked (publisher s p) k) ≡ false
+          → ((r : ℕ) → g .pend p r ≡ true → D .Behind (readers (s .words)) (reader s r) (walked (publisher s p) k) r)
+          → Good K (OwnOf D) z (advance g (Walk p b) (Walked (k .reply))) (walk s p k .after)
+      walk-good done same-mark clear still-behind = record {
+        shared = walk-keeps K law z g s (i .shared) p b lt low high k done waits-are same-mark (omega arith) clear;
+        own = moved-own g (advance g (Walk p b) (Walked (k .reply))) s _ (s .entries) p _ _ _ _ (i .own) (publisher-moves (i .shared .fine) p (walked (publisher s p) k) lt) (λ q r e. refl) still-behind (λ _. counted) (i .own .readers-are);
+      }
+
+      pub return-good : (T : Traits) (l w : ℕ) → k .reply ≡ Returned l w → ((r : ℕ) → g .pend p r ≡ false) → l ≡ k .walk .looks → w ≡ k .walk .waits → D .passed (walked (publisher s p) k) ≡ T .passes z → Back T z g p l w
+      return-good T l w q none-pending looks waits passes =
+          let same-waits : k .walk .waits ≡ publisher s p .walk .waits = waits-are ∙ rw q refl in record {
+            none-pending = none-pending;
+            in-order = syncing-in-order K law z g s (i .shared) p low high;
+            looks-are = omega arith;
+            waits-are = waits ∙ (same-waits ∙ sym (i .shared .tallied .waits p low));
+          }
