@@ -1,6 +1,6 @@
 -- Demand 3 and its companions hold of the new store.
 -- Why: a reader whose section was open at a SYNC published a version below that mark, and keeps it until it leaves; so the walk does not pass it before. Assumes nothing.
-use Prim.Native.Nat.{ℕ, zero, suc, _+_, _-_, _<_, _≤_}
+use Prim.Native.Nat.{ℕ, zero, suc, _+_, _<_, _≤_}
 use native.Mathlib.Omega.{arith}
 use mathlib.Core.Path.{_≡_, refl, sym, _∙_, subst}
 use mathlib.Core.Logic.{_≢_, _⊎_, inl, inr}

@@ -7,21 +7,29 @@ use mathlib.Core.List.{List}
 use lib.IntN.{ℤ, pos}
 use lib.ListN.{getD, replicate}
 use Rattle.calls.specs.declared.Call.{Call}
-use Rattle.calls.specs.declared.Call.the-variants.{Claim}
-use Rattle.calls.specs.declared.Reply.the-variants.{Refused}
+use Rattle.calls.specs.declared.Call.the-variants.{Claim, Walk}
+use Rattle.calls.specs.declared.Reply.the-variants.{Walked, Refused}
+use Rattle.calls.specs.declared.WalkReply.the-variants.{Spent}
 use Rattle.calls.specs.AnswerLaws.{NarrowPitch, Proper}
+use Rattle.calls.specs.Events.{accepted}
 use Rattle.calls.specs.Model.{firstTable}
-use Rattle.layout.specs.Layout.{WORDS, kind}
+use Rattle.layout.specs.Layout.{WORDS, kind, indicator}
 use Rattle.statement.specs.Machine.{State, state, Given, Fresh, afterAll}
 use Rattle.statement.specs.Demand3.{Demand3}
 use Rattle.statement.specs.Companions.{MakingAccepts, RefusedLeaves, Frame, Companions}
 use Rattle.statement.specs.Alike.{fresh-alike, after-alike, demand3-alike, companions-alike, making-accepts-alike}
 use Rattle.publication_law.specs.DamageLaws.{zero-damaged}
+use Rattle.publication_law.specs.Steps.{publisher}
 use Rattle.publication_law.specs.Rules.{damaged}
 use Rattle.publication_law.specs.Calls.{undamaged-fine}
+use Rattle.publication_law.specs.Promises.{WalkFacts}
+use Rattle.grace_version_law.specs.Steps as new-store
 use Rattle.grace_version_law.specs.Promises as new-promises
+use Rattle.two_phase_law.specs.Steps as old-store
+use Rattle.two_phase_law.specs.Counts.{Looked}
+use Rattle.two_phase_law.specs.Promises as old-promises
 use Rattle.kinds_law.specs.Kinds.{Name, rulesOf, number, named, anyStep, anyMaking, store}
-use Rattle.kinds_law.specs.Kinds.Name.{new}
+use Rattle.kinds_law.specs.Kinds.Name.{new, old}
 use Rattle.kinds_law.specs.Calls.{step-named}
 use Rattle.guarantees.specs.Named.{storeOf, traits, own, alike, by-number, chosen-refused-leaves, chosen-frame, chosen-proper, chosen-proper-making}
 
@@ -50,14 +58,12 @@ refused-leaves n = record {
   making = chosen-refused-leaves (named n) .making;
 }
 
--- A call moves the record that it names, and no other.
+-- A call moves the record that it names and perhaps one number of the head, and nothing else.
 pub frame : (n : ℕ) → Frame (store n)
 unfolding anyStep
 frame n = record {
-  records = λ s. chosen-frame (named (kind (s .words))) .records s;
-  walk-head = λ s. chosen-frame (named (kind (s .words))) .walk-head s;
+  words = λ s. chosen-frame (named (kind (s .words))) .words s;
   entries = λ s. chosen-frame (named (kind (s .words))) .entries s;
-  current = λ s. chosen-frame (named (kind (s .words))) .current s;
 }
 
 -- Every reply of a store whose entries are pitches of 64 bits has an answer that no other proper reply has.
@@ -76,3 +82,16 @@ zero-store-damaged k es = zero-damaged (rulesOf k) es
 -- The new store may not refuse another publisher as busy: a claim on an undamaged one is refused only for a wrong name, a wrong turn or a slot in use.
 pub claim-refusals : (s : State) (p x n : ℕ) → damaged (rulesOf new) s ≡ false → anyStep s (Claim p x) .reply ≡ Refused n → new-promises.ClaimRefusal n
 claim-refusals s p x n fine e = new-promises.new-claim-refusals s p x n fine (rw (step-named new s (Claim p x) (undamaged-fine (rulesOf new) s fine .head .kind-is)) at e)
+
+-- What a WALK says, on words of each kind: reply and record are those of the looks made; waiting names the one that did not pass, spent says that all b looks passed.
+pub walk-facts-new : (s : State) (p b : ℕ) → kind (s .words) ≡ number new → accepted (anyStep s (Walk p b) .reply) ≡ true
+    → let k = new-store.looksOf s (publisher s p .walk) b in WalkFacts s p k (new-promises.WalkLooks s p b k) (anyStep s (Walk p b))
+walk-facts-new s p b is = rw (step-named new s (Walk p b) is) (new-promises.new-walk-facts s p b)
+
+pub walk-facts-old : (s : State) (p b : ℕ) → kind (s .words) ≡ number old → accepted (anyStep s (Walk p b) .reply) ≡ true
+    → let k = old-store.looksOf s (publisher s p) b in WalkFacts s p k (Looked (indicator (s .words) (old-store.watched (publisher s p))) (publisher s p) b k) (anyStep s (Walk p b))
+walk-facts-old s p b is = rw (step-named old s (Walk p b) is) (old-promises.old-walk-facts s p b)
+
+-- A WALK with no looks that replies spent leaves the whole state as it was.
+pub walk-zero : (k : Name) (s : State) (p : ℕ) → kind (s .words) ≡ number k → anyStep s (Walk p 0) .reply ≡ Walked Spent → anyStep s (Walk p 0) .after ≡ s
+walk-zero k s p is = rw (step-named k s (Walk p 0) is) (own k .walk-zero s p)

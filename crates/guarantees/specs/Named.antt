@@ -68,7 +68,7 @@ chosen-refused-leaves none = record { step = λ s c n e. refl; making = λ g s n
 chosen-refused-leaves (some k) = own k .refused-leaves
 
 pub chosen-frame : (o : Option Name) → Frame (Chosen o)
-chosen-frame none = record { records = λ s c. same-framed c (s .words); walk-head = λ s p b k l. refl; entries = λ s c ne. refl; current = λ s c ne. refl }
+chosen-frame none = record { words = λ s c. same-framed c (s .words); entries = λ s c ne. refl }
 chosen-frame (some k) = own k .frame
 
 pub chosen-proper : (o : Option Name) (s : State) (c : Call) → ((j : ℕ) → NarrowPitch (getD (s .entries) j (pos 0))) → Proper (stepOf o s c .reply)

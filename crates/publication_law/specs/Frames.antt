@@ -1,13 +1,16 @@
--- A call moves the record of the reader or publisher that it names, and of no other: for every state. Assumes nothing.
-use Prim.Native.Nat.{ℕ, _<_}
+-- A call moves the record of the reader or publisher that it names and perhaps one number of the head, and nothing else: for every state. Assumes nothing.
+use Prim.Native.Nat.{ℕ, _<_, _≤_}
 use native.Mathlib.Omega.{arith}
 use mathlib.Core.Path.{_≡_, refl, sym, ap, _∙_}
 use mathlib.Core.Logic.{_≢_}
-use mathlib.Core.Bool.{Bool}
+use mathlib.Core.Bool.{Bool, false}
 use mathlib.Core.List.{List}
 use mathlib.Core.Option.{some}
 use lib.IntN.{ℤ}
-use borrow.Author.Tests.{ne-eqb, leb-false}
+use lib.ListN.{getD, set}
+use lib.Seq.{getD-set-other}
+use lib.Dec.{ltb, eqb}
+use borrow.Author.Tests.{ne-eqb, eqb-false, leb-false, ltb-false}
 use Rattle.calls.specs.declared.Call.{Call}
 use Rattle.calls.specs.declared.Call.the-variants.{Claim, Write, Swap, Sync, Raise, Walk, Release}
 use Rattle.calls.specs.Base.{upd}
@@ -15,10 +18,10 @@ use Rattle.calls.specs.RowLaws.{AllClear, same}
 use Rattle.layout.specs.declared.Reader.{Reader}
 use Rattle.layout.specs.declared.Publisher.{Publisher}
 use Rattle.layout.specs.declared.Progress.{Progress}
-use Rattle.layout.specs.Layout.{CURRENT-AT, VERSION-AT, RELEASES-AT, publishers, readerAt, publisherAt}
-use Rattle.layout.specs.Laws.{publisher-put}
+use Rattle.layout.specs.Layout.{HEAD, CURRENT-AT, VERSION-AT, RELEASES-AT, publishers, readerAt, publisherAt, withPublisher}
+use Rattle.layout.specs.Laws.{publisher-put, head-publisher}
 use Rattle.statement.specs.Machine.{State, Outcome}
-use Rattle.statement.specs.Companions.{readerNamed, publisherNamed, Framed}
+use Rattle.statement.specs.Companions.{readerNamed, publisherNamed, headNamed, Framed}
 use Rattle.publication_law.specs.Steps.{Versions, publisher, claim, claimTests, write, writeTests, swap, swapTests, sync, syncTests, raise, walk, walked, release, releaseTests, oneMore}
 use Rattle.publication_law.specs.Damage.{Kind}
 use Rattle.publication_law.specs.DamageLaws.{Fine, publisher-below}
@@ -26,49 +29,61 @@ use Rattle.publication_law.specs.Decide.{raise-split}
 use Rattle.publication_law.specs.Moves.{MovesPublisher, MovesReader, publisher-moves, publisher-moves-head}
 
 pub same-framed : (c : Call) (w : List ℕ) → Framed c w w
-same-framed c w = record { readers = λ r ne. refl; publishers = λ p ne. refl }
+same-framed c w = record { readers = λ r ne. refl; publishers = λ p ne. refl; head = λ k l e. refl }
 
 upd-other : {A : Type 0} (f : ℕ → A) (i : ℕ) (a : A) (j : ℕ) → i ≢ j → upd f i a j ≡ f j
 upd-other f i a j ne = rw (ne-eqb j i (λ z. ne (sym z))) refl
 
-pub publisher-framed : (c : Call) (w w′ : List ℕ) (p : ℕ) (y : Publisher) (cur ver rel : ℕ) → MovesPublisher w w′ p y cur ver rel → publisherNamed c ≡ some p → Framed c w w′
-publisher-framed c w w′ p y cur ver rel m e = record {
+publisher-framed : (c : Call) (w w′ : List ℕ) (p : ℕ) (y : Publisher) (cur ver rel : ℕ) → MovesPublisher w w′ p y cur ver rel → publisherNamed c ≡ some p
+    → ((k : ℕ) → k < HEAD → headNamed c k ≡ false → getD w′ k 0 ≡ getD w k 0) → Framed c w w′
+publisher-framed c w w′ p y cur ver rel m e stays = record {
   readers = λ r ne. ap (λ (f : ℕ → Reader). f r) (m .readers-stay);
   publishers = λ q ne. ap (λ (f : ℕ → Publisher). f q) (m .publishers-are) ∙ upd-other (publisherAt w) p y q (λ z. ne (e ∙ ap some z));
+  head = stays;
 }
 
-pub reader-framed : (c : Call) (w w′ : List ℕ) (r : ℕ) (x : Reader) → MovesReader w w′ r x → readerNamed c ≡ some r → Framed c w w′
-reader-framed c w w′ r x m e = record {
+-- ENTER and LEAVE, of whichever kind.
+pub reader-framed : (c : Call) (w w′ : List ℕ) (r : ℕ) (x : Reader) → MovesReader w w′ r x → readerNamed c ≡ some r → headNamed c ≡ (λ k. ltb RELEASES-AT k) → Framed c w w′
+reader-framed c w w′ r x m e named = record {
   readers = λ q ne. ap (λ (f : ℕ → Reader). f q) (m .readers-are) ∙ upd-other (readerAt w) r x q (λ z. ne (e ∙ ap some z));
   publishers = λ p ne. ap (λ (f : ℕ → Publisher). f p) (m .publishers-stay);
+  head = λ k l n. m .head k (ltb-false RELEASES-AT k (sym (ap (λ (f : ℕ → Bool). f k) named) ∙ n));
 }
 
 module _ (K : Kind) (s : State) (f : Fine K s) where
+  -- A call that moves its publisher's record alone.
+  record-framed : (c : Call) (p : ℕ) (y : Publisher) → p < publishers (s .words) → publisherNamed c ≡ some p → Framed c (s .words) (withPublisher (s .words) p y)
+  record-framed c p y lt e = publisher-framed c _ _ p _ _ _ _ (publisher-moves f p y lt) e (λ k l n. head-publisher (s .words) p y k l)
+
+  -- .. and one that moves number j of the head besides.
+  head-framed : (c : Call) (p : ℕ) (y : Publisher) (j v : ℕ) → p < publishers (s .words) → CURRENT-AT ≤ j → j ≤ RELEASES-AT → publisherNamed c ≡ some p → headNamed c ≡ (λ k. eqb k j)
+      → Framed c (s .words) (set (withPublisher (s .words) p y) j v)
+  head-framed c p y j v lt low high e named = publisher-framed c _ _ p _ _ _ _ (publisher-moves-head f p y lt j v low high) e
+      (λ k l n. getD-set-other (withPublisher (s .words) p y) j k v 0 (eqb-false k j (sym (ap (λ (g : ℕ → Bool). g k) named) ∙ n)) ∙ head-publisher (s .words) p y k l)
+
   pub claim-framed : (e : Bool) (p x : ℕ) → AllClear (claimTests e s p x) → Framed (Claim p x) (s .words) (claim s p x .after .words)
-  claim-framed e p x c = publisher-framed (Claim p x) _ _ p _ _ _ _ (publisher-moves f p _ (leb-false _ _ (c .0))) refl
+  claim-framed e p x c = record-framed (Claim p x) p _ (leb-false _ _ (c .0)) refl
 
   pub write-framed : (p : ℕ) (v : ℤ) → AllClear (writeTests s p v) → Framed (Write p v) (s .words) (write s p v .after .words)
-  write-framed p v c = publisher-framed (Write p v) _ _ p _ _ _ _ (publisher-moves f p _ (leb-false _ _ (c .0))) refl
+  write-framed p v c = record-framed (Write p v) p _ (leb-false _ _ (c .0)) refl
 
   pub swap-framed : (p : ℕ) → AllClear (swapTests s p) → Framed (Swap p) (s .words) (swap s p .after .words)
-  swap-framed p c = publisher-framed (Swap p) _ _ p _ _ _ _
-      (publisher-moves-head f p _ (leb-false _ _ (c .0)) CURRENT-AT (publisher s p .held) (omega arith) (omega arith)) refl
+  swap-framed p c = head-framed (Swap p) p _ CURRENT-AT (publisher s p .held) (leb-false _ _ (c .0)) (omega arith) (omega arith) refl refl
 
   pub sync-framed : (vs : Versions) (p : ℕ) → AllClear (syncTests vs s p) → Framed (Sync p) (s .words) (sync vs s p .after .words)
-  sync-framed vs p c = publisher-framed (Sync p) _ _ p _ _ _ _ (publisher-moves f p _ (leb-false _ _ (c .0))) refl
+  sync-framed vs p c = record-framed (Sync p) p _ (leb-false _ _ (c .0)) refl
 
   pub raise-framed : (vs : Versions) (p : ℕ) → p < publishers (s .words) → Framed (Raise p) (s .words) (raise vs s p .after .words)
   raise-framed vs p lt = raise-split (λ (o : Outcome). Framed (Raise p) (s .words) (o .after .words)) vs s p
-      (λ e. publisher-framed (Raise p) _ _ p _ _ _ _ (publisher-moves-head f p _ lt VERSION-AT (publisher s p .walk .mark) (omega arith) (omega arith)) refl)
-      (publisher-framed (Raise p) _ _ p _ _ _ _ (publisher-moves f p _ lt) refl)
+      (λ e. head-framed (Raise p) p _ VERSION-AT (publisher s p .walk .mark) lt (omega arith) (omega arith) refl refl)
+      (record-framed (Raise p) p _ lt refl)
 
   -- A WALK leaves its publisher's record with what its looks came to.
   pub walk-record : (p : ℕ) → p < publishers (s .words) → (k : Progress) → publisher (walk s p k .after) p ≡ walked (publisher s p) k
   walk-record p lt k = ap (λ (g : ℕ → Publisher). g p) (publisher-put (λ (y : Publisher). y) (s .words) p (walked (publisher s p) k) (f .head .long) (publisher-below K s f p lt)) ∙ rw (same p) refl
 
   pub walk-framed : (p b : ℕ) (k : Progress) → p < publishers (s .words) → Framed (Walk p b) (s .words) (walk s p k .after .words)
-  walk-framed p b k lt = publisher-framed (Walk p b) _ _ p _ _ _ _ (publisher-moves f p _ lt) refl
+  walk-framed p b k lt = record-framed (Walk p b) p _ lt refl
 
   pub release-framed : (p : ℕ) → AllClear (releaseTests s p) → Framed (Release p) (s .words) (release s p .after .words)
-  release-framed p c = publisher-framed (Release p) _ _ p _ _ _ _
-      (publisher-moves-head f p _ (leb-false _ _ (c .0)) RELEASES-AT (oneMore s) (omega arith) (omega arith)) refl
+  release-framed p c = head-framed (Release p) p _ RELEASES-AT (oneMore s) (leb-false _ _ (c .0)) (omega arith) (omega arith) refl refl

@@ -10,7 +10,6 @@ use mathlib.Core.Option.{some}
 use lib.IntN.{ℤ, pos}
 use lib.Signed.{ltZ}
 use lib.ListN.{getD, length}
-use lib.Seq.{getD-set-other}
 use lib.Dec.{leb, eqb}
 use borrow.Author.Tests.{eqb-true, eqb-false, eq-eqb, ne-eqb, leb-false, lt-leb, le-ltb, not-false}
 use Rattle.calls.specs.declared.Call.{Call}
@@ -29,8 +28,8 @@ use Rattle.calls.specs.Told.{holds}
 use Rattle.calls.specs.Tally.{Phase}
 use Rattle.calls.specs.Tally.Phase.{writing, swapped, syncing, returned}
 use Rattle.layout.specs.declared.Publisher.{Publisher}
-use Rattle.layout.specs.Layout.{CURRENT-AT, VERSION-AT, RELEASES-AT, readers, publishers, slots, current, version, noPublisher, withPublisher}
-use Rattle.layout.specs.Laws.{head-publisher, publisher-back}
+use Rattle.layout.specs.Layout.{CURRENT-AT, RELEASES-AT, readers, publishers, slots, current, version, noPublisher}
+use Rattle.layout.specs.Laws.{publisher-back}
 use Rattle.statement.specs.Machine.{State, state, Outcome, outcome, Given, Fresh, afterAll}
 use Rattle.statement.specs.Demand3.{Demand3}
 use Rattle.statement.specs.Companions.{MakingAccepts, RefusedLeaves, Framed, Frame, StateCompanions, Companions}
@@ -354,9 +353,9 @@ module _ (R : Rules) (last : ℕ) (passes : Given → ℕ) (onward-place : ℕ �
 
   -- A call moves the record that it names, and no other.
   framed : (s : State) (c : Call) → AllClear (rows R s c) → Framed c (s .words) (act R s c .after .words)
-  framed s (Enter r) f = reader-framed (Enter r) _ _ r _ (L .enter-moves s (undamaged-fine R s (f .0)) r (leb-false _ _ (f .1 .0))) refl
+  framed s (Enter r) f = reader-framed (Enter r) _ _ r _ (L .enter-moves s (undamaged-fine R s (f .0)) r (leb-false _ _ (f .1 .0))) refl refl
   framed s (Look r k) f = same-framed (Look r k) (s .words)
-  framed s (Leave r) f = reader-framed (Leave r) _ _ r _ (L .leave-moves s (undamaged-fine R s (f .0)) r (leb-false _ _ (f .1 .0))) refl
+  framed s (Leave r) f = reader-framed (Leave r) _ _ r _ (L .leave-moves s (undamaged-fine R s (f .0)) r (leb-false _ _ (f .1 .0))) refl refl
   framed s (Claim p x) f = claim-framed (R .kind) s (undamaged-fine R s (f .0)) (R .exclusive) p x (f .1)
   framed s (Write p v) f = write-framed (R .kind) s (undamaged-fine R s (f .0)) p v (f .1)
   framed s (Swap p) f = swap-framed (R .kind) s (undamaged-fine R s (f .0)) p (f .1)
@@ -369,26 +368,11 @@ module _ (R : Rules) (last : ℕ) (passes : Given → ℕ) (onward-place : ℕ �
   unfolding step
   step-framed s c = decided (λ (o : Outcome). Framed c (s .words) (o .after .words)) (rows R s c) (act R s c) s (all-numbers s c) (framed s c) (same-framed c (s .words))
 
-  current-stays : (s : State) (c : Call) → AllClear (rows R s c) → ((p : ℕ) → c ≢ Swap p) → current (act R s c .after .words) ≡ current (s .words)
-  current-stays s (Enter r) f ne = L .enter-moves s (undamaged-fine R s (f .0)) r (leb-false _ _ (f .1 .0)) .head CURRENT-AT (omega arith)
-  current-stays s (Look r k) f ne = refl
-  current-stays s (Leave r) f ne = L .leave-moves s (undamaged-fine R s (f .0)) r (leb-false _ _ (f .1 .0)) .head CURRENT-AT (omega arith)
-  current-stays s (Claim p x) f ne = head-publisher (s .words) p _ CURRENT-AT (omega arith)
-  current-stays s (Write p v) f ne = head-publisher (s .words) p _ CURRENT-AT (omega arith)
-  current-stays s (Swap p) f ne = absurd (ne p refl)
-  current-stays s (Sync p) f ne = head-publisher (s .words) p _ CURRENT-AT (omega arith)
-  current-stays s (Raise p) f ne = raise-split (λ (o : Outcome). current (o .after .words) ≡ current (s .words)) (R .kind .versions) s p
-      (λ _. getD-set-other (withPublisher (s .words) p (atPlace (publisher s p) 37)) VERSION-AT CURRENT-AT (publisher s p .walk .mark) 0 (λ e. omega arith) ∙ head-publisher (s .words) p _ CURRENT-AT (omega arith)) (head-publisher (s .words) p _ CURRENT-AT (omega arith))
-  current-stays s (Walk p b) f ne = head-publisher (s .words) p _ CURRENT-AT (omega arith)
-  current-stays s (Release p) f ne = getD-set-other (withPublisher (s .words) p (atPlace (publisher s p) 0)) RELEASES-AT CURRENT-AT (oneMore s) 0 (λ e. omega arith) ∙ head-publisher (s .words) p _ CURRENT-AT (omega arith)
-
   pub frame-of : Frame (machine R)
   unfolding step
   frame-of = record {
-    records = step-framed;
-    walk-head = λ s p b k l. decided (λ (o : Outcome). getD (o .after .words) k 0 ≡ getD (s .words) k 0) (rows R s (Walk p b)) (act R s (Walk p b)) s refl (λ f. head-publisher (s .words) p _ k l) refl;
+    words = step-framed;
     entries = λ s c ne. decided (λ (o : Outcome). o .after .entries ≡ s .entries) (rows R s c) (act R s c) s (all-numbers s c) (λ f. plain s c .entries-stay ne) refl;
-    current = λ s c ne. decided (λ (o : Outcome). current (o .after .words) ≡ current (s .words)) (rows R s c) (act R s c) s (all-numbers s c) (λ f. current-stays s c f ne) refl;
   }
 
   -- A making with every argument in its range is accepted.

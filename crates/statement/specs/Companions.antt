@@ -8,6 +8,7 @@ use mathlib.Core.Option.{Option, none, some}
 use lib.IntN.{ℤ}
 use lib.Signed.{ltZ}
 use lib.ListN.{getD, length}
+use lib.Dec.{ltb, eqb}
 use Rattle.calls.specs.declared.Call.{Call}
 use Rattle.calls.specs.declared.Call.the-variants.{Enter, Look, Leave, Claim, Write, Swap, Sync, Raise, Walk, Release}
 use Rattle.calls.specs.declared.Reply.{Reply}
@@ -21,8 +22,8 @@ use Rattle.calls.specs.Told.{Told, toldBy, holds, Has}
 use Rattle.calls.specs.Told.Role.{free}
 use Rattle.calls.specs.Tally.{Tally, tallyOf}
 use Rattle.calls.specs.Tally.Phase.{writing, swapped, syncing, returned}
-use Rattle.layout.specs.Layout.{WORDS, HEAD, version, releases, readerAt, publisherAt}
-use Rattle.statement.specs.Machine.{State, Given, Machine, Fresh, events, afterAll, currentSlot}
+use Rattle.layout.specs.Layout.{WORDS, HEAD, CURRENT-AT, VERSION-AT, RELEASES-AT, version, releases, readerAt, publisherAt}
+use Rattle.statement.specs.Machine.{State, Given, Machine, Fresh, events, afterAll}
 
 -- In what the kinds differ here.
 pub record Traits : Type 0 where
@@ -72,18 +73,30 @@ publisherNamed (Raise p) = some p
 publisherNamed (Walk p b) = some p
 publisherNamed (Release p) = some p
 
--- Only the record named moved.
+-- The words of the head that a call may move: SWAP the current slot, RAISE the version, RELEASE the releases; ENTER and LEAVE an indicator, in a kind that has them.
+abbrev pub headNamed : Call → ℕ → Bool
+headNamed (Enter r) k = ltb RELEASES-AT k
+headNamed (Look r j) k = false
+headNamed (Leave r) k = ltb RELEASES-AT k
+headNamed (Claim p x) k = false
+headNamed (Write p v) k = false
+headNamed (Swap p) k = eqb k CURRENT-AT
+headNamed (Sync p) k = false
+headNamed (Raise p) k = eqb k VERSION-AT
+headNamed (Walk p b) k = false
+headNamed (Release p) k = eqb k RELEASES-AT
+
+-- Only what is named moved.
 pub record Framed (c : Call) (w w′ : List ℕ) : Type 0 where
   pub readers : (r : ℕ) → readerNamed c ≢ some r → readerAt w′ r ≡ readerAt w r
   pub publishers : (p : ℕ) → publisherNamed c ≢ some p → publisherAt w′ p ≡ publisherAt w p
+  pub head : (k : ℕ) → k < HEAD → headNamed c k ≡ false → getD w′ k 0 ≡ getD w k 0
 
--- For every state: a call moves the record of the reader or publisher named and of no other, and a WALK nothing else;
--- only WRITE moves the entries, only SWAP the current slot.
+-- For every state: a call moves the record of the reader or publisher named, perhaps the one number of the head that its step names, and nothing else;
+-- a WALK that record alone. Only WRITE moves the entries.
 pub record Frame (M : Machine) : Type 0 where
-  pub records : (s : State) (c : Call) → Framed c (s .words) (M .step s c .after .words)
-  pub walk-head : (s : State) (p b k : ℕ) → k < HEAD → getD (M .step s (Walk p b) .after .words) k 0 ≡ getD (s .words) k 0
+  pub words : (s : State) (c : Call) → Framed c (s .words) (M .step s c .after .words)
   pub entries : (s : State) (c : Call) → ((p : ℕ) (v : ℤ) → c ≢ Write p v) → M .step s c .after .entries ≡ s .entries
-  pub current : (s : State) (c : Call) → ((p : ℕ) → c ≢ Swap p) → currentSlot (M .step s c .after) ≡ currentSlot s
 
 -- What holds of a state after a list of calls that told h, t and y.
 pub record StateCompanions (M : Machine) (T : Traits) (g : Given) (h : Model) (t : Told) (y : Tally) (s : State) : Type 0 where
