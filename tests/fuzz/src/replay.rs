@@ -58,10 +58,17 @@ impl Reached {
         self.compared += other.compared;
     }
 
-    /// How much of this the other has not.
-    fn beyond(&self, other: &Reached) -> usize {
-        self.cells.difference(&other.cells).count()
-            + self.altered.difference(&other.altered).count()
+    /// How much of this the other has not: alterations, answers, and cells.
+    fn beyond(&self, other: &Reached) -> [usize; 3] {
+        [
+            self.altered.difference(&other.altered).count(),
+            self.answers().difference(&other.answers()).count(),
+            self.cells.difference(&other.cells).count(),
+        ]
+    }
+
+    fn answers(&self) -> BTreeSet<(usize, usize, u64)> {
+        self.cells.iter().map(Cell::answer).collect()
     }
 }
 
@@ -144,7 +151,7 @@ fn enough(what: &str, missing: Vec<String>, found: usize, least: usize) -> Resul
 
 /// How many alterations the kept corpus finds.
 const FOUND_BY_CALLS: usize = 101;
-const FOUND_BY_SHEETS: usize = 160;
+const FOUND_BY_SHEETS: usize = 153;
 
 fn replay(path: &Path, corpus: &Path) -> Result<(), String> {
     let given = inputs(&corpus.join("calls"))?;
@@ -170,7 +177,8 @@ fn replay(path: &Path, corpus: &Path) -> Result<(), String> {
     Ok(())
 }
 
-/// Takes the input that adds most, again and again.
+/// Takes the input that adds most, again and again: alterations
+/// before answers, and answers before places.
 fn choose(folder: &Path, of: impl Fn(&Input) -> Result<Reached, String>) -> Result<(), String> {
     let mut rest = Vec::new();
     for input in inputs(folder)? {
@@ -183,7 +191,7 @@ fn choose(folder: &Path, of: impl Fn(&Input) -> Result<Reached, String>) -> Resu
             let (input, reached): &(Input, Reached) = &rest[n];
             (reached.beyond(&all), std::cmp::Reverse(input.bytes.len()))
         });
-        let Some(best) = best.filter(|&n| rest[n].1.beyond(&all) > 0) else {
+        let Some(best) = best.filter(|&n| rest[n].1.beyond(&all) > [0; 3]) else {
             break;
         };
         let (input, reached) = rest.swap_remove(best);

@@ -50,8 +50,8 @@ impl Cell {
         (row * PLACES + self.place) * CODES.len() + code.unwrap_or(0)
     }
 
-    /// The cell without its place.
-    fn answer(&self) -> (usize, usize, u64) {
+    /// The cell without its place: kind, call and code.
+    pub fn answer(&self) -> (usize, usize, u64) {
         (self.kind, self.call, self.code)
     }
 }
