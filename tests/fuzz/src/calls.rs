@@ -88,11 +88,11 @@ pub fn play(
 
 impl Played<'_> {
     fn step(&mut self, step: usize, seen: &mut dyn FnMut(Cell)) -> Result<(), Difference> {
-        const STEPS: usize = CALL_NAMES.len() + 9;
+        const STEPS: usize = CALL_NAMES.len() + 10;
         match step % STEPS {
             0 => {
                 let making = self.making();
-                self.call(&making, seen)
+                self.call(&making, seen).map(|_| ())
             }
             index @ 1..=10 => {
                 let call = self.ask(index);
@@ -104,6 +104,7 @@ impl Played<'_> {
             }
             18 => self.reader_in_turn(seen),
             19 => self.publisher_in_turn(seen),
+            20 => self.each_call(seen),
             other => {
                 self.list = None;
                 match other {
@@ -194,45 +195,84 @@ impl Played<'_> {
         Ok(())
     }
 
+    /// The call of this index by this name, with arguments in range.
+    fn in_range(&self, index: usize, n: u16, wide: u16) -> Call {
+        let readers = self.size(READERS, 64);
+        let (r, p) = (n % readers, n % self.size(PUBLISHERS, 16));
+        match index {
+            1 => Call::Enter { r },
+            2 => Call::Look {
+                r,
+                k: wide / 2 % 32,
+            },
+            3 => Call::Leave { r },
+            4 => Call::Claim {
+                p,
+                s: wide % self.size(SLOTS, 32),
+            },
+            5 => Call::Write {
+                p,
+                v: (wide % 10_001) as i16 - 500,
+            },
+            6 => Call::Swap { p },
+            7 => Call::Sync { p },
+            8 => Call::Raise { p },
+            9 => Call::Walk {
+                p,
+                b: wide % (readers + 2),
+            },
+            _ => Call::Release { p },
+        }
+    }
+
     /// The call that this reader's place allows, as often as was asked for.
     fn reader_in_turn(&mut self, seen: &mut dyn FnMut(Cell)) -> Result<(), Difference> {
-        let r = u16::from(self.bytes.byte()) % self.size(READERS, 64);
-        let wide = self.bytes.wide();
+        let (n, wide) = (u16::from(self.bytes.byte()), self.bytes.wide());
+        let at = reader_at(usize::from(n % self.size(READERS, 64)));
         for _ in 0..std::mem::replace(&mut self.times, 1) {
-            let call = match self.words[reader_at(usize::from(r))] {
-                4 if wide % 8 == 0 => Call::Leave { r },
-                5 if wide % 2 == 0 => Call::Leave { r },
-                5 => Call::Look {
-                    r,
-                    k: wide / 2 % 32,
-                },
-                _ => Call::Enter { r },
+            let index = match self.words[at] {
+                4 if wide % 8 == 0 => 3,
+                5 if wide % 2 == 0 => 3,
+                5 => 2,
+                _ => 1,
             };
-            self.call(&call, seen)?;
+            self.call(&self.in_range(index, n, wide), seen)?;
         }
         Ok(())
     }
 
-    /// The call that this publisher's place allows, likewise.
+    /// The call that this publisher's place allows, likewise. The entries of
+    /// a table differ.
     fn publisher_in_turn(&mut self, seen: &mut dyn FnMut(Cell)) -> Result<(), Difference> {
-        let p = u16::from(self.bytes.byte()) % self.size(PUBLISHERS, 16);
-        let wide = self.bytes.wide();
-        for n in 0..std::mem::replace(&mut self.times, 1) {
-            let slots = self.size(SLOTS, 32);
-            let looks = self.size(READERS, 64) + 2;
-            let call = match (self.words[publisher_at(usize::from(p))], self.words[KIND]) {
-                (0, _) => Call::Claim { p, s: wide % slots },
-                (1..=32, _) => Call::Write {
-                    p,
-                    v: (wide.wrapping_add(n) % 10_001) as i16 - 500,
-                },
-                (33, _) => Call::Swap { p },
-                (34, _) => Call::Sync { p },
-                (37, _) | (35, 2) => Call::Walk { p, b: wide % looks },
-                (35 | 36, _) => Call::Raise { p },
-                _ => Call::Release { p },
+        let (n, wide) = (u16::from(self.bytes.byte()), self.bytes.wide());
+        let at = publisher_at(usize::from(n % self.size(PUBLISHERS, 16)));
+        for time in 0..std::mem::replace(&mut self.times, 1) {
+            let index = match (self.words[at], self.words[KIND]) {
+                (0, _) => 4,
+                (1..=32, _) => 5,
+                (33, _) => 6,
+                (34, _) => 7,
+                (37, _) | (35, 2) => 9,
+                (35 | 36, _) => 8,
+                _ => 10,
             };
-            self.call(&call, seen)?;
+            let wide = wide.wrapping_add(if index == 5 { time } else { 0 });
+            self.call(&self.in_range(index, n, wide), seen)?;
+        }
+        Ok(())
+    }
+
+    /// Each of the ten calls on the same store.
+    fn each_call(&mut self, seen: &mut dyn FnMut(Cell)) -> Result<(), Difference> {
+        self.list = None;
+        let (n, wide) = (u16::from(self.bytes.byte()), self.bytes.wide());
+        let (words, entries) = (self.words, self.library.entries.lent().to_vec());
+        for index in 1..=10 {
+            if self.call(&self.in_range(index, n, wide), seen)?.accepted() {
+                self.words = words;
+                self.set_words(WORDS);
+                self.set_entries(&entries);
+            }
         }
         Ok(())
     }
@@ -325,7 +365,7 @@ impl Played<'_> {
     }
 
     /// The call on both sides, and the comparison.
-    fn call(&mut self, call: &Call, seen: &mut dyn FnMut(Cell)) -> Result<(), Difference> {
+    fn call(&mut self, call: &Call, seen: &mut dyn FnMut(Cell)) -> Result<Reply, Difference> {
         self.calls += 1;
         let (kind, place) = (self.kind_called(call), self.place_called(call));
         let side = &mut self.library;
@@ -351,7 +391,10 @@ impl Played<'_> {
         };
         seen(Cell::new(kind, call.index(), from, numbers.code));
         let kept = self.keep_list(call, kind, reply);
-        kept.map_err(|fault| self.difference(call, numbers, reply, Some(fault)))
+        match kept {
+            Ok(()) => Ok(reply),
+            Err(fault) => Err(self.difference(call, numbers, reply, Some(fault))),
+        }
     }
 
     /// Demand 3, if this is a list from a fresh store.

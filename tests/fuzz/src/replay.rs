@@ -103,7 +103,7 @@ fn of_sheet(input: &Input, path: Option<&Path>) -> Result<Reached, String> {
     let output = sheet::compare(&input.bytes, &mut run, &mut seen)
         .map_err(|difference| format!("{}\n{difference}", input.name))?;
     reached.compared = lines(&output).count() as u64;
-    let text = Given::from_input(&input.bytes).map_or(&[][..], |given| given.text);
+    let text = Given::from_input(&input.bytes).text;
     let misread = misread::all().filter(|misreading| misreading.play(text) != output);
     reached
         .altered

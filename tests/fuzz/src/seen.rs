@@ -57,14 +57,16 @@ impl Cell {
 }
 
 /// Each answer that the C calls can give and none of these cells has, and
-/// each clause that spoils no store of these cells by itself.
+/// each clause that alone spoils no store for one of the ten calls.
 pub fn missing_of_calls(cells: &[Cell]) -> Vec<String> {
     let mut missing = missing(cells, needed(|_, _| true));
     for kind in [Kind::New, Kind::Old] {
         for clause in CLAUSES.into_iter().filter(|clause| clause.of(kind)) {
-            let number = (kind.number() as usize, clause as usize, 1);
-            if !cells.iter().any(|c| (c.kind, c.place, c.code) == number) {
-                missing.push(format!("{kind}, spoiled by {clause:?} alone"));
+            for (call, name) in CALL_NAMES.iter().enumerate().skip(1) {
+                let cell = Cell::new(Some(kind), call, Some(clause as u64), 1);
+                if !cells.contains(&cell) {
+                    missing.push(format!("{kind}, {name}: spoiled by {clause:?} alone"));
+                }
             }
         }
     }

@@ -10,7 +10,8 @@ use second::store::Kind;
 use std::fmt;
 
 /// An input: three lengths that the reads have in turn, the most bytes that
-/// a write takes, and the text. A length of 0 stands for the longest.
+/// a write takes, and the text. A length of 0, or one that is missing, stands
+/// for the longest.
 pub struct Given<'a> {
     lengths: [usize; 3],
     pub most_written: usize,
@@ -18,18 +19,17 @@ pub struct Given<'a> {
 }
 
 impl<'a> Given<'a> {
-    /// None if the input is too short for its lengths.
-    pub fn from_input(input: &'a [u8]) -> Option<Given<'a>> {
-        let (head, text) = input.split_first_chunk::<4>()?;
-        let [a, b, c, most_written] = head.map(|byte| match byte {
-            0 => LARGEST,
-            _ => usize::from(byte),
-        });
-        Some(Given {
-            lengths: [a, b, c],
-            most_written,
+    pub fn from_input(input: &'a [u8]) -> Given<'a> {
+        let (head, text) = input.split_at(input.len().min(4));
+        let length = |n| match head.get(n) {
+            None | Some(0) => LARGEST,
+            Some(&byte) => usize::from(byte),
+        };
+        Given {
+            lengths: [length(0), length(1), length(2)],
+            most_written: length(3),
             text,
-        })
+        }
     }
 
     /// The bytes of each read.
@@ -58,9 +58,7 @@ pub fn compare(
     program: &mut Program,
     seen: &mut dyn FnMut(Cell),
 ) -> Result<Vec<u8>, Difference> {
-    let Some(given) = Given::from_input(input) else {
-        return Ok(Vec::new());
-    };
+    let given = Given::from_input(input);
     let due = play(given.text);
     let (printed, fault) = match program(&given) {
         Ok(printed) => (printed, None),
