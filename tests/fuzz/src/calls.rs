@@ -1,0 +1,511 @@
+//! Surface A: an input as words, lengths and calls, on the library and on
+//! the second implementation.
+
+use crate::bytes::Bytes;
+use crate::guarded::Guarded;
+use crate::seen::Cell;
+use second::call::{Call, Numbers, Reply, CALL_NAMES};
+use second::damage::{Clause, CLAUSES};
+use second::demand3::Demand3;
+use second::layout::{
+    self, publisher_at, reader_at, INDICATOR_0, INDICATOR_1, KIND, PUBLISHER, PUBLISHERS, READER,
+    READERS, SLOTS, WORDS,
+};
+use second::lent;
+use second::rules::Rules;
+use second::store::Kind;
+use std::fmt;
+
+/// The library: the words and their number, the entries and theirs, a call.
+pub type Library = unsafe fn(*mut u64, usize, *mut i16, usize, &Call) -> Numbers;
+
+const MOST_WORDS: usize = 900;
+const MOST_ENTRIES: usize = 1100;
+/// An input makes no more calls than this.
+const MOST_CALLS: u64 = 3000;
+
+struct Side {
+    words: Guarded<u64>,
+    entries: Guarded<i16>,
+}
+
+impl Side {
+    fn new() -> Side {
+        let mut side = Side {
+            words: Guarded::with_room(MOST_WORDS, 0xa5a5_a5a5_a5a5_a5a5),
+            entries: Guarded::with_room(MOST_ENTRIES, 0x5a5a),
+        };
+        side.words.set(&[0; WORDS]);
+        side.entries.set(&[0; 64]);
+        side
+    }
+}
+
+/// An input while it is played.
+struct Played<'a> {
+    bytes: Bytes<'a>,
+    library: Side,
+    second: Side,
+    call_library: Library,
+    rules: Rules,
+    /// The words as they were when they last had their length.
+    words: [u64; WORDS],
+    /// A list from a fresh store, as long as nothing else touches it.
+    list: Option<Demand3>,
+    /// How often the next call is made.
+    times: u16,
+    calls: u64,
+}
+
+/// Plays an input on both sides. After each call, replies, words, entries
+/// and guards must be alike; a list must keep demand 3. Tells the cells, and
+/// how many calls were compared.
+pub fn play(
+    input: &[u8],
+    call_library: Library,
+    rules: Rules,
+    seen: &mut dyn FnMut(Cell),
+) -> Result<u64, Difference> {
+    let mut played = Played {
+        bytes: Bytes::new(input),
+        library: Side::new(),
+        second: Side::new(),
+        call_library,
+        rules,
+        words: [0; WORDS],
+        list: None,
+        times: 1,
+        calls: 0,
+    };
+    while let Some(step) = played.bytes.next() {
+        played.step(usize::from(step), seen)?;
+        if played.calls >= MOST_CALLS {
+            break;
+        }
+    }
+    Ok(played.calls)
+}
+
+impl Played<'_> {
+    fn step(&mut self, step: usize, seen: &mut dyn FnMut(Cell)) -> Result<(), Difference> {
+        const STEPS: usize = CALL_NAMES.len() + 10;
+        match step % STEPS {
+            0 => {
+                let making = self.making();
+                self.call(&making, seen).map(|_| ())
+            }
+            index @ 1..=10 => {
+                let call = self.ask(index);
+                self.call_times(call, seen)
+            }
+            11 => {
+                self.times = 1 + u16::from(self.bytes.byte() % 64);
+                Ok(())
+            }
+            18 => self.reader_in_turn(seen),
+            19 => self.publisher_in_turn(seen),
+            20 => self.each_call(seen),
+            other => {
+                self.list = None;
+                match other {
+                    12 => self.put_word(),
+                    13 => self.put_reader(),
+                    14 => self.put_publisher(),
+                    15 => self.count_indicators(),
+                    16 => self.lend_words(),
+                    _ => self.lend_entries(),
+                }
+                Ok(())
+            }
+        }
+    }
+
+    /// A making; three times in four beside entries of the length due.
+    fn making(&mut self) -> Call {
+        let kind = match self.bytes.byte() {
+            byte @ 0..=199 => 1 + u16::from(byte % 2),
+            byte @ 200..=249 => u16::from(byte) - 200,
+            _ => self.bytes.wide(),
+        };
+        let readers = self.bytes.within(1, 64);
+        let publishers = self.bytes.within(1, 16);
+        let slots = self.bytes.within(2, 31);
+        let version = self.bytes.number(&self.words);
+        let due = usize::from(slots) * 32;
+        let flag = self.bytes.byte();
+        if flag < 192 && due <= MOST_ENTRIES {
+            self.list = None;
+            self.set_entries(&vec![i16::from(flag); due]);
+        }
+        Call::Make {
+            kind,
+            readers,
+            publishers,
+            slots,
+            version,
+        }
+    }
+
+    /// A size in these words, within its range.
+    fn size(&self, word: usize, most: u64) -> u16 {
+        self.words[word].clamp(1, most) as u16
+    }
+
+    /// The call of this index with arguments from the input.
+    fn ask(&mut self, index: usize) -> Call {
+        let (readers, publishers) = (self.size(READERS, 64), self.size(PUBLISHERS, 16));
+        let slots = self.size(SLOTS, 32);
+        let bytes = &mut self.bytes;
+        let n = bytes.within(0, if index <= 3 { readers } else { publishers });
+        match index {
+            1 => Call::Enter { r: n },
+            2 => Call::Look {
+                r: n,
+                k: bytes.within(0, 32),
+            },
+            3 => Call::Leave { r: n },
+            4 => Call::Claim {
+                p: n,
+                s: bytes.within(0, slots),
+            },
+            5 => Call::Write {
+                p: n,
+                v: bytes.pitch(),
+            },
+            6 => Call::Swap { p: n },
+            7 => Call::Sync { p: n },
+            8 => Call::Raise { p: n },
+            9 => Call::Walk {
+                p: n,
+                b: bytes.within(0, readers + 2),
+            },
+            _ => Call::Release { p: n },
+        }
+    }
+
+    /// The call as often as was asked for. A repeated WRITE goes up by one
+    /// each time, so that the entries of a table differ.
+    fn call_times(&mut self, mut call: Call, seen: &mut dyn FnMut(Cell)) -> Result<(), Difference> {
+        for _ in 0..std::mem::replace(&mut self.times, 1) {
+            self.call(&call, seen)?;
+            if let Call::Write { v, .. } = &mut call {
+                *v = v.wrapping_add(1);
+            }
+        }
+        Ok(())
+    }
+
+    /// The call of this index by this name, with arguments in range.
+    fn in_range(&self, index: usize, n: u16, wide: u16) -> Call {
+        let readers = self.size(READERS, 64);
+        let (r, p) = (n % readers, n % self.size(PUBLISHERS, 16));
+        match index {
+            1 => Call::Enter { r },
+            2 => Call::Look {
+                r,
+                k: wide / 2 % 32,
+            },
+            3 => Call::Leave { r },
+            4 => Call::Claim {
+                p,
+                s: wide % self.size(SLOTS, 32),
+            },
+            5 => Call::Write {
+                p,
+                v: (wide % 10_001) as i16 - 500,
+            },
+            6 => Call::Swap { p },
+            7 => Call::Sync { p },
+            8 => Call::Raise { p },
+            9 => Call::Walk {
+                p,
+                b: wide % (readers + 2),
+            },
+            _ => Call::Release { p },
+        }
+    }
+
+    /// The call that this reader's place allows, as often as was asked for.
+    fn reader_in_turn(&mut self, seen: &mut dyn FnMut(Cell)) -> Result<(), Difference> {
+        let (n, wide) = (u16::from(self.bytes.byte()), self.bytes.wide());
+        let at = reader_at(usize::from(n % self.size(READERS, 64)));
+        for _ in 0..std::mem::replace(&mut self.times, 1) {
+            let index = match self.words[at] {
+                4 if wide % 8 == 0 => 3,
+                5 if wide % 2 == 0 => 3,
+                5 => 2,
+                _ => 1,
+            };
+            self.call(&self.in_range(index, n, wide), seen)?;
+        }
+        Ok(())
+    }
+
+    /// The call that this publisher's place allows, likewise. The entries of
+    /// a table differ.
+    fn publisher_in_turn(&mut self, seen: &mut dyn FnMut(Cell)) -> Result<(), Difference> {
+        let (n, wide) = (u16::from(self.bytes.byte()), self.bytes.wide());
+        let at = publisher_at(usize::from(n % self.size(PUBLISHERS, 16)));
+        for time in 0..std::mem::replace(&mut self.times, 1) {
+            let index = match (self.words[at], self.words[KIND]) {
+                (0, _) => 4,
+                (1..=32, _) => 5,
+                (33, _) => 6,
+                (34, _) => 7,
+                (37, _) | (35, 2) => 9,
+                (35 | 36, _) => 8,
+                _ => 10,
+            };
+            let wide = wide.wrapping_add(if index == 5 { time } else { 0 });
+            self.call(&self.in_range(index, n, wide), seen)?;
+        }
+        Ok(())
+    }
+
+    /// Each of the ten calls on the same store.
+    fn each_call(&mut self, seen: &mut dyn FnMut(Cell)) -> Result<(), Difference> {
+        self.list = None;
+        let (n, wide) = (u16::from(self.bytes.byte()), self.bytes.wide());
+        let (words, entries) = (self.words, self.library.entries.lent().to_vec());
+        for index in 1..=10 {
+            if self.call(&self.in_range(index, n, wide), seen)?.accepted() {
+                self.words = words;
+                self.set_words(WORDS);
+                self.set_entries(&entries);
+            }
+        }
+        Ok(())
+    }
+
+    fn put_word(&mut self) {
+        let at = usize::from(self.bytes.wide()) % WORDS;
+        self.put_numbers(at, 1);
+    }
+
+    fn put_reader(&mut self) {
+        let r = usize::from(self.bytes.byte() % 64);
+        self.put_numbers(reader_at(r), READER);
+    }
+
+    fn put_publisher(&mut self) {
+        let p = usize::from(self.bytes.byte() % 16);
+        self.put_numbers(publisher_at(p), PUBLISHER);
+    }
+
+    /// So many numbers from this word on.
+    fn put_numbers(&mut self, at: usize, count: usize) {
+        for word in at..at + count {
+            self.words[word] = self.bytes.number(&self.words);
+        }
+        self.set_words(WORDS);
+    }
+
+    /// Both indicators as the readers have them.
+    fn count_indicators(&mut self) {
+        let readers = self.words[READERS].min(64) as usize;
+        (self.words[INDICATOR_0], self.words[INDICATOR_1]) = (0, 0);
+        for at in (0..readers).map(reader_at) {
+            if matches!(self.words[at], 4 | 5) {
+                let odd = (self.words[at + 1] % 2) as usize;
+                self.words[INDICATOR_0 + odd] += 1;
+            }
+        }
+        self.set_words(WORDS);
+    }
+
+    /// The words at a length: a likely one, none with a null pointer, or any.
+    fn lend_words(&mut self) {
+        const LENGTHS: [usize; 8] = [WORDS, 0, 1, 9, WORDS - 1, WORDS + 1, 850, MOST_WORDS];
+        match self.bytes.byte() {
+            byte @ 0..=199 => self.set_words(LENGTHS[usize::from(byte % 8)]),
+            200..=219 => {
+                self.library.words.set_null();
+                self.second.words.set_null();
+            }
+            _ => {
+                let length = usize::from(self.bytes.wide()) % (MOST_WORDS + 1);
+                self.set_words(length);
+            }
+        }
+    }
+
+    /// Entries at a length: the one due, near it, none with a null pointer,
+    /// or any.
+    fn lend_entries(&mut self) {
+        let due = self.words[SLOTS].min(32) as usize * 32;
+        let length = match self.bytes.byte() {
+            0..=99 => due,
+            100..=119 => due + 1,
+            120..=139 => due.saturating_sub(1),
+            140..=159 => due + 32,
+            160..=179 => 0,
+            180..=199 => {
+                self.library.entries.set_null();
+                self.second.entries.set_null();
+                return;
+            }
+            _ => usize::from(self.bytes.wide()) % (MOST_ENTRIES + 1),
+        };
+        let mut entries = self.library.entries.lent().to_vec();
+        entries.resize(length, self.bytes.pitch());
+        self.set_entries(&entries);
+    }
+
+    /// Lends the words at this length, cut off or followed by zeros.
+    fn set_words(&mut self, length: usize) {
+        let mut words = self.words.to_vec();
+        words.resize(length, 0);
+        self.library.words.set(&words);
+        self.second.words.set(&words);
+    }
+
+    fn set_entries(&mut self, entries: &[i16]) {
+        self.library.entries.set(entries);
+        self.second.entries.set(entries);
+    }
+
+    /// The call on both sides, and the comparison.
+    fn call(&mut self, call: &Call, seen: &mut dyn FnMut(Cell)) -> Result<Reply, Difference> {
+        self.calls += 1;
+        let (kind, place) = (self.kind_called(call), self.place_called(call));
+        let side = &mut self.library;
+        let lengths = (side.words.lent().len(), side.entries.lent().len());
+        let (words, entries) = (side.words.pointer(), side.entries.pointer());
+        // The guarded cells are lent for the time of the call.
+        let numbers = unsafe { (self.call_library)(words, lengths.0, entries, lengths.1, call) };
+        let side = &mut self.second;
+        let entries = side.entries.lent_mut();
+        let reply = lent::call(side.words.lent_mut(), entries, call, self.rules);
+        let alike = numbers == reply.numbers()
+            && self.library.words.whole() == self.second.words.whole()
+            && self.library.entries.whole() == self.second.entries.whole();
+        if !alike {
+            return Err(self.difference(call, numbers, reply, None));
+        }
+        if let Ok(words) = self.library.words.lent().try_into() {
+            self.words = words;
+        }
+        let from = match numbers.code {
+            1 => self.clause_alone(),
+            _ => place,
+        };
+        seen(Cell::new(kind, call.index(), from, numbers.code));
+        let kept = self.keep_list(call, kind, reply);
+        match kept {
+            Ok(()) => Ok(reply),
+            Err(fault) => Err(self.difference(call, numbers, reply, Some(fault))),
+        }
+    }
+
+    /// Demand 3, if this is a list from a fresh store.
+    fn keep_list(&mut self, call: &Call, kind: Option<Kind>, reply: Reply) -> Result<(), String> {
+        if let Call::Make {
+            readers,
+            publishers,
+            slots,
+            ..
+        } = *call
+        {
+            if let (Reply::Made, Some(kind)) = (reply, kind) {
+                self.list = Some(Demand3::fresh(kind, readers, publishers, slots));
+            }
+            return Ok(());
+        }
+        match &mut self.list {
+            Some(list) => {
+                list.hear(call, &reply)?;
+                list.recorded(&self.words)
+            }
+            None => Ok(()),
+        }
+    }
+
+    fn lent_words(&self) -> Option<&[u64; WORDS]> {
+        self.library.words.lent().try_into().ok()
+    }
+
+    /// The kind given to a making, or the kind in word 0.
+    fn kind_called(&self, call: &Call) -> Option<Kind> {
+        let words = self.lent_words()?;
+        match call {
+            Call::Make { kind, .. } => Kind::from_number(u64::from(*kind)),
+            _ => Kind::from_number(words[KIND]),
+        }
+    }
+
+    /// The place, before the call, of the reader or publisher that it names.
+    fn place_called(&self, call: &Call) -> Option<u64> {
+        let words = self.lent_words()?;
+        let within = |n: u16, size: usize, most: u64| u64::from(n) < words[size].min(most);
+        if let Some(r) = call.reader().filter(|&r| within(r, READERS, 64)) {
+            return Some(words[reader_at(usize::from(r))]);
+        }
+        let p = call.publisher().filter(|&p| within(p, PUBLISHERS, 16))?;
+        Some(words[publisher_at(usize::from(p))])
+    }
+
+    /// The clause that spoils the store by itself.
+    fn clause_alone(&self) -> Option<u64> {
+        let store = layout::unpack(self.lent_words()?)?;
+        let clauses = store.clauses(self.library.entries.lent().len(), Rules::AS_WRITTEN);
+        let alone = |&clause: &Clause| clauses.only(clause);
+        CLAUSES.into_iter().find(alone).map(|clause| clause as u64)
+    }
+
+    fn difference(
+        &self,
+        call: &Call,
+        library: Numbers,
+        second: Reply,
+        fault: Option<String>,
+    ) -> Difference {
+        let (words, entries) = (&self.library.words, &self.library.entries);
+        Difference {
+            call_number: self.calls,
+            call: *call,
+            lengths: (words.lent().len(), entries.lent().len()),
+            library,
+            second: second.numbers(),
+            word: words.first_unlike(&self.second.words),
+            entry: entries.first_unlike(&self.second.entries),
+            fault,
+        }
+    }
+}
+
+/// Where the two sides differ: the library's number first.
+pub struct Difference {
+    call_number: u64,
+    call: Call,
+    lengths: (usize, usize),
+    library: Numbers,
+    second: Numbers,
+    word: Option<(Option<usize>, u64, u64)>,
+    entry: Option<(Option<usize>, i16, i16)>,
+    fault: Option<String>,
+}
+
+impl fmt::Display for Difference {
+    fn fmt(&self, f: &mut fmt::Formatter<'_>) -> fmt::Result {
+        let (words, entries) = self.lengths;
+        writeln!(
+            f,
+            "call {}: {}, {words} words and {entries} entries lent",
+            self.call_number, self.call
+        )?;
+        writeln!(f, "library:  {}", self.library)?;
+        writeln!(f, "second:   {}", self.second)?;
+        if let Some((number, library, second)) = self.word {
+            let name = number.map_or("in a guard".to_string(), layout::name);
+            writeln!(f, "word, {name}: library {library}, second {second}")?;
+        }
+        if let Some((number, library, second)) = self.entry {
+            let name = number.map_or("in a guard".to_string(), |n| n.to_string());
+            writeln!(f, "entry, {name}: library {library}, second {second}")?;
+        }
+        match &self.fault {
+            Some(fault) => writeln!(f, "demand 3: {fault}"),
+            None => Ok(()),
+        }
+    }
+}
