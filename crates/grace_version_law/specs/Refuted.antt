@@ -19,7 +19,8 @@ use Rattle.statement.specs.Demand3.{Demand3}
 use Rattle.statement.specs.Examples.{lentFor, enters, publication}
 use Rattle.statement.specs.Refute.{someLeave, not-left, ReturnsFrom, returns-from-4}
 use Rattle.publication_law.specs.Steps.{publisher, made}
-use Rattle.publication_law.specs.Rules.{Rules, damaged, step, making, machine, varied}
+use Rattle.publication_law.specs.Rules.{Rules, damaged, step, making, machine}
+use Rattle.publication_law.specs.Varied.{varied}
 use Rattle.grace_version_law.specs.Steps.{onward, progress, looksFrom, rules, GraceVersion}
 use Rattle.grace_version_law.specs.Promises.{new-demand3}
 

@@ -265,6 +265,7 @@ lawful = record {
   no-further = λ z g s i. refl;
   early-own = early-own detector;
   enter-moves = λ s f r l. reader-moves f r (entered s r) l;
+  left = λ s r. leaving (reader s r);
   leave-moves = λ s f r l. reader-moves f r (leaving (reader s r)) l;
   enter-place = λ s f r l low. onward-place (version (s .words)) (current (s .words)) (reader s r .place) (reader s r .first) (reader s r .second) (reader s r .published) (reader s r .picked) low;
   enter-kept = enter-kept;

@@ -101,7 +101,6 @@ rules = record {
   freshReader = freshReader;
   entered = entered;
   enterWords = λ s r. withReader (s .words) r (entered s r);
-  left = λ s r. leaving (reader s r);
   leaveWords = λ s r. withReader (s .words) r (leaving (reader s r));
   exclusive = false;
   raisesAt = λ place. eqb place 35;

@@ -27,6 +27,7 @@ use Rattle.calls.specs.Model.{entry, firstTable}
 use Rattle.calls.specs.Told.{holds}
 use Rattle.calls.specs.Tally.{Phase}
 use Rattle.calls.specs.Tally.Phase.{writing, swapped, syncing, returned}
+use Rattle.layout.specs.declared.Reader.{Reader}
 use Rattle.layout.specs.declared.Publisher.{Publisher}
 use Rattle.layout.specs.Layout.{CURRENT-AT, RELEASES-AT, readers, publishers, slots, current, version, noPublisher}
 use Rattle.layout.specs.Laws.{publisher-back}
@@ -66,7 +67,9 @@ pub record Lawful (R : Rules) (last : ℕ) (passes : Given → ℕ) (onward-plac
   pub early-own : (g g′ : Ghost) (s : State) (w′ : List ℕ) (es′ : List ℤ) (p : ℕ) (y : Publisher) (cur rel : ℕ) → Own g s → g′ .pend ≡ g .pend
       → MovesPublisher (s .words) w′ p y cur (version (s .words)) rel → y .walk ≡ publisher s p .walk → y .place ≤ 34 → Own g′ (state w′ es′)
   pub enter-moves : (s : State) → Fine (R .kind) s → (r : ℕ) → r < readers (s .words) → MovesReader (s .words) (R .enterWords s r) r (R .entered s r)
-  pub leave-moves : (s : State) → Fine (R .kind) s → (r : ℕ) → r < readers (s .words) → MovesReader (s .words) (R .leaveWords s r) r (R .left s r)
+  -- the reader after its LEAVE
+  pub left : State → ℕ → Reader
+  pub leave-moves : (s : State) → Fine (R .kind) s → (r : ℕ) → r < readers (s .words) → MovesReader (s .words) (R .leaveWords s r) r (left s r)
   pub enter-place : (s : State) → Fine (R .kind) s → (r : ℕ) → r < readers (s .words) → reader s r .place ≤ 4 → R .entered s r .place ≡ onward-place (reader s r .place)
   pub enter-kept : (z : Given) (g : Ghost) (s : State) → Good (R .kind) Own z g s → (r : ℕ) → AllClear (enterTests s r)
       → Good (R .kind) Own z (advance g (Enter r) (At (R .entered s r .place))) (state (R .enterWords s r) (s .entries))

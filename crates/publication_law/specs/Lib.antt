@@ -18,3 +18,4 @@ pub mod Frames
 pub mod Lawful
 pub mod Detector
 pub mod Promises
+pub mod Varied

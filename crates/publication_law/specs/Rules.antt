@@ -26,8 +26,7 @@ pub record Rules : Type 0 where
   -- ENTER: the reader one place on, and the words with it
   pub entered : State → ℕ → Reader
   pub enterWords : State → ℕ → List ℕ
-  -- LEAVE: the reader at place 0, and the words with it
-  pub left : State → ℕ → Reader
+  -- LEAVE: the words with the reader at place 0
   pub leaveWords : State → ℕ → List ℕ
   -- whether a CLAIM needs that no other publisher is at a place other than 0 (number 31)
   pub exclusive : Bool
@@ -83,19 +82,3 @@ module _ (R : Rules) where
 
   abbrev pub machine : Machine
   machine = record { making = making; step = step }
-
--- Other rules that differ from R in number 31 and in the looks of a walk.
-abbrev pub varied : Rules → Bool → (State → ℕ → ℕ → Progress) → Rules
-varied R exclusive looks = record {
-  kind = R .kind;
-  further = R .further;
-  freshReader = R .freshReader;
-  entered = R .entered;
-  enterWords = R .enterWords;
-  left = R .left;
-  leaveWords = R .leaveWords;
-  exclusive = exclusive;
-  raisesAt = R .raisesAt;
-  walksAt = R .walksAt;
-  looks = looks;
-}

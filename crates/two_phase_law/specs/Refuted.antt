@@ -22,7 +22,8 @@ use Rattle.statement.specs.Demand3.{Demand3}
 use Rattle.statement.specs.Examples.{lentFor, tableOf, publication}
 use Rattle.statement.specs.Refute.{someLeave, not-left, events-append}
 use Rattle.publication_law.specs.Steps.{publisher, putPublisher, atPlace}
-use Rattle.publication_law.specs.Rules.{Rules, damaged, step, making, varied}
+use Rattle.publication_law.specs.Rules.{Rules, damaged, step, making}
+use Rattle.publication_law.specs.Varied.{varied}
 use Rattle.two_phase_law.specs.Steps.{onward, watched, lookAt, rules}
 
 -- Several publishers: no 31.

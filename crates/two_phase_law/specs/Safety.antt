@@ -254,6 +254,7 @@ lawful = record {
   no-further = λ z g s i. counted-to s (i .own .readers-are);
   early-own = early-own detector;
   enter-moves = enter-moves;
+  left = λ s r. leaving (reader s r);
   leave-moves = leave-moves;
   enter-place = λ s f r l low. onward-place (version (s .words)) (current (s .words)) (reader s r);
   enter-kept = enter-kept;

@@ -109,7 +109,6 @@ rules = record {
   freshReader = noReader;
   entered = entered;
   enterWords = enterWords;
-  left = λ s r. leaving (reader s r);
   leaveWords = leaveWords;
   exclusive = true;
   raisesAt = λ place. eqb place 36;
