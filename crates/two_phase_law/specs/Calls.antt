@@ -195,10 +195,6 @@ walks-at n (inr e) = rw e refl
 pub walks-not : (n : ℕ) → ((n ≡ 35) ⊎ (n ≡ 37) → ⊥) → (eqb n 35 || eqb n 37) ≡ false
 walks-not n f = rw (ne-eqb n 35 (λ e. f (inl e)), ne-eqb n 37 (λ e. f (inr e))) refl
 
-pub walks-late : (n : ℕ) → (n ≡ 35) ⊎ (n ≡ 37) → 35 ≤ n
-walks-late n (inl e) = omega arith
-walks-late n (inr e) = omega arith
-
 -- There are two indicators.
 pub watched-low : (y : Publisher) → watched y < 2
 watched-low y = pick-split (λ (i : ℕ). i < 2) (eqb (y .place) 35) (λ _. omega arith) (λ _. omega arith)

@@ -11,7 +11,8 @@ use Rattle.publication_law.specs.Calls.{step-damaged, damaged-head, damaged-pub
 use Rattle.publication_law.specs.Sound.{sound-of, Synchronising, synchronising-of}
 use Rattle.two_phase_law.specs.Steps.{rules}
 use Rattle.two_phase_law.specs.Safety.{law}
-use Rattle.two_phase_law.specs.Calls.{scan-damaged, scan-undamaged, walks-at, walks-not, walks-late, watched-low}
+use Rattle.two_phase_law.specs.Calls.{scan-damaged, scan-undamaged, walks-at, walks-not, watched-low}
+use Rattle.two_phase_law.specs.Counts.{turn-low}
 use Rattle.calls.specs.declared.Call.the-variants.{Walk}
 use Prim.Native.Nat.{_+_, _<_, _≤_}
 use Rattle.calls.specs.Numbers.{NUMBER-MAX}
@@ -39,7 +40,7 @@ spoiled c = ⊎-elim (λ t. damaged-head rules (state (c .before .before .before
     (c .if1 .came)
 
 walker : (c : tie.At-match-keys1) → Synchronising (c .before .publisher-at .result)
-walker c = rw (c .before .publisher-at .ensures) (synchronising-of rules law _ (clean (c .before .before .before .before .before .before)) _ (rw (c .before .before .before .before .publishers-of .ensures) at (c .before .before .before .if4 .left)) (walks-late _ (rw (c .before .publisher-at .ensures) at (c .match .keys1))))
+walker c = rw (c .before .publisher-at .ensures) (synchronising-of rules law _ (clean (c .before .before .before .before .before .before)) _ (rw (c .before .before .before .before .publishers-of .ensures) at (c .before .before .before .if4 .left)) (turn-low _ (rw (c .before .publisher-at .ensures) at (c .match .keys1))))
 
 room : (c : tie.Else5) → c .before .before .before .before .publisher-at .result .walk .looks + c .before .before .before .before .before .before .before .before .before .before .before .before .before .before .before .before .before .before .before .args .b ≤ NUMBER-MAX
 room c = omega (arith, c .if5 .left, c .before .before .before .before .before .before .before .before .before .before .before .before .before .before .before .before .before .before .before .fits .b)
