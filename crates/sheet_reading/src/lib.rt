@@ -1,6 +1,6 @@
 // A run sheet's line to a command, by the definition of sheet_law.
 // A word, its arguments, and the whole line; only `parse` is for others.
-// It uses calls, sheet_law and sheet_fields.
+// It uses sheet_fields, sheet_law and what lies below.
 ghost use mathlib.Core.Path.{_≡_};
 ghost use Rattle.sheet_law.specs.Reading.{word as Reading·word, kindNamed, oneOf, twoOf, one as Reading·one, two as Reading·two, writing as Reading·writing, making as Reading·making, makingOf, command as Reading·command, lineOf};
 use calls::Call;
