@@ -1,5 +1,4 @@
 // The two stores as a Rattle program uses them: by value, every call a method that hands the store back with its reply.
-// On each store a publication runs whole while a blade loop still reads the old table; two publishers of the new store share a wait; the old store refuses a second one.
 // Each reply is a line of standard output in the run sheet's words, in the order of the calls; of a table's 32 WRITEs the last alone. The file stdout has what is expected, worked out by hand from document 01.
 // It uses grace_version, two_phase and calls, and io and libc to write; nothing uses it.
 ghost use mathlib.Core.Path.{_≡_};

@@ -20,7 +20,8 @@ use Rattle.layout.specs.declared.Walk.{Walk}
 use Rattle.layout.specs.declared.Progress.{Progress}
 use Rattle.layout.specs.Layout.{readers, publishers, slots, current, version, readerAt, withReader}
 use Rattle.statement.specs.Machine.{State, state, outcome}
-use Rattle.publication_law.specs.Steps.{reader, publisher, withLook}
+use Rattle.publication_law.specs.Steps.{reader, publisher}
+use Rattle.publication_law.specs.Looks.{withLook}
 use Rattle.publication_law.specs.Rules.{damaged, step}
 use Rattle.publication_law.specs.Calls.{undamaged-fine, enter-accepted, leave-accepted}
 use Rattle.grace_version_law.specs.Steps.{readerRows, ownRows, onward, leaving, lookedAt, looksFrom, rules}

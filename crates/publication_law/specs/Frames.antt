@@ -21,25 +21,26 @@ use Rattle.layout.specs.declared.Progress.{Progress}
 use Rattle.layout.specs.Layout.{HEAD, CURRENT-AT, VERSION-AT, RELEASES-AT, publishers, readerAt, publisherAt, withPublisher}
 use Rattle.layout.specs.Laws.{publisher-put, head-publisher}
 use Rattle.statement.specs.Machine.{State, Outcome}
-use Rattle.statement.specs.Companions.{readerNamed, publisherNamed, headNamed, Framed}
+use Rattle.statement.specs.Companions.{readerNamed, publisherNamed, headNamed, One, Framed}
 use Rattle.publication_law.specs.Steps.{Versions, publisher, claim, claimTests, write, writeTests, swap, swapTests, sync, syncTests, raise, walk, walked, release, releaseTests, oneMore}
 use Rattle.publication_law.specs.Damage.{Kind}
 use Rattle.publication_law.specs.DamageLaws.{Fine, publisher-below}
 use Rattle.publication_law.specs.Decide.{raise-split}
-use Rattle.publication_law.specs.Moves.{MovesPublisher, MovesReader, publisher-moves, publisher-moves-head}
+use Rattle.publication_law.specs.Moves.{MovesPublisher, MovesReader, none-moved, one-moved, publisher-moves, publisher-moves-head}
 
 pub same-framed : (c : Call) (w : List ℕ) → Framed c w w
-same-framed c w = record { readers = λ r ne. refl; publishers = λ p ne. refl; head = λ k l e. refl }
+same-framed c w = record { readers = λ r ne. refl; publishers = λ p ne. refl; head = λ k l e. refl; one = none-moved w w (λ k l. refl) }
 
 upd-other : {A : Type 0} (f : ℕ → A) (i : ℕ) (a : A) (j : ℕ) → i ≢ j → upd f i a j ≡ f j
 upd-other f i a j ne = rw (ne-eqb j i (λ z. ne (sym z))) refl
 
 publisher-framed : (c : Call) (w w′ : List ℕ) (p : ℕ) (y : Publisher) (cur ver rel : ℕ) → MovesPublisher w w′ p y cur ver rel → publisherNamed c ≡ some p
-    → ((k : ℕ) → k < HEAD → headNamed c k ≡ false → getD w′ k 0 ≡ getD w k 0) → Framed c w w′
-publisher-framed c w w′ p y cur ver rel m e stays = record {
+    → ((k : ℕ) → k < HEAD → headNamed c k ≡ false → getD w′ k 0 ≡ getD w k 0) → One w w′ → Framed c w w′
+publisher-framed c w w′ p y cur ver rel m e stays one = record {
   readers = λ r ne. ap (λ (f : ℕ → Reader). f r) (m .readers-stay);
   publishers = λ q ne. ap (λ (f : ℕ → Publisher). f q) (m .publishers-are) ∙ upd-other (publisherAt w) p y q (λ z. ne (e ∙ ap some z));
   head = stays;
+  one = one;
 }
 
 -- ENTER and LEAVE, of whichever kind.
@@ -48,18 +49,20 @@ reader-framed c w w′ r x m e named = record {
   readers = λ q ne. ap (λ (f : ℕ → Reader). f q) (m .readers-are) ∙ upd-other (readerAt w) r x q (λ z. ne (e ∙ ap some z));
   publishers = λ p ne. ap (λ (f : ℕ → Publisher). f p) (m .publishers-stay);
   head = λ k l n. m .head k (ltb-false RELEASES-AT k (sym (ap (λ (f : ℕ → Bool). f k) named) ∙ n));
+  one = m .one;
 }
 
 module _ (K : Kind) (s : State) (f : Fine K s) where
   -- A call that moves its publisher's record alone.
   record-framed : (c : Call) (p : ℕ) (y : Publisher) → p < publishers (s .words) → publisherNamed c ≡ some p → Framed c (s .words) (withPublisher (s .words) p y)
   record-framed c p y lt e = publisher-framed c _ _ p _ _ _ _ (publisher-moves f p y lt) e (λ k l n. head-publisher (s .words) p y k l)
+      (none-moved (s .words) (withPublisher (s .words) p y) (head-publisher (s .words) p y))
 
   -- .. and one that moves number j of the head besides.
   head-framed : (c : Call) (p : ℕ) (y : Publisher) (j v : ℕ) → p < publishers (s .words) → CURRENT-AT ≤ j → j ≤ RELEASES-AT → publisherNamed c ≡ some p → headNamed c ≡ (λ k. eqb k j)
       → Framed c (s .words) (set (withPublisher (s .words) p y) j v)
   head-framed c p y j v lt low high e named = publisher-framed c _ _ p _ _ _ _ (publisher-moves-head f p y lt j v low high) e
-      (λ k l n. getD-set-other (withPublisher (s .words) p y) j k v 0 (eqb-false k j (sym (ap (λ (g : ℕ → Bool). g k) named) ∙ n)) ∙ head-publisher (s .words) p y k l)
+      (λ k l n. getD-set-other (withPublisher (s .words) p y) j k v 0 (eqb-false k j (sym (ap (λ (g : ℕ → Bool). g k) named) ∙ n)) ∙ head-publisher (s .words) p y k l) (one-moved (s .words) (withPublisher (s .words) p y) j v (head-publisher (s .words) p y))
 
   pub claim-framed : (e : Bool) (p x : ℕ) → AllClear (claimTests e s p x) → Framed (Claim p x) (s .words) (claim s p x .after .words)
   claim-framed e p x c = record-framed (Claim p x) p _ (leb-false _ _ (c .0)) refl

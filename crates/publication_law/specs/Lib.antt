@@ -19,3 +19,4 @@ pub mod Lawful
 pub mod Detector
 pub mod Promises
 pub mod Varied
+pub mod Looks

@@ -15,8 +15,16 @@ use Rattle.layout.specs.declared.Publisher.{Publisher}
 use Rattle.layout.specs.Layout.{HEAD, indicator, CURRENT-AT, VERSION-AT, RELEASES-AT, WORDS, readers, publishers, current, version, releases, readerAt, publisherAt, withReader, withPublisher}
 use Rattle.layout.specs.Laws.{length-reader, length-publisher, head-reader, head-publisher, reader-head, publisher-head, reader-publisher, publisher-reader, reader-put, publisher-put, indicator-by}
 use Rattle.statement.specs.Machine.{State}
+use Rattle.statement.specs.Companions.{One}
 use Rattle.publication_law.specs.Damage.{Kind}
 use Rattle.publication_law.specs.DamageLaws.{Fine, reader-below, publisher-below}
+
+-- Where the whole head stays, and where number j of it is stored besides: at most one number of the head moved.
+pub none-moved : (w w′ : List ℕ) → ((k : ℕ) → k < HEAD → getD w′ k 0 ≡ getD w k 0) → One w w′
+none-moved w w′ stays = (0, λ k l ne. stays k l)
+
+pub one-moved : (w w′ : List ℕ) (j v : ℕ) → ((k : ℕ) → k < HEAD → getD w′ k 0 ≡ getD w k 0) → One w (set w′ j v)
+one-moved w w′ j v stays = (j, λ k l ne. getD-set-other w′ j k v 0 ne ∙ stays k l)
 
 upd-field : {A B : Type 0} (f : A → B) (u v : ℕ → A) (i : ℕ) (x : A) → u ≡ upd v i x → _≡_ {A = ℕ → B} (λ j. f (u j)) (upd (λ j. f (v j)) i (f x))
 upd-field f u v i x e = fun-ext (λ j. ap (λ (w : ℕ → _). f (w j)) e ∙ go (eqb j i) j)
@@ -74,10 +82,11 @@ moves-head w w′ p y cur ver rel m len k v low high = record {
         go true d = rw (eqb-true j k d) (getD-set-same w′ k v 0 (omega (arith, m .long)))
         go false d = getD-set-other w′ k j v 0 (eqb-false j k d) ∙ e
 
--- w′ is w with reader r anew as x; the indicators are a kind's own.
+-- w′ is w with reader r anew as x; one of the indicators may have moved, which is a kind's own.
 pub record MovesReader (w w′ : List ℕ) (r : ℕ) (x : Reader) : Type 0 where
   pub long : length w′ ≡ length w
   pub head : (k : ℕ) → k ≤ RELEASES-AT → getD w′ k 0 ≡ getD w k 0
+  pub one : One w w′
   pub readers-are : readerAt w′ ≡ upd (readerAt w) r x
   pub publishers-stay : publisherAt w′ ≡ publisherAt w
 
@@ -89,16 +98,19 @@ moves-reader : (w : List ℕ) (r : ℕ) (x : Reader) → length w ≡ WORDS → 
 moves-reader w r x len lt = record {
   long = length-reader w r x;
   head = λ k l. head-reader w r x k (omega arith);
+  one = none-moved w (withReader w r x) (head-reader w r x);
   readers-are = reader-put (λ (y : Reader). y) w r x len lt;
   publishers-stay = publisher-reader w r x lt;
 }
 
-pub moves-indicator : (w w′ : List ℕ) (r : ℕ) (x : Reader) → MovesReader w w′ r x → (k v : ℕ) → RELEASES-AT < k → k < HEAD → MovesReader w (set w′ k v) r x
-moves-indicator w w′ r x m k v low high = record {
-  long = length-set w′ k v ∙ m .long;
-  head = λ j l. getD-set-other w′ k j v 0 (λ z. omega arith) ∙ m .head j l;
-  readers-are = reader-head w′ k v high ∙ m .readers-are;
-  publishers-stay = publisher-head w′ k v high ∙ m .publishers-stay;
+-- .. and indicator word k anew besides.
+moves-indicator : (w : List ℕ) (r : ℕ) (x : Reader) → MovesReader w (withReader w r x) r x → (k v : ℕ) → RELEASES-AT < k → k < HEAD → MovesReader w (set (withReader w r x) k v) r x
+moves-indicator w r x m k v low high = record {
+  long = length-set (withReader w r x) k v ∙ m .long;
+  head = λ j l. getD-set-other (withReader w r x) k j v 0 (λ z. omega arith) ∙ m .head j l;
+  one = one-moved w (withReader w r x) k v (head-reader w r x);
+  readers-are = reader-head (withReader w r x) k v high ∙ m .readers-are;
+  publishers-stay = publisher-head (withReader w r x) k v high ∙ m .publishers-stay;
 }
 
 -- Of a store that is fine: each of its publishers and readers has a record.
@@ -112,3 +124,6 @@ module _ {K : Kind} {s : State} (f : Fine K s) where
 
   pub reader-moves : (r : ℕ) (x : Reader) → r < readers (s .words) → MovesReader (s .words) (withReader (s .words) r x) r x
   reader-moves r x lt = moves-reader (s .words) r x (f .head .long) (reader-below K s f r lt)
+
+  pub reader-moves-indicator : (r : ℕ) (x : Reader) → r < readers (s .words) → (k v : ℕ) → RELEASES-AT < k → k < HEAD → MovesReader (s .words) (set (withReader (s .words) r x) k v) r x
+  reader-moves-indicator r x lt k v low high = moves-indicator (s .words) r x (reader-moves r x lt) k v low high

@@ -151,10 +151,6 @@ raise vs s p = pick (eqb (version (s .words)) (vs .beforeMark (publisher s p .wa
 abbrev pub tooManyLooks : State → ℕ → ℕ → Test
 tooManyLooks s p b = ltb NUMBER-MAX (publisher s p .walk .looks + b) gives TOO-MANY-LOOKS
 
--- A walk with one look more. Every look, passed or not, adds one to looks; next rises by the readers that it passed, waits by how often it waited.
-abbrev pub withLook : Walk → ℕ → ℕ → Walk
-withLook k passed waited = record { mark = k .mark; next = k .next + passed; looks = k .looks + 1; waits = k .waits + waited }
-
 -- A quiet look leads to place 36, a return to 38; waiting and spent stay.
 abbrev pub placeAfter : ℕ → WalkReply → ℕ
 placeAfter place (Waiting w) = place

@@ -2,7 +2,7 @@
 // `count_look` takes the record apart and is proved by hand; every caller uses `look_counted`, whose parameters are plain.
 // It uses layout and calls; its contracts cite publication_law and what lies below.
 ghost use mathlib.Core.Path.{_≡_};
-ghost use Rattle.publication_law.specs.Steps.{withLook};
+ghost use Rattle.publication_law.specs.Looks.{withLook};
 ghost use Rattle.publication_looks.specs.Fits.{Fits};
 use layout::Walk;
 

@@ -1,6 +1,5 @@
 // The C library: making and the ten calls for a store of any kind as functions of C over lent slices, the reply three numbers by value.
-// A slice is a pointer and a length. Each function is total, and its contract is the step (or the making) of kinds_law, through `answerOf`.
-// A call goes by the kind word here, as in kinds, and not through it; docs/DECISIONS.md says why.
+// Each function is total, and its contract is the step (or the making) of kinds_law, through `answerOf`. A call goes by the kind word here, as in kinds (docs/DECISIONS.md says why).
 // It uses kinds, the kinds' calls and what lies below.
 ghost use mathlib.Core.Path.{_≡_};
 ghost use Prim.Native.Nat.{_<_};

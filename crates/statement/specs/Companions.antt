@@ -86,13 +86,18 @@ headNamed (Raise p) k = eqb k VERSION-AT
 headNamed (Walk p b) k = false
 headNamed (Release p) k = eqb k RELEASES-AT
 
+-- Of the head at most one word moved.
+abbrev pub One : List ℕ → List ℕ → Type 0
+One w w′ = (j : ℕ) × ((k : ℕ) → k < HEAD → k ≢ j → getD w′ k 0 ≡ getD w k 0)
+
 -- Only what is named moved.
 pub record Framed (c : Call) (w w′ : List ℕ) : Type 0 where
   pub readers : (r : ℕ) → readerNamed c ≢ some r → readerAt w′ r ≡ readerAt w r
   pub publishers : (p : ℕ) → publisherNamed c ≢ some p → publisherAt w′ p ≡ publisherAt w p
   pub head : (k : ℕ) → k < HEAD → headNamed c k ≡ false → getD w′ k 0 ≡ getD w k 0
+  pub one : One w w′
 
--- For every state: a call moves the record of the reader or publisher named, perhaps the one number of the head that its step names, and nothing else;
+-- For every state: a call moves the record of the reader or publisher named, perhaps one number of the head, which its step names, and nothing else;
 -- a WALK that record alone. Only WRITE moves the entries.
 pub record Frame (M : Machine) : Type 0 where
   pub words : (s : State) (c : Call) → Framed c (s .words) (M .step s c .after .words)

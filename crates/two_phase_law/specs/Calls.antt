@@ -22,7 +22,8 @@ use Rattle.layout.specs.declared.Publisher.{Publisher}
 use Rattle.layout.specs.declared.Walk.{Walk}
 use Rattle.layout.specs.Layout.{readers, current, version, indicator, readerAt, withReader, withIndicator}
 use Rattle.statement.specs.Machine.{State, state, outcome}
-use Rattle.publication_law.specs.Steps.{reader, withLook}
+use Rattle.publication_law.specs.Steps.{reader}
+use Rattle.publication_law.specs.Looks.{withLook}
 use Rattle.publication_law.specs.Damage.{headRows, readersTest, publishersTest}
 use Rattle.publication_law.specs.DamageLaws.{Fine}
 use Rattle.publication_law.specs.Rules.{damaged, act, step}

@@ -28,7 +28,7 @@ use Rattle.publication_law.specs.Steps.{reader, publisher, enterTests, leaveTes
 use Rattle.publication_law.specs.DamageLaws.{Fine}
 use Rattle.publication_law.specs.Core.{Onward}
 use Rattle.publication_law.specs.Core.Onward.{stays-out, opens, picks}
-use Rattle.publication_law.specs.Moves.{MovesReader, reader-moves, moves-indicator}
+use Rattle.publication_law.specs.Moves.{MovesReader, reader-moves, reader-moves-indicator}
 use Rattle.publication_law.specs.KindLaw.{KindLaw, up-to-law}
 use Rattle.publication_law.specs.Rules.{traitsOf}
 use Rattle.publication_law.specs.Lawful.{Good, Lawful}
@@ -90,13 +90,11 @@ onward-first ver cur x l = rw (ne-eqb (x .place) 0 (λ z. omega arith), ne-eqb (
 -- The words after an ENTER and a LEAVE.
 enter-moves : (s : State) → Fine kind s → (r : ℕ) → r < readers (s .words) → MovesReader (s .words) (enterWords s r) r (entered s r)
 enter-moves s f r l =
-    let m = reader-moves f r (entered s r) l in
     pick-split (λ (w : List ℕ). MovesReader (s .words) w r (entered s r)) (eqb (reader s r .place) 1)
-    (λ _. moves-indicator _ _ r _ m (INDICATORS-AT + parity (reader s r .first)) _ (omega arith) (omega arith)) (λ _. m)
+    (λ _. reader-moves-indicator f r (entered s r) l (INDICATORS-AT + parity (reader s r .first)) _ (omega arith) (omega arith)) (λ _. reader-moves f r (entered s r) l)
 
 leave-moves : (s : State) → Fine kind s → (r : ℕ) → r < readers (s .words) → MovesReader (s .words) (leaveWords s r) r (leaving (reader s r))
-leave-moves s f r l = moves-indicator _ _ r _ (reader-moves f r (leaving (reader s r)) l)
-    (INDICATORS-AT + parity (reader s r .first)) _ (omega arith) (omega arith)
+leave-moves s f r l = reader-moves-indicator f r (leaving (reader s r)) l (INDICATORS-AT + parity (reader s r .first)) _ (omega arith) (omega arith)
 
 -- The indicators after a reader is written, with one of them anew.
 changed-indicator : (w : List ℕ) → HEAD ≤ length w → (r : ℕ) (x : Reader) (k : ℕ) → k < INDICATORS → (d : ℕ → ℕ) (i : ℕ)

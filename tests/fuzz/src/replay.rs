@@ -149,8 +149,8 @@ fn enough(what: &str, missing: Vec<String>, found: usize, least: usize) -> Resul
     Ok(())
 }
 
-/// How many alterations the kept corpus finds.
-const FOUND_BY_CALLS: usize = 101;
+/// How many alterations the kept corpus of sheets finds: all that can show on
+/// a sheet of fewer than 65536 bytes.
 const FOUND_BY_SHEETS: usize = 153;
 
 fn replay(path: &Path, corpus: &Path) -> Result<(), String> {
@@ -158,7 +158,12 @@ fn replay(path: &Path, corpus: &Path) -> Result<(), String> {
     let all = together(&given, of_calls)?;
     let cells: Vec<Cell> = all.cells.into_iter().collect();
     let found = all.altered.len();
-    enough("calls", missing_of_calls(&cells), found, FOUND_BY_CALLS)?;
+    enough(
+        "calls",
+        missing_of_calls(&cells),
+        found,
+        Alteration::all().len(),
+    )?;
     println!(
         "alike: {} calls of {} inputs, {} answers by kind, call and place; {found} alterations found",
         all.compared, given.len(), cells.len()

@@ -39,7 +39,7 @@ use denote.Triple.Table.{entered, cited}
 use denote.Triple.Walked.{says, needs, Stays, stay-ref, stay-none, walkOf, goes-none, goes-ref, Walks, ends-at, walked, walk-meets}
 use denote.Exit.{yes}
 use Rattle.layout.specs.declared.Walk.{Walk}
-use Rattle.publication_law.specs.Steps.{withLook}
+use Rattle.publication_law.specs.Looks.{withLook}
 use Rattle.publication_looks.specs.Fits.{Fits}
 use Rattle.layout.proofs.Walk as T
 use Rattle.layout.proofs.Walk.Laws as T′
