@@ -29,7 +29,7 @@ use Rattle.publication_law.specs.Decide.{raise-split}
 use Rattle.publication_law.specs.Moves.{MovesPublisher, MovesReader, none-moved, one-moved, publisher-moves, publisher-moves-head}
 
 pub same-framed : (c : Call) (w : List ℕ) → Framed c w w
-same-framed c w = record { readers = λ r ne. refl; publishers = λ p ne. refl; head = λ k l e. refl; one = none-moved w w (λ k l. refl) }
+same-framed c w = record { long = refl; readers = λ r ne. refl; publishers = λ p ne. refl; head = λ k l e. refl; one = none-moved w w (λ k l. refl) }
 
 upd-other : {A : Type 0} (f : ℕ → A) (i : ℕ) (a : A) (j : ℕ) → i ≢ j → upd f i a j ≡ f j
 upd-other f i a j ne = rw (ne-eqb j i (λ z. ne (sym z))) refl
@@ -37,6 +37,7 @@ upd-other f i a j ne = rw (ne-eqb j i (λ z. ne (sym z))) refl
 publisher-framed : (c : Call) (w w′ : List ℕ) (p : ℕ) (y : Publisher) (cur ver rel : ℕ) → MovesPublisher w w′ p y cur ver rel → publisherNamed c ≡ some p
     → ((k : ℕ) → k < HEAD → headNamed c k ≡ false → getD w′ k 0 ≡ getD w k 0) → One w w′ → Framed c w w′
 publisher-framed c w w′ p y cur ver rel m e stays one = record {
+  long = m .long;
   readers = λ r ne. ap (λ (f : ℕ → Reader). f r) (m .readers-stay);
   publishers = λ q ne. ap (λ (f : ℕ → Publisher). f q) (m .publishers-are) ∙ upd-other (publisherAt w) p y q (λ z. ne (e ∙ ap some z));
   head = stays;
@@ -46,6 +47,7 @@ publisher-framed c w w′ p y cur ver rel m e stays one = record {
 -- ENTER and LEAVE, of whichever kind.
 pub reader-framed : (c : Call) (w w′ : List ℕ) (r : ℕ) (x : Reader) → MovesReader w w′ r x → readerNamed c ≡ some r → headNamed c ≡ (λ k. ltb RELEASES-AT k) → Framed c w w′
 reader-framed c w w′ r x m e named = record {
+  long = m .long;
   readers = λ q ne. ap (λ (f : ℕ → Reader). f q) (m .readers-are) ∙ upd-other (readerAt w) r x q (λ z. ne (e ∙ ap some z));
   publishers = λ p ne. ap (λ (f : ℕ → Publisher). f p) (m .publishers-stay);
   head = λ k l n. m .head k (ltb-false RELEASES-AT k (sym (ap (λ (f : ℕ → Bool). f k) named) ∙ n));

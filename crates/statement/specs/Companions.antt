@@ -92,6 +92,7 @@ One w w′ = (j : ℕ) × ((k : ℕ) → k < HEAD → k ≢ j → getD w′ k 0 
 
 -- Only what is named moved.
 pub record Framed (c : Call) (w w′ : List ℕ) : Type 0 where
+  pub long : length w′ ≡ length w
   pub readers : (r : ℕ) → readerNamed c ≢ some r → readerAt w′ r ≡ readerAt w r
   pub publishers : (p : ℕ) → publisherNamed c ≢ some p → publisherAt w′ p ≡ publisherAt w p
   pub head : (k : ℕ) → k < HEAD → headNamed c k ≡ false → getD w′ k 0 ≡ getD w k 0
