@@ -3,5 +3,3 @@ pub mod Walks
 pub mod Safety
 pub mod Promises
 pub mod Calls
-pub mod Examples
-pub mod Refuted

@@ -5,8 +5,8 @@ use mathlib.Core.List.{List, _++_}
 use Rattle.calls.specs.Numbers.{KIND-NEW, KIND-OLD}
 use Rattle.statement.specs.Examples.{Example, AllHold, all-hold-append}
 use Rattle.statement.specs.Alike.{allBy, AllBegin, all-hold-alike}
-use Rattle.grace_version_law.specs.Examples as new-store
-use Rattle.two_phase_law.specs.Examples as old-store
+use Rattle.grace_version_examples.specs.Examples as new-store
+use Rattle.two_phase_examples.specs.Examples as old-store
 use Rattle.kinds_law.specs.Kinds.{store}
 use Rattle.kinds_law.specs.Kinds.Name.{new, old}
 use Rattle.sheet_law.specs.Sheet.{sheet}

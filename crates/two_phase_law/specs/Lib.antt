@@ -3,5 +3,3 @@ pub mod Counts
 pub mod Safety
 pub mod Promises
 pub mod Calls
-pub mod Examples
-pub mod Refuted
