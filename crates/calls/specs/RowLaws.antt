@@ -155,6 +155,16 @@ unfolding anyBelow
 no-below f zero h = refl
 no-below f (suc n) h = rw (no-below f n (λ i l. h i (omega arith))) (h n (omega arith))
 
+pub any-below : (f : ℕ → Bool) (n : ℕ) → anyBelow f n ≡ true → (i : ℕ) × (i < n) × (f i ≡ true)
+unfolding anyBelow
+any-below f zero e = clash (sym e)
+any-below f (suc n) e = go (anyBelow f n) refl (f n) refl (λ d. any-below f n d)
+  where
+    go : (a : Bool) → anyBelow f n ≡ a → (b : Bool) → f n ≡ b → (anyBelow f n ≡ true → (i : ℕ) × (i < n) × (f i ≡ true)) → (i : ℕ) × (i < suc n) × (f i ≡ true)
+    go true d b q rec = let x = rec d in (x .0, omega (arith, x .1), x .2)
+    go false d true q rec = (n, omega arith, q)
+    go false d false q rec = clash (sym (rw (d, q) at e))
+
 -- A scan as a loop makes it: of no number, and of one more.
 pub none-first : (f : ℕ → Bool) → anyBelow f 0 ≡ false
 unfolding anyBelow

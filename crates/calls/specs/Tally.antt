@@ -1,7 +1,9 @@
 -- What the companions of demand 3 count and order, told by the calls alone.
 use Prim.Native.Nat.{ℕ, suc}
+use mathlib.Core.Bool.{Bool}
 use mathlib.Core.List.{List}
 use mathlib.Core.Option.{Option, none, some}
+use lib.Dec.{eqb}
 use Rattle.calls.specs.declared.Call.{Call}
 use Rattle.calls.specs.declared.Call.the-variants.{Enter, Look, Leave, Claim, Write, Swap, Sync, Raise, Walk, Release}
 use Rattle.calls.specs.declared.Reply.{Reply}
@@ -10,13 +12,28 @@ use Rattle.calls.specs.declared.WalkReply.the-variants.{Waiting, Spent, 
 use Rattle.calls.specs.Base.{upd}
 use Rattle.calls.specs.Events.{Event, placeOf, walkOf, foldEvents}
 
--- What a publisher did last, of CLAIM, SWAP, SYNC, a WALK that returned and RELEASE; idle after a RELEASE, and if nothing yet.
+-- What a publisher did last, of CLAIM, SWAP, SYNC, a WALK that replied quiet, RAISE, a WALK that returned and RELEASE; idle after a RELEASE, and if nothing yet.
 pub data Phase : Type 0 where
   idle : Phase
   writing : Phase
   swapped : Phase
-  syncing : Phase
+  synchronising : Phase
+  quiet : Phase
+  raised : Phase
   returned : Phase
+
+-- The place with which a phase begins; whether a phase is x.
+abbrev pub firstPlace : Phase → ℕ
+firstPlace idle = 0
+firstPlace writing = 1
+firstPlace swapped = 34
+firstPlace synchronising = 35
+firstPlace quiet = 36
+firstPlace raised = 37
+firstPlace returned = 38
+
+abbrev pub inPhase : Phase → Phase → Bool
+inPhase x y = eqb (firstPlace y) (firstPlace x)
 
 pub record Tally : Type 0 where
   -- the place that a reader's last ENTER replied, and 0 at the start and after a LEAVE
@@ -47,7 +64,7 @@ abbrev pub withWalk : Tally → ℕ → Option WalkReply → Tally
 withWalk y p none = y
 withWalk y p (some (Waiting w)) = withWaits y p (suc (y .waits p))
 withWalk y p (some Spent) = y
-withWalk y p (some Quiet) = y
+withWalk y p (some Quiet) = withPhase y p quiet
 withWalk y p (some (Returned l w)) = withPhase y p returned
 
 abbrev pub tally : Tally → Call → Reply → Tally
@@ -57,8 +74,8 @@ tally y (Leave r) a = withPlace y r (some 0)
 tally y (Claim p s) a = withPhase y p writing
 tally y (Write p v) a = y
 tally y (Swap p) a = withPhase y p swapped
-tally y (Sync p) a = withWaits (withPhase y p syncing) p 0
-tally y (Raise p) a = y
+tally y (Sync p) a = withWaits (withPhase y p synchronising) p 0
+tally y (Raise p) a = withPhase y p raised
 tally y (Walk p b) a = withWalk y p (walkOf a)
 tally y (Release p) a = withReleases (withPhase y p idle) (suc (y .releases))
 

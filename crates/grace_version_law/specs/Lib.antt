@@ -1,4 +1,5 @@
 pub mod Steps
+pub mod Traits
 pub mod Walks
 pub mod Safety
 pub mod Promises

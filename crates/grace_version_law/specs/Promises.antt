@@ -1,38 +1,44 @@
 -- The theorems about the new store. Assumes nothing.
-use Prim.Native.Nat.{ℕ, suc, _+_, _<_, _≤_}
-use mathlib.Core.Path.{_≡_, refl, sym, subst}
-use mathlib.Core.Logic.{_≢_}
-use mathlib.Core.Bool.{Bool, true, false, not}
-use mathlib.Core.List.{[], _∷_}
-use lib.Dec.{leb, eqb}
-use borrow.Author.Tests.{eqb-true}
+use Prim.Native.Nat.{ℕ, _+_, _<_, _≤_}
+use native.Mathlib.Omega.{arith}
+use mathlib.Core.Path.{_≡_, refl, sym, _∙_, subst}
+use mathlib.Core.Logic.{_≢_, _⊎_, inl, inr}
+use mathlib.Core.Bool.{Bool, true, false, not, _||_}
+use mathlib.Core.List.{List, [], _∷_}
+use lib.Dec.{leb, ltb, eqb}
+use borrow.Author.Tests.{eqb-true, eqb-false, leb-true, leb-false, ltb-false, not-true}
+use Rattle.calls.specs.declared.Call.{Call}
 use Rattle.calls.specs.declared.Call.the-variants.{Claim, Walk}
 use Rattle.calls.specs.declared.Reply.the-variants.{Walked, Refused}
-use Rattle.calls.specs.declared.WalkReply.the-variants.{Spent}
+use Rattle.calls.specs.declared.WalkReply.{WalkReply}
+use Rattle.calls.specs.declared.WalkReply.the-variants.{Waiting, Spent, Quiet, Returned}
 use Rattle.calls.specs.Numbers.{NO-SUCH-PUBLISHER, NO-SUCH-SLOT, PUBLISHER-TURN, BUSY, SLOT-IN-USE}
-use Rattle.calls.specs.Rows.{firstOf}
+use Rattle.calls.specs.Rows.{firstOf, anyBelow}
 use Rattle.calls.specs.Rows.Test.{_gives_}
+use Rattle.calls.specs.RowLaws.{and-true, or-false, any-below}
 use Rattle.calls.specs.Events.{accepted}
+use Rattle.calls.specs.Tally.{tallyOf}
 use Rattle.calls.specs.Model.{firstTable}
 use Rattle.layout.specs.declared.Progress.{Progress}
-use Rattle.layout.specs.Layout.{readers, publishers, slots}
-use Rattle.statement.specs.Machine.{State}
+use Rattle.layout.specs.Layout.{readers, publishers, slots, current, readerAt}
+use Rattle.statement.specs.Machine.{State, Given, Fresh, events, afterAll, heldSlot}
 use Rattle.statement.specs.Demand3.{Demand3}
-use Rattle.statement.specs.Companions.{Traits}
+use Rattle.statement.specs.Kept.{Ghost, ghost₀, all-tally}
 use Rattle.publication_law.specs.Steps.{reader, publisher, inUse}
 use Rattle.publication_law.specs.Rules.{damaged, act, rows, step}
+use Rattle.publication_law.specs.DamageLaws.{Fine}
+use Rattle.publication_law.specs.KindLaw.{fine-publisher}
 use Rattle.publication_law.specs.Decide.{decide-why}
+use Rattle.publication_law.specs.Lawful.{Good}
+use Rattle.publication_law.specs.Detector.{OwnOf}
 use Rattle.publication_law.specs.Promises.{Promises, promises-of, WalkFacts, walk-facts}
-use Rattle.grace_version_law.specs.Steps.{LAST, lookedAt, looksOf, rules, GraceVersion}
-use Rattle.grace_version_law.specs.Walks.{Looked, looked, spent-if}
-use Rattle.grace_version_law.specs.Safety.{next-below, lawful}
-
--- No version is above LAST; a return passes each reader once; ENTER goes 1, 2, 3, 4, 5; a claim needs nobody's leave.
-abbrev pub traits : Traits
-traits = record { first = λ z. firstTable; last = LAST; passes = λ z. z .readers; onward = suc; exclusive = false }
+use Rattle.grace_version_law.specs.Steps.{LAST, kind, lookedAt, looksOf, rules, GraceVersion}
+use Rattle.grace_version_law.specs.Traits.{traits}
+use Rattle.grace_version_law.specs.Walks.{Ends, Looked, looked, spent-if}
+use Rattle.grace_version_law.specs.Safety.{law, detector, next-below, lawful, new-reached}
 
 pub new-promises : Promises rules traits
-new-promises = promises-of rules LAST (λ z. z .readers) suc lawful
+new-promises = promises-of rules traits lawful
 
 pub new-demand3 : Demand3 GraceVersion (λ z. firstTable)
 new-demand3 = new-promises .demand3
@@ -54,22 +60,70 @@ new-walk-facts s p b = walk-facts rules s p b (WalkLooks s p b (looksOf s (publi
       spent-exactly = λ l all. spent-if (s .words) (readers (s .words)) (publisher s p .walk .mark) (publisher s p .walk .waits) b (publisher s p .walk .next) (publisher s p .walk .looks) l all;
     })
 
--- A claim on an unspoiled new store is refused only for a wrong name, a wrong turn or a slot in use.
-pub data ClaimRefusal : ℕ → Type 0 where
-  no-publisher : ClaimRefusal 11
-  no-slot : ClaimRefusal 12
-  wrong-turn : ClaimRefusal 21
-  in-use : ClaimRefusal 30
+-- A slot in use is current, or a publisher at a place other than 0 holds it.
+abbrev pub InUse : State → ℕ → Type 0
+InUse s x = (current (s .words) ≡ x) ⊎ ((q : ℕ) × (q < publishers (s .words)) × (publisher s q .place ≢ 0) × (publisher s q .held ≡ x))
 
-claim-first : (a b c d : Bool) (n : ℕ) → n ≢ 0 → firstOf ((a gives NO-SUCH-PUBLISHER) ∷ (b gives NO-SUCH-SLOT) ∷ (c gives PUBLISHER-TURN) ∷ (false gives BUSY) ∷ (d gives SLOT-IN-USE) ∷ []) ≡ n → ClaimRefusal n
-claim-first true b c d n ne e = subst ClaimRefusal e no-publisher
-claim-first false true c d n ne e = subst ClaimRefusal e no-slot
-claim-first false false true d n ne e = subst ClaimRefusal e wrong-turn
-claim-first false false false true n ne e = subst ClaimRefusal e in-use
-claim-first false false false false n ne e = absurd (ne (sym e))
+-- A claim on an unspoiled new store is refused only for a wrong name, a wrong turn or a slot in use: each number only on its condition.
+pub data ClaimRefusal (s : State) (p x : ℕ) : ℕ → Type 0 where
+  no-publisher : publishers (s .words) ≤ p → ClaimRefusal s p x 11
+  no-slot : slots (s .words) ≤ x → ClaimRefusal s p x 12
+  wrong-turn : publisher s p .place ≢ 0 → ClaimRefusal s p x 21
+  in-use : InUse s x → ClaimRefusal s p x 30
 
-pub new-claim-refusals : (s : State) (p x n : ℕ) → damaged rules s ≡ false → step rules s (Claim p x) .reply ≡ Refused n → ClaimRefusal n
+in-use-why : (s : State) (x : ℕ) → inUse s x ≡ true → InUse s x
+in-use-why s x e = go (eqb (current (s .words)) x) refl e
+  where
+    go : (b : Bool) → eqb (current (s .words)) x ≡ b → (b || anyBelow (λ q. heldSlot s q x) (publishers (s .words))) ≡ true → InUse s x
+    go true d h = inl (eqb-true _ _ d)
+    go false d h =
+        let a = any-below (λ q. heldSlot s q x) (publishers (s .words)) h in
+        let b = and-true (not (eqb (publisher s (a .0) .place) 0)) (eqb (publisher s (a .0) .held) x) (a .2) in
+        inr (a .0, a .1, eqb-false _ _ (not-true _ (b .0)), eqb-true _ _ (b .1))
+
+module _ (s : State) (p x n : ℕ) (ne : n ≢ 0) where
+  claim-first : (a b c d : Bool) → leb (publishers (s .words)) p ≡ a → leb (slots (s .words)) x ≡ b → not (eqb (publisher s p .place) 0) ≡ c → inUse s x ≡ d
+      → firstOf ((a gives NO-SUCH-PUBLISHER) ∷ (b gives NO-SUCH-SLOT) ∷ (c gives PUBLISHER-TURN) ∷ (false gives BUSY) ∷ (d gives SLOT-IN-USE) ∷ []) ≡ n → ClaimRefusal s p x n
+  claim-first true b c d ea eb ec ed e = subst (ClaimRefusal s p x) e (no-publisher (leb-true _ _ ea))
+  claim-first false true c d ea eb ec ed e = subst (ClaimRefusal s p x) e (no-slot (leb-true _ _ eb))
+  claim-first false false true d ea eb ec ed e = subst (ClaimRefusal s p x) e (wrong-turn (eqb-false _ _ (not-true _ ec)))
+  claim-first false false false true ea eb ec ed e = subst (ClaimRefusal s p x) e (in-use (in-use-why s x ed))
+  claim-first false false false false ea eb ec ed e = absurd (ne (sym e))
+
+pub new-claim-refusals : (s : State) (p x n : ℕ) → damaged rules s ≡ false → step rules s (Claim p x) .reply ≡ Refused n → ClaimRefusal s p x n
 unfolding step
 new-claim-refusals s p x n fine e =
     let q = decide-why (rows rules s (Claim p x)) (act rules s (Claim p x)) s n refl e in
-    claim-first (leb (publishers (s .words)) p) (leb (slots (s .words)) x) (not (eqb (publisher s p .place) 0)) (inUse s x) n (q .1) (rw fine at (q .0))
+    claim-first s p x n (q .1) (leb (publishers (s .words)) p) (leb (slots (s .words)) x) (not (eqb (publisher s p .place) 0)) (inUse s x) refl refl refl refl (rw fine at (q .0))
+
+-- A WALK waits only for a reader that has published a version and not left since: never for one that never entered.
+waiting-below : (w : List ℕ) (n mark start b nx lk wt r : ℕ) (o : WalkReply) → Ends w n mark start b nx lk wt o → o ≡ Waiting r → (r ≡ lookedAt n nx) × (nx < n) × (readerAt w r .published < mark)
+waiting-below w n mark start b nx lk wt r (Waiting q) e d = let f : q ≡ r = cc in (sym f ∙ e .2, e .0, subst (λ (j : ℕ). readerAt w j .published < mark) f (e .3))
+waiting-below w n mark start b nx lk wt r Spent e d = absurd (let y : _≡_ {A = ℕ} 0 1 = cc in omega arith)
+waiting-below w n mark start b nx lk wt r Quiet e d = absurd e
+waiting-below w n mark start b nx lk wt r (Returned l u) e d = absurd (let y : _≡_ {A = ℕ} 0 1 = cc in omega arith)
+
+waits-published : (z : Given) (g : Ghost) (s : State) → Good kind (OwnOf detector) z g s → (p b r : ℕ) → step rules s (Walk p b) .reply ≡ Walked (Waiting r) → 2 ≤ g .tally .place r
+waits-published z g s i p b r e =
+    let k = looksOf s (publisher s p .walk) b in
+    let facts = walk-facts rules s p b (k .reply ≡ Waiting r → 2 ≤ g .tally .place r) looks (rw e refl) in
+    facts .looks-are (let q : Walked (k .reply) ≡ Walked (Waiting r) = sym (facts .reply-is) ∙ e in cc)
+  where
+    looks : Fine kind s → p < publishers (s .words) → eqb (publisher s p .place) 37 ≡ true → looksOf s (publisher s p .walk) b .reply ≡ Waiting r → 2 ≤ g .tally .place r
+    looks fine lt turn q =
+        let at37 = eqb-true (publisher s p .place) 37 turn in
+        let k = looksOf s (publisher s p .walk) b in
+        let low = next-below _ _ (publisher s p) (fine .publishers-fine p lt) (rw at37 refl) in
+        let o = looked (s .words) (readers (s .words)) (publisher s p .walk .mark) (publisher s p .walk .waits) b (publisher s p .walk .next) (publisher s p .walk .looks) low in
+        let x = waiting-below (s .words) (readers (s .words)) (publisher s p .walk .mark) (publisher s p .walk .next) b _ _ _ r (k .reply) (o .ends) q in
+        let fits = fine-publisher law (readers (s .words)) (slots (s .words)) (publisher s p) (fine .publishers-fine p lt) .mark-fits (omega arith) in
+        let high = ltb-false LAST (publisher s p .walk .mark) (or-false (eqb (publisher s p .walk .mark) 0) (ltb LAST (publisher s p .walk .mark)) fits .1) in
+        go (leb 2 (reader s r .place)) refl (x .2) high (omega (arith, x .0, x .1))
+      where
+        go : (d : Bool) → leb 2 (reader s r .place) ≡ d → reader s r .published < publisher s p .walk .mark → publisher s p .walk .mark ≤ LAST → r < readers (s .words) → 2 ≤ g .tally .place r
+        go true d l high rn = omega (arith, leb-true 2 (reader s r .place) d, i .shared .tallied .places r)
+        go false d l high rn = absurd (omega (arith, l, high, i .own .readers-are r .out rn (let q = leb-false 2 (reader s r .place) d in omega arith)))
+
+pub new-waits-for : (s : State) (f : Fresh GraceVersion s) (cs : List Call) (p b r : ℕ)
+    → step rules (afterAll GraceVersion s cs) (Walk p b) .reply ≡ Walked (Waiting r) → 2 ≤ tallyOf (events GraceVersion s cs) .place r
+new-waits-for s f cs p b r e = rw (← all-tally (ghost₀ (traits .first (f .arguments))) (events GraceVersion s cs)) (waits-published _ _ _ (new-reached s f cs) p b r e)

@@ -3,25 +3,27 @@
 use Prim.Native.Nat.{ℕ, zero, suc, _+_, _<_, _≤_}
 use native.Mathlib.Omega.{arith}
 use mathlib.Core.Path.{_≡_, refl, sym, _∙_, subst}
-use mathlib.Core.Logic.{_≢_, _⊎_, inl, inr}
+use mathlib.Core.Logic.{_≢_}
 use mathlib.Core.Bool.{Bool, true, false, _||_}
 use mathlib.Core.List.{List}
 use lib.Dec.{leb, ltb, eqb}
 use borrow.Author.Tests.{eqb-true, eqb-false, eq-eqb, ne-eqb, leb-false, lt-leb, ltb-true, ltb-false, le-ltb}
-use Rattle.calls.specs.declared.Call.the-variants.{Enter, Leave, Sync, Walk}
+use Rattle.calls.specs.declared.Call.{Call}
+use Rattle.calls.specs.declared.Call.the-variants.{Enter, Leave, Sync, Raise, Walk}
 use Rattle.calls.specs.declared.Reply.the-variants.{At, Left, Synced, Walked}
 use Rattle.calls.specs.declared.WalkReply.{WalkReply}
 use Rattle.calls.specs.declared.WalkReply.the-variants.{Waiting, Spent, Quiet, Returned}
 use Rattle.calls.specs.Base.{upd}
-use Rattle.calls.specs.Numbers.{READERS-MAX, KIND-NEW}
+use Rattle.calls.specs.Numbers.{READERS-MAX, NOT-READING, KIND-NEW}
 use Rattle.calls.specs.Rows.{anyTrue}
-use Rattle.calls.specs.RowLaws.{clash, by-test, or-none, and-false, and-not, or-false, all-false, none-true, pick-split, same, at-or, AllClear, AllFalse}
+use Rattle.calls.specs.RowLaws.{clash, by-test, within, or-none, and-false, and-not, or-false, all-false, none-true, pick-split, same, at-or, AllClear, AllFalse}
 use Rattle.layout.specs.declared.Reader.{Reader}
 use Rattle.layout.specs.declared.Publisher.{Publisher}
 use Rattle.layout.specs.declared.Walk.{Walk as WalkNumbers}
-use Rattle.layout.specs.Layout.{readers, publishers, slots, current, version, readerAt, withReader}
-use Rattle.layout.specs.Laws.{fresh-reader}
-use Rattle.statement.specs.Machine.{State, state, Given}
+use Rattle.layout.specs.Layout.{READERS-AT, readers, publishers, slots, current, version, readerAt, withReader}
+use Rattle.layout.specs.Laws.{fresh-head, fresh-reader}
+use Rattle.statement.specs.Machine.{State, state, Given, Fresh, events, afterAll}
+use Rattle.statement.specs.Companions.{PlaceAndOne}
 use Rattle.statement.specs.Kept.{Ghost, Back}
 use Rattle.statement.specs.Kept as kept
 use Rattle.publication_law.specs.Steps.{reader, publisher, atPlace, enterTests, leaveTests, syncTests, sync, raise, walk, newWalk, placeAfter, made}
@@ -30,11 +32,12 @@ use Rattle.publication_law.specs.Core.{Onward}
 use Rattle.publication_law.specs.Core.Onward.{stays-out, opens, picks}
 use Rattle.publication_law.specs.Moves.{reader-moves}
 use Rattle.publication_law.specs.KindLaw.{KindLaw, up-to-law}
-use Rattle.publication_law.specs.Rules.{traitsOf}
-use Rattle.publication_law.specs.Lawful.{Good, Lawful}
+use Rattle.publication_law.specs.Frames.{place-and-one}
+use Rattle.publication_law.specs.Lawful.{Good, Lawful, reached}
 use Rattle.publication_law.specs.Detector.{Detector, OwnOf, start-own, early-own, enter-good, leave-good, sync-good, raise-good, walk-good, return-good}
-use Rattle.grace_version_law.specs.Steps.{LAST, versions, kind, readerRows, ownRows, onward, entered, leaving, lookedAt, looksOf, looksFrom, freshReader, rules}
-use Rattle.grace_version_law.specs.Walks.{lookedAt-all, Ends, Looked, looked}
+use Rattle.grace_version_law.specs.Steps.{LAST, versions, kind, readerRows, ownRows, onward, entered, leaving, lookedAt, looksOf, looksFrom, freshReader, rules, GraceVersion}
+use Rattle.grace_version_law.specs.Traits.{traits}
+use Rattle.grace_version_law.specs.Walks.{lookedAt-all, Ends, Looked, looks-mark, looked}
 
 -- What the kind adds to a publisher's rows, from facts and to them.
 pub own-clear : (rs : ℕ) (y : Publisher) → y .place ≤ 38 → y .place ≢ 36 → (35 ≤ y .place → y .place ≤ 37 → y .walk .next < rs) → anyTrue (ownRows rs y) ≡ false
@@ -66,11 +69,12 @@ law = record {
   own-beyond = λ rs y e. ltb-false 38 (y .place) (all-false (ownRows rs y) e .0);
 }
 
--- The kind's own numbers: what readers published, and which of them a walk has still to pass.
-pub record Shown (ver : ℕ) (x : Reader) : Type 0 where
+-- The kind's own numbers: what reader r of n published at a version, and which of them a walk has still to pass.
+pub record Shown (ver n r : ℕ) (x : Reader) : Type 0 where
   pub first-low : x .first ≤ ver
   pub second-low : x .second ≤ ver
   pub shown : 2 ≤ x .place → x .published ≤ ver
+  pub out : r < n → x .place ≤ 1 → x .published ≡ NOT-READING
 
 -- A synchronise waits for a reader that published a version below its mark and that its walk has not passed.
 pub record Behind (n : ℕ) (x : Reader) (k : WalkNumbers) (r : ℕ) : Type 0 where
@@ -82,24 +86,35 @@ detector = record {
   Behind = λ n x y r. Behind n x (y .walk) r;
   early = λ n x y y′ r e low b. rw e b;
   passed = λ y. y .walk .next;
-  Readers = λ ver n ind R. (r : ℕ) → Shown ver (R r);
+  Readers = λ ver n ind R. (r : ℕ) → Shown ver n r (R r);
 }
 
 -- ENTER, by the place.
 module _ (ver cur : ℕ) where
-  onward-shown : (pl f s u k : ℕ) → pl ≤ 4 → Shown ver (record { place = pl; first = f; second = s; published = u; picked = k })
-      → Shown ver (onward ver cur (record { place = pl; first = f; second = s; published = u; picked = k }))
+  onward-shown : (n r pl f s u k : ℕ) → pl ≤ 4 → Shown ver n r (record { place = pl; first = f; second = s; published = u; picked = k })
+      → Shown ver n r (onward ver cur (record { place = pl; first = f; second = s; published = u; picked = k }))
   unfolding onward
-  onward-shown zero f s u k l o = record { first-low = omega arith; second-low = o .second-low; shown = λ q. absurd (omega arith) }
-  onward-shown (suc zero) f s u k l o = record { first-low = o .first-low; second-low = o .second-low; shown = λ q. o .first-low }
-  onward-shown (suc (suc zero)) f s u k l o = record { first-low = o .first-low; second-low = omega arith; shown = λ q. o .shown (omega arith) }
-  onward-shown (suc (suc (suc zero))) f s u k l o = record {
+  onward-shown n r zero f s u k l o = record { first-low = omega arith; second-low = o .second-low; shown = λ q. absurd (omega arith); out = λ rn q. o .out rn (omega arith) }
+  onward-shown n r (suc zero) f s u k l o = record { first-low = o .first-low; second-low = o .second-low; shown = λ q. o .first-low; out = λ rn q. absurd (omega arith) }
+  onward-shown n r (suc (suc zero)) f s u k l o = record { first-low = o .first-low; second-low = omega arith; shown = λ q. o .shown (omega arith); out = λ rn q. absurd (omega arith) }
+  onward-shown n r (suc (suc (suc zero))) f s u k l o = record {
     first-low = o .first-low;
     second-low = o .second-low;
     shown = λ q. pick-split (λ (v : ℕ). v ≤ ver) (eqb f s) (λ _. o .shown (omega arith)) (λ _. o .second-low);
+    out = λ rn q. absurd (omega arith);
   }
-  onward-shown (suc (suc (suc (suc zero)))) f s u k l o = record { first-low = o .first-low; second-low = o .second-low; shown = λ q. o .shown (omega arith) }
-  onward-shown (suc (suc (suc (suc (suc pl))))) f s u k l o = absurd (omega arith)
+  onward-shown n r (suc (suc (suc (suc zero)))) f s u k l o = record { first-low = o .first-low; second-low = o .second-low; shown = λ q. o .shown (omega arith); out = λ rn q. absurd (omega arith) }
+  onward-shown n r (suc (suc (suc (suc (suc pl))))) f s u k l o = absurd (omega arith)
+
+  -- .. the place and one number more.
+  onward-stays : (pl f s u k : ℕ) → pl ≤ 4 → let x : Reader = record { place = pl; first = f; second = s; published = u; picked = k } in PlaceAndOne x (onward ver cur x)
+  unfolding onward
+  onward-stays zero f s u k l = place-and-one _ _ 1 (λ n. absurd (n refl)) (λ _. refl) (λ _. refl) (λ _. refl)
+  onward-stays (suc zero) f s u k l = place-and-one _ _ 3 (λ _. refl) (λ _. refl) (λ n. absurd (n refl)) (λ _. refl)
+  onward-stays (suc (suc zero)) f s u k l = place-and-one _ _ 2 (λ _. refl) (λ n. absurd (n refl)) (λ _. refl) (λ _. refl)
+  onward-stays (suc (suc (suc zero))) f s u k l = place-and-one _ _ 3 (λ _. refl) (λ _. refl) (λ n. absurd (n refl)) (λ _. refl)
+  onward-stays (suc (suc (suc (suc zero)))) f s u k l = place-and-one _ _ 4 (λ _. refl) (λ _. refl) (λ _. refl) (λ n. absurd (n refl))
+  onward-stays (suc (suc (suc (suc (suc pl))))) f s u k l = absurd (omega arith)
 
   pub onward-place : (pl f s u k : ℕ) → pl ≤ 4 → onward ver cur (record { place = pl; first = f; second = s; published = u; picked = k }) .place ≡ suc pl
   unfolding onward
@@ -136,7 +151,7 @@ onward-published ver cur x l = rw (ne-eqb (x .place) 0 (λ z. omega arith), ne-e
 -- Each of the kind's own steps keeps the invariant.
 module _ (z : Given) (g : Ghost) (s : State) (i : Good kind (OwnOf detector) z g s) where
   -- What is shown of reader r anew and of the others.
-  shown-anew : (r : ℕ) (x : Reader) → Shown (version (s .words)) x → (j : ℕ) → Shown (version (s .words)) (upd (readerAt (s .words)) r x j)
+  shown-anew : (r : ℕ) (x : Reader) → Shown (version (s .words)) (readers (s .words)) r x → (j : ℕ) → Shown (version (s .words)) (readers (s .words)) j (upd (readerAt (s .words)) r x j)
   shown-anew r x o = at-or r (rw (same r) o) (λ j d. rw d (i .own .readers-are j))
 
   enter-kept : (r : ℕ) → AllClear (enterTests s r) → Good kind (OwnOf detector) z (kept.advance g (Enter r) (At (entered s r .place))) (state (withReader (s .words) r (entered s r)) (s .entries))
@@ -145,25 +160,25 @@ module _ (z : Given) (g : Ghost) (s : State) (i : Good kind (OwnOf detector) z g
       let l : reader s r .place ≤ 4 = let q = leb-false 5 (reader s r .place) (f .1 .0) in omega arith in
       enter-good detector kind law z g s i _ r (entered s r) (reader-moves (i .shared .fine) r (entered s r) lt)
       (none-true (readerRows (slots (s .words)) (entered s r)) (onward-fits _ _ _ _ _ _ _ _ l (i .shared .fine .head .current-below) (all-false (readerRows (slots (s .words)) (reader s r)) (i .shared .fine .readers-fine r lt))))
-      (shown-anew r _ (onward-shown _ _ _ _ _ _ _ l (i .own .readers-are r))) lt (onward-goes _ _ _ _ _ _ _ l)
+      (shown-anew r _ (onward-shown _ _ _ _ _ _ _ _ _ l (i .own .readers-are r))) lt (onward-goes _ _ _ _ _ _ _ l)
       (λ four y a. record { below = rw (onward-published (version (s .words)) (current (s .words)) (reader s r) four) (a .below); unpassed = a .unpassed })
 
   leave-kept : (r : ℕ) → AllClear (leaveTests s r) → Good kind (OwnOf detector) z (kept.advance g (Leave r) Left) (state (withReader (s .words) r (leaving (reader s r))) (s .entries))
   leave-kept r f = leave-good detector kind law z g s i _ r (leaving (reader s r)) (reader-moves (i .shared .fine) r (leaving (reader s r)) (leb-false _ _ (f .0))) refl
-      (shown-anew r _ (let o = i .own .readers-are r in record { first-low = o .first-low; second-low = o .second-low; shown = λ q. absurd (omega arith) })) refl
+      (shown-anew r _ (let o = i .own .readers-are r in record { first-low = o .first-low; second-low = o .second-low; shown = λ q. absurd (omega arith); out = λ rn q. refl })) refl
 
   sync-kept : (p : ℕ) → AllClear (syncTests versions s p) → Good kind (OwnOf detector) z (kept.advance g (Sync p) (Synced (version (s .words) + 1))) (sync versions s p .after)
   sync-kept p f = sync-good detector kind law z g s i p f
       (own-clear (readers (s .words)) (record { place = 35; held = publisher s p .held; walk = newWalk (version (s .words) + 1) }) (omega arith) (λ e. omega arith) (λ a b. omega (arith, i .shared .fine .head .readers-low)))
       refl (λ r l. record { below = omega (arith, i .own .readers-are r .shown (omega arith)); unpassed = λ j a. absurd (omega arith) })
 
-  raise-kept : (p : ℕ) → p < publishers (s .words) → eqb (publisher s p .place) 35 ≡ true → Good kind (OwnOf detector) z g (raise versions s p .after)
+  raise-kept : (p : ℕ) → p < publishers (s .words) → eqb (publisher s p .place) 35 ≡ true → Good kind (OwnOf detector) z (kept.advance g (Raise p) (raise versions s p .reply)) (raise versions s p .after)
   raise-kept p lt turn =
       let at35 = eqb-true (publisher s p .place) 35 turn in
       raise-good detector kind law z g s i p lt (omega arith) (omega arith)
       (own-clear (readers (s .words)) (atPlace (publisher s p) 37) (omega arith) (λ e. omega arith) (λ a b. next-below _ _ (publisher s p) (i .shared .fine .publishers-fine p lt) (rw at35 refl)))
       refl (λ r a. a)
-      (λ e r. let o = i .own .readers-are r in record { first-low = omega (arith, o .first-low); second-low = omega (arith, o .second-low); shown = λ q. omega (arith, o .shown q) })
+      (λ e r. let o = i .own .readers-are r in record { first-low = omega (arith, o .first-low); second-low = omega (arith, o .second-low); shown = λ q. omega (arith, o .shown q); out = o .out })
 
   -- A walk from the numbers of publisher p.
   module _ (p b : ℕ) (lt : p < publishers (s .words)) (at37 : publisher s p .place ≡ 37) where
@@ -212,11 +227,16 @@ module _ (z : Given) (g : Ghost) (s : State) (i : Good kind (OwnOf detector) z g
         walk-good detector kind law z g s i p b lt (omega arith) (omega arith) k (came .waits-are) still-counted
         (λ e. none-pending (returned-all (k .reply) _ _ _ (came .ends) (rw at37 at e))) (came .mark-same) (rw at37 (after-clear (k .reply) (k .walk) (came .ends))) still-behind
 
-start-shown : (z : Given) (s : State) (r : ℕ) → Shown (version (made KIND-NEW freshReader z s .words)) (readerAt (made KIND-NEW freshReader z s .words) r)
-start-shown z s r = rw (fresh-reader KIND-NEW (z .readers) (z .publishers) (z .slots) (z .version) freshReader r)
-    (pick-split (λ (x : Reader). Shown (version (made KIND-NEW freshReader z s .words)) x) (ltb r READERS-MAX)
-    (λ _. record { first-low = omega arith; second-low = omega arith; shown = λ q. absurd (omega arith) })
-    (λ _. record { first-low = omega arith; second-low = omega arith; shown = λ q. absurd (omega arith) }))
+start-shown : (z : Given) (s : State) → z .readers ≤ READERS-MAX → (r : ℕ) → Shown (version (made KIND-NEW freshReader z s .words)) (readers (made KIND-NEW freshReader z s .words)) r (readerAt (made KIND-NEW freshReader z s .words) r)
+start-shown z s high r = rw (fresh-reader KIND-NEW (z .readers) (z .publishers) (z .slots) (z .version) freshReader r)
+    (pick-split (λ (x : Reader). Shown (version (made KIND-NEW freshReader z s .words)) (readers (made KIND-NEW freshReader z s .words)) r x) (ltb r READERS-MAX)
+    (λ _. record { first-low = omega arith; second-low = omega arith; shown = λ q. absurd (omega arith); out = λ rn q. refl })
+    (λ e. record {
+      first-low = omega arith;
+      second-low = omega arith;
+      shown = λ q. absurd (omega arith);
+      out = λ rn q. absurd (omega (arith, ltb-false r READERS-MAX e, fresh-head KIND-NEW (z .readers) (z .publishers) (z .slots) (z .version) freshReader READERS-AT (omega arith)));
+    }))
 
 -- The numbers that a return comes with.
 return-numbers : (w : List ℕ) (n mark start b l u nx lk wt : ℕ) (o : WalkReply) → Ends w n mark start b nx lk wt o → o ≡ Returned l u → (nx ≡ n) × (l ≡ lk) × (u ≡ wt)
@@ -226,41 +246,37 @@ return-numbers w n mark start b l u nx lk wt Quiet e q = absurd e
 return-numbers w n mark start b l u nx lk wt (Returned c d) e q = let f : c ≡ l = cc in let g : d ≡ u = cc in (e .0, sym f ∙ e .2, sym g ∙ e .3)
 
 return-shown : (z : Given) (g : Ghost) (s : State) (i : Good kind (OwnOf detector) z g s) (p b l w : ℕ) → p < publishers (s .words) → eqb (publisher s p .place) 37 ≡ true
-    → looksOf s (publisher s p .walk) b .reply ≡ Returned l w → Back (traitsOf rules LAST (λ z. z .readers) suc) z g p l w
+    → looksOf s (publisher s p .walk) b .reply ≡ Returned l w → Back traits z g p l w
 return-shown z g s i p b l w lt turn q =
     let at37 = eqb-true (publisher s p .place) 37 turn in
     let k = looksOf s (publisher s p .walk) b in
     let o = came z g s i p b lt at37 in
     let n = return-numbers (s .words) (readers (s .words)) (publisher s p .walk .mark) (publisher s p .walk .next) b l w (k .walk .next) (k .walk .looks) (k .walk .waits) (k .reply) (o .ends) q in
-    return-good detector kind law z g s i p b lt (omega arith) (omega arith) k (o .waits-are) (still-counted z g s i p b lt at37) (traitsOf rules LAST (λ z. z .readers) suc) l w q
+    return-good detector kind law z g s i p b lt (omega arith) (omega arith) k (o .waits-are) (still-counted z g s i p b lt at37) traits l w at37 q
     (none-pending z g s i p b lt at37 (n .0)) (n .1) (n .2) (n .0 ∙ i .shared .sized .readers-are)
-
--- From 35 to 37 a RAISE or a WALK is in turn: there is no 36.
-goes-on : (rs ss : ℕ) (y : Publisher) → kind .publisherDamaged rs ss y ≡ false → 35 ≤ y .place → y .place ≤ 37 → (eqb (y .place) 35 ≡ true) ⊎ (eqb (y .place) 37 ≡ true)
-goes-on rs ss y e low high = go (eqb (y .place) 35) refl
-  where
-    not-36 : y .place ≢ 36
-    not-36 = eqb-false (y .place) 36 (all-false (ownRows rs y) (or-false (anyTrue (ownRows rs y)) (anyTrue (publisherRows versions ss y)) e .0) .1 .0)
-
-    go : (b : Bool) → eqb (y .place) 35 ≡ b → (eqb (y .place) 35 ≡ true) ⊎ (eqb (y .place) 37 ≡ true)
-    go true d = inl d
-    go false d = let ne = eqb-false (y .place) 35 d in inr (eq-eqb (y .place) 37 (omega (arith, not-36)))
 
 no-looks : (s : State) (p : ℕ) → looksOf s (publisher s p .walk) 0 ≡ record { walk = publisher s p .walk; reply = Spent }
 unfolding looksFrom
 no-looks s p = refl
 
 -- All that only the new store can show: a walk passes each reader, ENTER goes 1, 2, 3, 4, 5.
-pub lawful : Lawful rules LAST (λ z. z .readers) suc
+pub lawful : Lawful rules traits
 lawful = record {
   kind-law = law;
+  first-is = refl;
+  exclusive-is = refl;
+  successor-is = refl;
+  raises-in = λ x. refl;
+  walks-in = λ x. refl;
   last-fits = λ v l. le-ltb LAST v l;
   below-last = λ v l. ne-eqb v LAST (λ e. omega arith);
-  goes-on = goes-on;
+  raises-late = λ pl l. ne-eqb pl 35 (λ e. omega arith);
+  walks-late = λ pl l. ne-eqb pl 37 (λ e. omega arith);
+  mark-stays = λ s p b. looks-mark (s .words) (readers (s .words)) (publisher s p .walk .mark) (publisher s p .walk .waits) b (publisher s p .walk .next) (publisher s p .walk .looks);
   no-looks = no-looks;
   Own = OwnOf detector;
-  start-own = λ z s f. start-own detector KIND-NEW freshReader z s (start-shown z s);
-  fresh-out = (refl, refl);
+  start-own = λ z s f. start-own detector KIND-NEW freshReader z s (start-shown z s (within 1 READERS-MAX (z .readers) (f .1 .0) .1));
+  fresh-is = refl;
   fresh-reader-fits = λ ss. refl;
   no-further = λ z g s i. refl;
   early-own = early-own detector;
@@ -268,6 +284,8 @@ lawful = record {
   left = λ s r. leaving (reader s r);
   leave-moves = λ s f r l. reader-moves f r (leaving (reader s r)) l;
   enter-place = λ s f r l low. onward-place (version (s .words)) (current (s .words)) (reader s r .place) (reader s r .first) (reader s r .second) (reader s r .published) (reader s r .picked) low;
+  enter-stays = λ s r low. onward-stays (version (s .words)) (current (s .words)) (reader s r .place) (reader s r .first) (reader s r .second) (reader s r .published) (reader s r .picked) low;
+  leave-stays = λ s r. record { first = refl; second = refl; published = λ e. clash e; picked = refl };
   enter-kept = enter-kept;
   leave-kept = leave-kept;
   sync-kept = sync-kept;
@@ -275,3 +293,9 @@ lawful = record {
   walk-kept = λ z g s i p b lt turn. walk-kept z g s i p b lt (eqb-true (publisher s p .place) 37 turn);
   return-shown = return-shown;
 }
+
+-- The invariant after every list from fresh.
+pub new-reached : (s : State) (f : Fresh GraceVersion s) (cs : List Call)
+    → Good kind (OwnOf detector) (f .arguments) (kept.nextAll (kept.ghost₀ (traits .first (f .arguments))) (events GraceVersion s cs)) (afterAll GraceVersion s cs)
+unfolding lawful
+new-reached s f cs = reached rules traits lawful s f cs

@@ -77,6 +77,13 @@ module _ (w : List ℕ) (n mark waits : ℕ) where
     waits-are = refl;
   }
 
+  -- A walk keeps its mark.
+  pub looks-mark : (b next looks : ℕ) → looksFrom w n mark waits b next looks .walk .mark ≡ mark
+  unfolding looksFrom
+  looks-mark zero next looks = refl
+  looks-mark (suc b) next looks = pick-split (λ (k : Progress). k .walk .mark ≡ mark) (ltb (readerAt w (lookedAt n next) .published) mark) (λ _. refl)
+      (λ _. pick-split (λ (k : Progress). k .walk .mark ≡ mark) (leb n (next + 1)) (λ _. refl) (λ _. looks-mark b (next + 1) (looks + 1)))
+
   pub looked : (b next looks : ℕ) → next < n → Looked w n mark b next looks waits (looksFrom w n mark waits b next looks)
   unfolding looksFrom
   looked zero next looks l = record { mark-same = refl; ahead = omega arith; passed = λ i a c. absurd (omega arith); ends = (l, omega arith); counted = refl; waits-are = refl }

@@ -1,28 +1,29 @@
 -- Demands 1 and 3 on the steps, and the companions, for words of any kind: `store n` has the making of the kind with number n and the steps that
 -- the kind word tells, which are the steps that the contracts of `kinds` cite. Assumes nothing.
-use Prim.Native.Nat.{ℕ}
+use Prim.Native.Nat.{ℕ, _≤_}
 use mathlib.Core.Path.{_≡_}
 use mathlib.Core.Bool.{true, false}
 use mathlib.Core.List.{List}
 use lib.IntN.{ℤ, pos}
 use lib.ListN.{getD, replicate}
 use Rattle.calls.specs.declared.Call.{Call}
-use Rattle.calls.specs.declared.Call.the-variants.{Claim, Walk}
+use Rattle.calls.specs.declared.Call.the-variants.{Claim, Sync, Raise, Walk}
 use Rattle.calls.specs.declared.Reply.the-variants.{Walked, Refused}
-use Rattle.calls.specs.declared.WalkReply.the-variants.{Spent}
+use Rattle.calls.specs.declared.WalkReply.the-variants.{Waiting, Spent}
 use Rattle.calls.specs.AnswerLaws.{NarrowPitch, Proper}
 use Rattle.calls.specs.Events.{accepted}
+use Rattle.calls.specs.Tally.{tallyOf}
 use Rattle.calls.specs.Model.{firstTable}
 use Rattle.layout.specs.Layout.{WORDS, kind, indicator}
-use Rattle.statement.specs.Machine.{State, state, Given, Fresh, afterAll}
+use Rattle.statement.specs.Machine.{State, state, Given, Fresh, events, afterAll}
 use Rattle.statement.specs.Demand3.{Demand3}
-use Rattle.statement.specs.Companions.{MakingAccepts, RefusedLeaves, Frame, Companions}
-use Rattle.statement.specs.Alike.{fresh-alike, after-alike, demand3-alike, companions-alike, making-accepts-alike}
+use Rattle.statement.specs.Companions.{MakingAccepts, MakesFresh, RefusedLeaves, Frame, Companions}
+use Rattle.statement.specs.Alike.{fresh-alike, after-alike, events-alike, demand3-alike, companions-alike, making-accepts-alike, makes-fresh-alike}
 use Rattle.publication_law.specs.DamageLaws.{zero-damaged}
 use Rattle.publication_law.specs.Steps.{publisher}
 use Rattle.publication_law.specs.Rules.{damaged}
 use Rattle.publication_law.specs.Calls.{undamaged-fine}
-use Rattle.publication_law.specs.Promises.{WalkFacts}
+use Rattle.publication_law.specs.Promises.{SyncFacts, RaiseFacts, WalkFacts}
 use Rattle.grace_version_law.specs.Steps as new-store
 use Rattle.grace_version_law.specs.Promises as new-promises
 use Rattle.two_phase_law.specs.Steps as old-store
@@ -31,12 +32,12 @@ use Rattle.two_phase_law.specs.Promises as old-promises
 use Rattle.kinds_law.specs.Kinds.{Name, rulesOf, number, named, anyStep, anyMaking, store}
 use Rattle.kinds_law.specs.Kinds.Name.{new, old}
 use Rattle.kinds_law.specs.Calls.{step-named}
-use Rattle.guarantees.specs.Named.{storeOf, traits, own, alike, by-number, chosen-refused-leaves, chosen-frame, chosen-proper, chosen-proper-making}
+use Rattle.guarantees.specs.Named.{storeOf, traits, own, own-demand3, alike, by-number, publishesOf, chosen-refused-leaves, chosen-frame, chosen-proper, chosen-proper-making}
 
 -- Demand 3: after every list of calls from every accepted making, of whatever kind, looks, returns, slots and picks are as document 01 tells them.
 pub demand3 : (n : ℕ) → Demand3 (store n) (λ z. firstTable)
 demand3 = by-number (λ n. Demand3 (store n) (λ z. firstTable))
-    (λ k. demand3-alike (storeOf k) (store (number k)) (alike k) (λ z. firstTable) (own k .demand3))
+    (λ k. demand3-alike (storeOf k) (store (number k)) (alike k) (λ z. firstTable) (own-demand3 k))
     (λ n none s f. absurd (none s f))
 
 -- Its companions: never damaged, order, counts, whole tables, readers never wait, claims, publishers get on, releases.
@@ -50,6 +51,10 @@ never-damaged k s f cs = rw (after-alike (storeOf k) (store (number k)) (alike k
 pub making-accepts : (k : Name) → MakingAccepts (store (number k)) (traits k)
 making-accepts k = making-accepts-alike (storeOf k) (store (number k)) (alike k) (traits k) (own k .making-accepts)
 
+-- A fresh store is document 01's, number by number.
+pub makes-fresh : (k : Name) → MakesFresh (store (number k))
+makes-fresh k = makes-fresh-alike (storeOf k) (store (number k)) (alike k) (own k .makes-fresh)
+
 -- Demand 1 on the steps: a refused call or making changes nothing, whatever the words hold.
 pub refused-leaves : (n : ℕ) → RefusedLeaves (store n)
 unfolding anyStep anyMaking
@@ -58,12 +63,13 @@ refused-leaves n = record {
   making = chosen-refused-leaves (named n) .making;
 }
 
--- A call moves the record that it names and perhaps one number of the head, and nothing else.
-pub frame : (n : ℕ) → Frame (store n)
+-- A call moves the numbers that its step names, of the record that it names and perhaps one of the head, and nothing else; of the entries a WRITE moves one.
+pub frame : (n : ℕ) → Frame (λ s. publishesOf (named (kind (s .words)))) (store n)
 unfolding anyStep
 frame n = record {
   words = λ s. chosen-frame (named (kind (s .words))) .words s;
   entries = λ s. chosen-frame (named (kind (s .words))) .entries s;
+  writes = λ s. chosen-frame (named (kind (s .words))) .writes s;
 }
 
 -- Every reply of a store whose entries are pitches of 64 bits has an answer that no other proper reply has.
@@ -79,8 +85,8 @@ proper-making n = chosen-proper-making (named n)
 pub zero-store-damaged : (k : Name) (es : List ℤ) → damaged (rulesOf k) (state (replicate WORDS 0) es) ≡ true
 zero-store-damaged k es = zero-damaged (rulesOf k) es
 
--- The new store may not refuse another publisher as busy: a claim on an undamaged one is refused only for a wrong name, a wrong turn or a slot in use.
-pub claim-refusals : (s : State) (p x n : ℕ) → damaged (rulesOf new) s ≡ false → anyStep s (Claim p x) .reply ≡ Refused n → new-promises.ClaimRefusal n
+-- The new store may not refuse another publisher as busy: a claim on an undamaged one, reached or not, is refused only for a wrong name, a wrong turn or a slot in use.
+pub claim-refusals : (s : State) (p x n : ℕ) → damaged (rulesOf new) s ≡ false → anyStep s (Claim p x) .reply ≡ Refused n → new-promises.ClaimRefusal s p x n
 claim-refusals s p x n fine e = new-promises.new-claim-refusals s p x n fine (rw (step-named new s (Claim p x) (undamaged-fine (rulesOf new) s fine .head .kind-is)) at e)
 
 -- What a WALK says, on words of each kind: reply and record are those of the looks made; waiting names the one that did not pass, spent says that all b looks passed.
@@ -91,6 +97,21 @@ walk-facts-new s p b is = rw (step-named new s (Walk p b) is) (new-promises.new-
 pub walk-facts-old : (s : State) (p b : ℕ) → kind (s .words) ≡ number old → accepted (anyStep s (Walk p b) .reply) ≡ true
     → let k = old-store.looksOf s (publisher s p) b in WalkFacts s p k (Looked (indicator (s .words) (old-store.watched (publisher s p))) (publisher s p) b k) (anyStep s (Walk p b))
 walk-facts-old s p b is = rw (step-named old s (Walk p b) is) (old-promises.old-walk-facts s p b)
+
+-- What an accepted SYNC and an accepted RAISE reply and store, on words of each kind.
+pub sync-facts : (k : Name) (s : State) (p : ℕ) → kind (s .words) ≡ number k → accepted (anyStep s (Sync p) .reply) ≡ true → SyncFacts (traits k .successor) s p (anyStep s (Sync p))
+sync-facts k s p is = rw (step-named k s (Sync p) is) (own k .sync-facts s p)
+
+pub raise-facts : (k : Name) (s : State) (p : ℕ) → kind (s .words) ≡ number k → accepted (anyStep s (Raise p) .reply) ≡ true → RaiseFacts (traits k .successor) s p (anyStep s (Raise p))
+raise-facts k s p is = rw (step-named k s (Raise p) is) (own k .raise-facts s p)
+
+-- After every list from a fresh new store a WALK waits only for a reader that has published a version and not left since: never for one that never entered.
+pub waits-for : (s : State) (f : Fresh (store (number new)) s) (cs : List Call) (p b r : ℕ)
+    → anyStep (afterAll (store (number new)) s cs) (Walk p b) .reply ≡ Walked (Waiting r) → 2 ≤ tallyOf (events (store (number new)) s cs) .place r
+waits-for s f cs p b r =
+    let A = alike new in
+    let g = fresh-alike (storeOf new) (store (number new)) A s f in
+    rw (after-alike (storeOf new) (store (number new)) A s f cs, events-alike (storeOf new) (store (number new)) A s f cs, A .steps s g cs (Walk p b)) (new-promises.new-waits-for s g cs p b r)
 
 -- A WALK with no looks that replies spent leaves the whole state as it was.
 pub walk-zero : (k : Name) (s : State) (p : ℕ) → kind (s .words) ≡ number k → anyStep s (Walk p 0) .reply ≡ Walked Spent → anyStep s (Walk p 0) .after ≡ s

@@ -11,17 +11,21 @@ use lib.Dec.{eqb}
 use borrow.Author.Tests.{eqb-true, eqb-false}
 use Rattle.calls.specs.declared.Call.{Call}
 use Rattle.calls.specs.Events.{accepted}
+use Rattle.calls.specs.Model.{firstTable}
 use Rattle.calls.specs.RowLaws.{clash}
 use Rattle.calls.specs.AnswerLaws.{NarrowPitch, Proper}
 use Rattle.calls.specs.Numbers.{KIND-NEW, KIND-OLD}
 use Rattle.statement.specs.Machine.{State, Outcome, Given, Machine, Fresh, afterAll}
+use Rattle.statement.specs.Demand3.{Demand3}
 use Rattle.statement.specs.Companions.{Traits, RefusedLeaves, Frame}
 use Rattle.statement.specs.Alike.{Alike}
 use Rattle.publication_law.specs.Rules.{step, making, machine}
 use Rattle.publication_law.specs.Calls.{undamaged-fine}
 use Rattle.publication_law.specs.Frames.{same-framed}
 use Rattle.publication_law.specs.Promises.{Promises}
+use Rattle.grace_version_law.specs.Traits as new-traits
 use Rattle.grace_version_law.specs.Promises as new-store
+use Rattle.two_phase_law.specs.Traits as old-traits
 use Rattle.two_phase_law.specs.Promises as old-store
 use Rattle.kinds_law.specs.Kinds.{Name, rulesOf, number, stepOf, makingOf, store}
 use Rattle.kinds_law.specs.Kinds.Name.{new, old}
@@ -32,12 +36,16 @@ abbrev pub storeOf : Name → Machine
 storeOf k = machine (rulesOf k)
 
 abbrev pub traits : Name → Traits
-traits new = new-store.traits
-traits old = old-store.traits
+traits new = new-traits.traits
+traits old = old-traits.traits
 
 pub own : (k : Name) → Promises (rulesOf k) (traits k)
 own new = new-store.new-promises
 own old = old-store.old-promises
+
+pub own-demand3 : (k : Name) → Demand3 (storeOf k) (λ z. firstTable)
+own-demand3 new = new-store.new-demand3
+own-demand3 old = old-store.old-demand3
 
 -- The store of a kind's number is alike.
 pub alike : (k : Name) → Alike (storeOf k) (store (number k))
@@ -67,8 +75,13 @@ pub chosen-refused-leaves : (o : Option Name) → RefusedLeaves (Chosen o)
 chosen-refused-leaves none = record { step = λ s c n e. refl; making = λ g s n e. refl }
 chosen-refused-leaves (some k) = own k .refused-leaves
 
-pub chosen-frame : (o : Option Name) → Frame (Chosen o)
-chosen-frame none = record { words = λ s c. same-framed c (s .words); entries = λ s c ne. refl }
+-- Whether readers publish versions; words of no kind have none.
+abbrev pub publishesOf : Option Name → Bool
+publishesOf none = false
+publishesOf (some k) = traits k .publishes
+
+pub chosen-frame : (o : Option Name) → Frame (λ s. publishesOf o) (Chosen o)
+chosen-frame none = record { words = λ s c. same-framed false c (s .words); entries = λ s c ne. refl; writes = λ s p v. record { stored = λ ok. clash (sym ok); others = λ j ne. refl; long = refl } }
 chosen-frame (some k) = own k .frame
 
 pub chosen-proper : (o : Option Name) (s : State) (c : Call) → ((j : ℕ) → NarrowPitch (getD (s .entries) j (pos 0))) → Proper (stepOf o s c .reply)

@@ -8,7 +8,7 @@ use mathlib.Core.List.{List}
 use lib.IntN.{ℤ}
 use lib.Dec.{eqb}
 use borrow.Author.Tests.{leb-true, leb-false}
-use Rattle.calls.specs.declared.Call.the-variants.{Enter, Leave, Sync, Walk}
+use Rattle.calls.specs.declared.Call.the-variants.{Enter, Leave, Sync, Raise, Walk}
 use Rattle.calls.specs.declared.Reply.the-variants.{At, Left, Synced, Walked}
 use Rattle.calls.specs.declared.WalkReply.the-variants.{Returned}
 use Rattle.calls.specs.Base.{upd}
@@ -28,7 +28,7 @@ use Rattle.publication_law.specs.KindLaw.{KindLaw}
 use Rattle.publication_law.specs.Core.{Onward}
 use Rattle.publication_law.specs.Decide.{raise-split}
 use Rattle.publication_law.specs.Moves.{MovesPublisher, MovesReader, publisher-moves, publisher-moves-head}
-use Rattle.publication_law.specs.Keeps.{waitsAfter, enter-keeps, leave-keeps, sync-keeps, raise-keeps, walk-keeps, syncing-in-order}
+use Rattle.publication_law.specs.Keeps.{waitsAfter, enter-keeps, leave-keeps, sync-keeps, raise-keeps, walk-keeps, raised-in-order}
 use Rattle.publication_law.specs.Lawful.{Good}
 
 pub record Detector : Type 1 where
@@ -118,7 +118,7 @@ module _ (D : Detector) where
         → D .passed (atPlace (publisher s p) 37) ≡ D .passed (publisher s p)
         → ((r : ℕ) → D .Behind (readers (s .words)) (reader s r) (publisher s p) r → D .Behind (readers (s .words)) (reader s r) (atPlace (publisher s p) 37) r)
         → (version (s .words) ≡ K .versions .beforeMark (publisher s p .walk .mark) → D .Readers (publisher s p .walk .mark) (readers (s .words)) (indicator (s .words)) (readerAt (s .words)))
-        → Good K (OwnOf D) z g (raise (K .versions) s p .after)
+        → Good K (OwnOf D) z (advance g (Raise p) (raise (K .versions) s p .reply)) (raise (K .versions) s p .after)
     raise-good p lt low high clear passes still-behind raised = record {
       shared = raise-keeps K law z g s (i .shared) p lt low high clear;
       own = raise-split (λ (o : Outcome). OwnOf D g (o .after)) (K .versions) s p
@@ -141,11 +141,11 @@ module _ (D : Detector) where
         own = moved-own g (advance g (Walk p b) (Walked (k .reply))) s _ (s .entries) p _ _ _ _ (i .own) (publisher-moves (i .shared .fine) p (walked (publisher s p) k) lt) (λ q r e. refl) still-behind (λ _. counted) (i .own .readers-are);
       }
 
-      pub return-good : (T : Traits) (l w : ℕ) → k .reply ≡ Returned l w → ((r : ℕ) → g .pend p r ≡ false) → l ≡ k .walk .looks → w ≡ k .walk .waits → D .passed (walked (publisher s p) k) ≡ T .passes z → Back T z g p l w
-      return-good T l w q none-pending looks waits passes =
+      pub return-good : (T : Traits) (l w : ℕ) → publisher s p .place ≡ 37 → k .reply ≡ Returned l w → ((r : ℕ) → g .pend p r ≡ false) → l ≡ k .walk .looks → w ≡ k .walk .waits → D .passed (walked (publisher s p) k) ≡ T .passes z → Back T z g p l w
+      return-good T l w at37 q none-pending looks waits passes =
           let same-waits : k .walk .waits ≡ publisher s p .walk .waits = waits-are ∙ rw q refl in record {
             none-pending = none-pending;
-            in-order = syncing-in-order K law z g s (i .shared) p low high;
+            in-order = raised-in-order K law z g s (i .shared) p at37;
             looks-are = omega arith;
             waits-are = waits ∙ (same-waits ∙ sym (i .shared .tallied .waits p low));
           }

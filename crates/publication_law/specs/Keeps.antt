@@ -20,7 +20,8 @@ use Rattle.calls.specs.RowLaws.{not-both, and-true, or-false, within, none-belo
 use Rattle.calls.specs.Model.{entry, firstTable}
 use Rattle.calls.specs.Told.{holds, Has}
 use Rattle.calls.specs.Told.Role.{free}
-use Rattle.calls.specs.Tally.Phase.{writing, swapped, syncing, returned}
+use Rattle.calls.specs.Tally.{withPhase}
+use Rattle.calls.specs.Tally.Phase.{writing, swapped, quiet, raised, returned}
 use Rattle.layout.specs.declared.Reader.{Reader}
 use Rattle.layout.specs.declared.Publisher.{Publisher}
 use Rattle.layout.specs.declared.Progress.{Progress}
@@ -37,7 +38,7 @@ use Rattle.publication_law.specs.Core.{Core, Hold, Onward, onward-open, 
 use Rattle.publication_law.specs.Core.Hold.{by-swap}
 use Rattle.publication_law.specs.Grace.{Grace, enter-grace, leave-grace, early-grace, wait-grace, sync-grace, nobody, release-grace, fresh-grace}
 use Rattle.publication_law.specs.Single.{formerAt, former-early, former-same, former-swap, single, single-free}
-use Rattle.publication_law.specs.Tallied.{Tallied, phase-writing, phase-syncing, place-tallied, stay-tallied, phase-tallied, sync-tallied, wait-tallied, return-tallied, release-tallied, fresh-tallied}
+use Rattle.publication_law.specs.Tallied.{Tallied, phase-writing, place-tallied, stay-tallied, phase-tallied, sync-tallied, wait-tallied, late-tallied, release-tallied, fresh-tallied}
 use Rattle.publication_law.specs.Entries.{slotEntry, set-entry, entry-same, slot-same}
 use Rattle.publication_law.specs.Decide.{raise-split}
 use Rattle.publication_law.specs.Moves.{MovesReader, publisher-moves, publisher-moves-head}
@@ -152,8 +153,8 @@ module _ (K : Kind) (law : KindLaw K) (z : Given) (g : Ghost) (s : State) (i : I
     raise-grace : Grace (g .pend) (λ j. reader s j .place) (λ j. reader s j .picked) (upd (λ q. publisher s q .place) p 37) (upd (λ q. formers (publisher s q)) p (formerAt 37 (publisher s p .held)))
     raise-grace = wait-grace _ _ _ _ _ (i .grace) p 37 _ low (omega arith) (omega arith) (λ e. absurd (omega arith)) (λ y. former-same (publisher s p .place) 37 (publisher s p .held) y (omega arith) (omega arith))
 
-    raise-tallied : Tallied (g .tally) (λ j. reader s j .place) (upd (λ q. publisher s q .place) p 37) (upd (λ q. publisher s q .walk .waits) p (publisher s p .walk .waits)) (releases (s .words))
-    raise-tallied = stay-tallied _ _ _ _ _ (i .tallied) p 37 _ (phase-syncing 37 (omega arith) (omega arith) ∙ sym (phase-syncing (publisher s p .place) low (omega arith))) (λ _. low) (λ _. refl)
+    raise-tallied : Tallied (withPhase (g .tally) p raised) (λ j. reader s j .place) (upd (λ q. publisher s q .place) p 37) (upd (λ q. publisher s q .walk .waits) p (publisher s p .walk .waits)) (releases (s .words))
+    raise-tallied = late-tallied _ _ _ _ _ (i .tallied) p 37 _ raised refl low refl
 
     pub raise-keeps : law .own (readers (s .words)) (atPlace (publisher s p) 37) ≡ false
         → Invariant K z (advance g (Raise p) (raise (K .versions) s p .reply)) (raise (K .versions) s p .after)
@@ -171,8 +172,8 @@ module _ (K : Kind) (law : KindLaw K) (z : Given) (g : Ghost) (s : State) (i : I
         → Tallied (advance g (Walk p b) (Walked o) .tally) (λ j. reader s j .place) (upd (λ q. publisher s q .place) p (placeAfter (publisher s p .place) o)) (upd (λ q. publisher s q .walk .waits) p ws) (releases (s .words))
     walk-tallied (Waiting r) ws e = rw e (wait-tallied _ _ _ _ _ (i .tallied) p (publisher s p .place) refl low)
     walk-tallied Spent ws e = stay-tallied _ _ _ _ _ (i .tallied) p (publisher s p .place) ws refl (λ _. low) (λ _. e)
-    walk-tallied Quiet ws e = stay-tallied _ _ _ _ _ (i .tallied) p 36 ws (sym (phase-syncing (publisher s p .place) low high)) (λ _. low) (λ _. e)
-    walk-tallied (Returned l w) ws e = return-tallied _ _ _ _ _ (i .tallied) p ws low e
+    walk-tallied Quiet ws e = late-tallied _ _ _ _ _ (i .tallied) p 36 ws quiet refl low e
+    walk-tallied (Returned l w) ws e = late-tallied _ _ _ _ _ (i .tallied) p 38 ws returned refl low e
 
     after-low : (o : WalkReply) → 35 ≤ placeAfter (publisher s p .place) o
     after-low (Waiting r) = low
@@ -217,12 +218,12 @@ module _ (K : Kind) (law : KindLaw K) (z : Given) (g : Ghost) (s : State) (i : I
       let k32 : k < TABLE = let q = ltb-false 31 k (f .1 .0) in omega arith in
       rw (lt-ltb k TABLE k32) at (i .core .readers r .noted (eqb-true _ _ (not-false _ (f .1 .1 .0))) k k32)
 
-  -- A publisher's phase at an accepted RELEASE, and at 35 to 37.
+  -- A publisher's phase at an accepted RELEASE, and at 37.
   pub released-in-order : (p : ℕ) → AllClear (releaseTests s p) → g .tally .phase p ≡ returned
   released-in-order p f = i .tallied .phases p ∙ rw (eqb-true (publisher s p .place) 38 (not-false _ (f .1 .0))) refl
 
-  pub syncing-in-order : (p : ℕ) → 35 ≤ publisher s p .place → publisher s p .place ≤ 37 → g .tally .phase p ≡ syncing
-  syncing-in-order p low high = i .tallied .phases p ∙ phase-syncing (publisher s p .place) low high
+  pub raised-in-order : (p : ℕ) → publisher s p .place ≡ 37 → g .tally .phase p ≡ raised
+  raised-in-order p e = i .tallied .phases p ∙ rw e refl
 
   pub held-told : (p x : ℕ) → heldSlot s p x ≡ holds (g .told) p x
   held-told p x = single (publisher s p .place) (publisher s p .held) x ∙ sym (held-is _ _ _ _ _ _ _ _ _ _ _ (i .core) p x)

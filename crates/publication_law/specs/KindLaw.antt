@@ -14,10 +14,11 @@ use Rattle.publication_law.specs.Steps.{Versions, upTo}
 use Rattle.publication_law.specs.Damage.{Kind, publisherRows}
 use Rattle.publication_law.specs.DamageLaws.{PublisherFine, publisher-of, publisher-to}
 
--- Of its versions: one before a mark is the version that it was made at; a SYNC that is not refused gives a mark that fits,
+-- Of its versions: one before a mark is the version that it was made at, and a mark that fits is the one made there; a SYNC that is not refused gives a mark that fits,
 -- and such a mark is not 0 and is a version that fits.
 pub record VersionsLaw (vs : Versions) : Type 0 where
   pub before-mark : (v : ℕ) → vs .beforeMark (vs .markAt v) ≡ v
+  pub mark-after : (m : ℕ) → vs .wrongMark m ≡ false → vs .markAt (vs .beforeMark m) ≡ m
   pub mark-fits : (v : ℕ) → vs .tooLarge v ≡ false → vs .isLast v ≡ false → vs .wrongMark (vs .markAt v) ≡ false
   pub mark-low : (m : ℕ) → vs .wrongMark m ≡ false → 1 ≤ m
   pub raised-fits : (m : ℕ) → vs .wrongMark m ≡ false → vs .tooLarge m ≡ false
@@ -25,6 +26,7 @@ pub record VersionsLaw (vs : Versions) : Type 0 where
 pub up-to-law : (last : ℕ) → VersionsLaw (upTo last)
 up-to-law last = record {
   before-mark = λ v. omega arith;
+  mark-after = λ m e. let ne = eqb-false m 0 (or-false (eqb m 0) (ltb last m) e .0) in omega arith;
   mark-fits = λ v a b. let l = ltb-false last v a in let ne = eqb-false v last b in
       neither (eqb (upTo last .markAt v) 0) (ltb last (upTo last .markAt v)) (ne-eqb (upTo last .markAt v) 0 (λ z. omega arith)) (le-ltb last (upTo last .markAt v) (omega arith));
   mark-low = λ m e. let ne = eqb-false m 0 (or-false (eqb m 0) (ltb last m) e .0) in omega arith;

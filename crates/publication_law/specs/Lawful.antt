@@ -1,23 +1,24 @@
 -- Demand 3 and its companions of a kind with the ten calls, from what only that kind can show: its own invariant, and that its
 -- ENTER, LEAVE, SYNC, RAISE and WALK keep it. Assumes nothing.
-use Prim.Native.Nat.{ℕ, _+_, _%_, _<_, _≤_}
+use Prim.Native.Nat.{ℕ, _+_, _*_, _%_, _<_, _≤_}
 use native.Mathlib.Omega.{arith}
 use mathlib.Core.Path.{_≡_, refl, sym, ap, _∙_, subst}
-use mathlib.Core.Logic.{_≢_, _⊎_, inl, inr}
+use mathlib.Core.Logic.{_≢_}
 use mathlib.Core.Bool.{Bool, true, false, not, _&&_}
 use mathlib.Core.List.{List, [], _∷_}
 use mathlib.Core.Option.{some}
 use lib.IntN.{ℤ, pos}
 use lib.Signed.{ltZ}
-use lib.ListN.{getD, length}
+use lib.ListN.{getD, length, length-set, replicate}
+use lib.Seq.{getD-set-same, getD-set-other}
 use lib.Dec.{leb, eqb}
-use borrow.Author.Tests.{eqb-true, eqb-false, eq-eqb, ne-eqb, leb-false, lt-leb, le-ltb, not-false}
+use borrow.Author.Tests.{eqb-true, eqb-false, eq-eqb, ne-eqb, leb-false, lt-leb, lt-ltb, ltb-false, le-ltb, not-false}
 use Rattle.calls.specs.declared.Call.{Call}
 use Rattle.calls.specs.declared.Call.the-variants.{Enter, Look, Leave, Claim, Write, Swap, Sync, Raise, Walk, Release}
 use Rattle.calls.specs.declared.Reply.{Reply}
 use Rattle.calls.specs.declared.Reply.the-variants.{Made, At, Pitch, Left, Written, Swapped, Synced, Walked, Freed, Refused}
 use Rattle.calls.specs.declared.WalkReply.the-variants.{Spent, Returned}
-use Rattle.calls.specs.Numbers.{READERS-MAX, PUBLISHERS-MAX, SLOTS-MIN, SLOTS-MAX, TABLE, PITCH-LOW, PITCH-HIGH, NUMBER-MAX, MODULUS, DAMAGED, BUSY}
+use Rattle.calls.specs.Numbers.{READERS-MAX, PUBLISHERS-MAX, SLOTS-MIN, SLOTS-MAX, TABLE, PITCH-LOW, PITCH-HIGH, FEATHERED, NUMBER-MAX, NOT-READING, MODULUS, DAMAGED, BUSY}
 use Rattle.calls.specs.Rows.{Test, firstOf, outside}
 use Rattle.calls.specs.RowLaws.{clash, and-not, neither, negated, within, not-outside, no-below, some-below, AllClear, allAbove, all-above, first-within}
 use Rattle.calls.specs.AnswerLaws.{NarrowPitch, Proper}
@@ -25,24 +26,24 @@ use Rattle.calls.specs.Events.{accepted}
 use Rattle.calls.specs.Events.Event.{_⇒_}
 use Rattle.calls.specs.Model.{entry, firstTable}
 use Rattle.calls.specs.Told.{holds}
-use Rattle.calls.specs.Tally.{Phase}
-use Rattle.calls.specs.Tally.Phase.{writing, swapped, syncing, returned}
+use Rattle.calls.specs.Tally.{Phase, firstPlace}
+use Rattle.calls.specs.Tally.Phase.{idle, writing, swapped, returned}
 use Rattle.layout.specs.declared.Reader.{Reader}
 use Rattle.layout.specs.declared.Publisher.{Publisher}
-use Rattle.layout.specs.Layout.{CURRENT-AT, RELEASES-AT, readers, publishers, slots, current, version, noPublisher}
-use Rattle.layout.specs.Laws.{publisher-back}
-use Rattle.statement.specs.Machine.{State, state, Outcome, outcome, Given, Fresh, afterAll}
+use Rattle.layout.specs.Layout.{READERS-AT, PUBLISHERS-AT, SLOTS-AT, CURRENT-AT, VERSION-AT, RELEASES-AT, readers, publishers, slots, current, version, blankReader, noPublisher}
+use Rattle.layout.specs.Laws.{publisher-back, fresh-head, fresh-long, fresh-indicator, fresh-reader, fresh-publisher}
+use Rattle.statement.specs.Machine.{State, state, Outcome, outcome, Given, Fresh, events, afterAll}
 use Rattle.statement.specs.Demand3.{Demand3}
-use Rattle.statement.specs.Companions.{MakingAccepts, RefusedLeaves, Framed, Frame, StateCompanions, Companions}
-use Rattle.statement.specs.Kept.{Ghost, ghost₀, advance, next, Back, Kept, demand3, companions}
+use Rattle.statement.specs.Companions.{Traits, IsFresh, MakesFresh, MakingAccepts, RefusedLeaves, PlaceAndOne, LeaveStays, Framed, nextEntry, Writes, Frame, InTurn, StateCompanions, Companions}
+use Rattle.statement.specs.Kept.{Ghost, ghost₀, advance, next, nextAll, Back, Kept, kept-after, demand3, companions}
 use Rattle.publication_law.specs.Steps.{reader, publisher, atPlace, anotherBusy, enterTests, leaveTests, syncTests, sync, raise, walk, oneMore, makingTests, made}
 use Rattle.publication_law.specs.Damage.{Kind, sharedDamage}
-use Rattle.publication_law.specs.Rules.{Rules, traitsOf, damaged, tests, act, rows, step, making, machine}
+use Rattle.publication_law.specs.Rules.{Rules, damaged, tests, act, rows, step, making, machine}
 use Rattle.publication_law.specs.DamageLaws.{Fine, fine-to, publisher-below}
 use Rattle.publication_law.specs.Moves.{MovesPublisher, MovesReader, publisher-moves, publisher-moves-head}
-use Rattle.publication_law.specs.Tallied.{InPhase, in-phase}
+use Rattle.publication_law.specs.Tallied.{phaseAt, phase-writing, InPhase, in-phase, phase-turn}
 use Rattle.publication_law.specs.Invariant.{Invariant}
-use Rattle.publication_law.specs.KindLaw.{KindLaw, places, early-fits}
+use Rattle.publication_law.specs.KindLaw.{KindLaw, places, fine-publisher, early-fits}
 use Rattle.publication_law.specs.Keeps.{publisher-fine, claim-keeps, claim-unpicked, write-keeps, swap-keeps, release-keeps, look-right, released-in-order, slots-right, picks-right, table-right, idle-told, busy-told, former-told, free-told, made-invariant}
 use Rattle.publication_law.specs.Calls.{undamaged-fine}
 use Rattle.publication_law.specs.Decide.{raise-split, decided, decide-accepts, decide-leaves, decide-why}
@@ -53,14 +54,20 @@ pub record Good (K : Kind) (Own : Ghost → State → Type 0) (z : Given) (g : G
   pub shared : Invariant K z g s
   pub own : Own g s
 
-pub record Lawful (R : Rules) (last : ℕ) (passes : Given → ℕ) (onward-place : ℕ → ℕ) : Type 1 where
+pub record Lawful (R : Rules) (T : Traits) : Type 1 where
   pub kind-law : KindLaw (R .kind)
+  -- what is said of the kind beside its rules
+  pub first-is : T .first ≡ (λ z. firstTable)
+  pub exclusive-is : T .exclusive ≡ R .exclusive
+  pub successor-is : T .successor ≡ R .kind .versions .markAt
+  pub raises-in : (x : Phase) → T .raisesIn x ≡ R .raisesAt (firstPlace x)
+  pub walks-in : (x : Phase) → T .walksIn x ≡ R .walksAt (firstPlace x)
   -- versions up to the last fit, and below it a SYNC is not refused
-  pub last-fits : (v : ℕ) → v ≤ last → R .kind .versions .tooLarge v ≡ false
-  pub below-last : (v : ℕ) → v < last → R .kind .versions .isLast v ≡ false
+  pub last-fits : (v : ℕ) → v ≤ T .last → R .kind .versions .tooLarge v ≡ false
+  pub below-last : (v : ℕ) → v < T .last → R .kind .versions .isLast v ≡ false
   pub Own : Ghost → State → Type 0
   pub start-own : (z : Given) (s : State) → AllClear (makingTests (R .kind .versions) z s) → Own (ghost₀ firstTable) (made (R .kind .number) (R .freshReader) z s)
-  pub fresh-out : (R .freshReader .place ≡ 0) × (R .freshReader .picked ≡ 0)
+  pub fresh-is : R .freshReader ≡ blankReader NOT-READING
   pub fresh-reader-fits : (ss : ℕ) → R .kind .readerDamaged ss (R .freshReader) ≡ false
   pub no-further : (z : Given) (g : Ghost) (s : State) → Good (R .kind) Own z g s → R .further s ≡ false
   -- below 35 a publisher's move does not touch the kind's own invariant
@@ -70,7 +77,10 @@ pub record Lawful (R : Rules) (last : ℕ) (passes : Given → ℕ) (onward-plac
   -- the reader after its LEAVE
   pub left : State → ℕ → Reader
   pub leave-moves : (s : State) → Fine (R .kind) s → (r : ℕ) → r < readers (s .words) → MovesReader (s .words) (R .leaveWords s r) r (left s r)
-  pub enter-place : (s : State) → Fine (R .kind) s → (r : ℕ) → r < readers (s .words) → reader s r .place ≤ 4 → R .entered s r .place ≡ onward-place (reader s r .place)
+  pub enter-place : (s : State) → Fine (R .kind) s → (r : ℕ) → r < readers (s .words) → reader s r .place ≤ 4 → R .entered s r .place ≡ T .onward (reader s r .place)
+  -- which numbers of a reader ENTER and LEAVE move
+  pub enter-stays : (s : State) (r : ℕ) → reader s r .place ≤ 4 → PlaceAndOne (reader s r) (R .entered s r)
+  pub leave-stays : (s : State) (r : ℕ) → LeaveStays (T .publishes) (reader s r) (left s r)
   pub enter-kept : (z : Given) (g : Ghost) (s : State) → Good (R .kind) Own z g s → (r : ℕ) → AllClear (enterTests s r)
       → Good (R .kind) Own z (advance g (Enter r) (At (R .entered s r .place))) (state (R .enterWords s r) (s .entries))
   pub leave-kept : (z : Given) (g : Ghost) (s : State) → Good (R .kind) Own z g s → (r : ℕ) → AllClear (leaveTests s r)
@@ -78,16 +88,18 @@ pub record Lawful (R : Rules) (last : ℕ) (passes : Given → ℕ) (onward-plac
   pub sync-kept : (z : Given) (g : Ghost) (s : State) → Good (R .kind) Own z g s → (p : ℕ) → AllClear (syncTests (R .kind .versions) s p)
       → Good (R .kind) Own z (advance g (Sync p) (Synced (R .kind .versions .markAt (version (s .words))))) (sync (R .kind .versions) s p .after)
   pub raise-kept : (z : Given) (g : Ghost) (s : State) → Good (R .kind) Own z g s → (p : ℕ) → p < publishers (s .words) → R .raisesAt (publisher s p .place) ≡ true
-      → Good (R .kind) Own z g (raise (R .kind .versions) s p .after)
+      → Good (R .kind) Own z (advance g (Raise p) (raise (R .kind .versions) s p .reply)) (raise (R .kind .versions) s p .after)
   pub walk-kept : (z : Given) (g : Ghost) (s : State) → Good (R .kind) Own z g s → (p b : ℕ) → p < publishers (s .words) → R .walksAt (publisher s p .place) ≡ true
       → Good (R .kind) Own z (advance g (Walk p b) (Walked (R .looks s p b .reply))) (walk s p (R .looks s p b) .after)
-  -- from 35 to 37 a RAISE or a WALK is in turn, and a WALK with no looks comes to nothing
-  pub goes-on : (rs ss : ℕ) (y : Publisher) → R .kind .publisherDamaged rs ss y ≡ false → 35 ≤ y .place → y .place ≤ 37 → (R .raisesAt (y .place) ≡ true) ⊎ (R .walksAt (y .place) ≡ true)
+  -- RAISE and WALK are in turn from 35 on alone; a WALK keeps its mark, and with no looks it comes to nothing
+  pub raises-late : (pl : ℕ) → pl ≤ 34 → R .raisesAt pl ≡ false
+  pub walks-late : (pl : ℕ) → pl ≤ 34 → R .walksAt pl ≡ false
+  pub mark-stays : (s : State) (p b : ℕ) → R .looks s p b .walk .mark ≡ publisher s p .walk .mark
   pub no-looks : (s : State) (p : ℕ) → R .looks s p 0 ≡ record { walk = publisher s p .walk; reply = Spent }
   pub return-shown : (z : Given) (g : Ghost) (s : State) → Good (R .kind) Own z g s → (p b l w : ℕ) → p < publishers (s .words) → R .walksAt (publisher s p .place) ≡ true
-      → R .looks s p b .reply ≡ Returned l w → Back (traitsOf R last passes onward-place) z g p l w
+      → R .looks s p b .reply ≡ Returned l w → Back T z g p l w
 
-module _ (R : Rules) (last : ℕ) (passes : Given → ℕ) (onward-place : ℕ → ℕ) (L : Lawful R last passes onward-place) where
+module _ (R : Rules) (T : Traits) (L : Lawful R T) where
   -- What each call's rows and step show of themselves.
   record Plain (s : State) (c : Call) : Type 0 where
     -- its numbers are above 1 and below 100, and what it does where none applies is accepted
@@ -166,7 +178,7 @@ module _ (R : Rules) (last : ℕ) (passes : Given → ℕ) (onward-place : ℕ �
 
     raised-kept : (p : ℕ) → AllClear (tests R s (Raise p)) → After (Raise p) (act R s (Raise p))
     unfolding After
-    raised-kept p f = raise-split (λ (o : Outcome). Good (R .kind) (L .Own) z g (o .after) → Good (R .kind) (L .Own) z (next g (Raise p ⇒ o .reply)) (o .after))
+    raised-kept p f = raise-split (λ (o : Outcome). Good (R .kind) (L .Own) z (advance g (Raise p) (o .reply)) (o .after) → Good (R .kind) (L .Own) z (next g (Raise p ⇒ o .reply)) (o .after))
         (R .kind .versions) s p (λ _ x. record { shared = x .shared; own = x .own }) (λ x. record { shared = x .shared; own = x .own })
         (L .raise-kept z g s i p (leb-false _ _ (f .0)) (not-false _ (f .1 .0)))
 
@@ -197,9 +209,9 @@ module _ (R : Rules) (last : ℕ) (passes : Given → ℕ) (onward-place : ℕ �
     claim-safe p x r = decided (λ (o : Outcome). accepted (o .reply) ≡ true → ¬ (g .told .picked r ≡ some x)) (rows R s (Claim p x)) (act R s (Claim p x)) s refl
         (λ f ok. claim-unpicked (R .kind) (L .kind-law) z g s (i .shared) (R .exclusive) p x (f .1) r) (λ ok. clash (sym ok))
 
-    return-back : (p b l w : ℕ) → step R s (Walk p b) .reply ≡ Walked (Returned l w) → Back (traitsOf R last passes onward-place) z g p l w
+    return-back : (p b l w : ℕ) → step R s (Walk p b) .reply ≡ Walked (Returned l w) → Back T z g p l w
     unfolding step
-    return-back p b l w = decided (λ (o : Outcome). o .reply ≡ Walked (Returned l w) → Back (traitsOf R last passes onward-place) z g p l w) (rows R s (Walk p b)) (act R s (Walk p b)) s refl
+    return-back p b l w = decided (λ (o : Outcome). o .reply ≡ Walked (Returned l w) → Back T z g p l w) (rows R s (Walk p b)) (act R s (Walk p b)) s refl
         (λ f q. L .return-shown z g s i p b l w (leb-false _ _ (f .1 .0)) (not-false _ (f .1 .1 .0)) (cc))
         (λ q. absurd (let y : _≡_ {A = ℕ} 0 1 = cc in omega arith))
 
@@ -261,16 +273,56 @@ module _ (R : Rules) (last : ℕ) (passes : Given → ℕ) (onward-place : ℕ �
         let turn : not (eqb (publisher s p .place) 33) ≡ false = negated _ (eq-eqb (publisher s p .place) 33 (omega arith)) in
         (current (s .words), i .shared .core .current-is, rw (accepts (Swap p) (named-publisher p pn, (turn, tt))) refl)
 
-    syncs-on : (p : ℕ) → p < z .publishers → g .tally .phase p ≡ swapped → version (s .words) < last → accepted (step R s (Sync p) .reply) ≡ true
+    syncs-on : (p : ℕ) → p < z .publishers → g .tally .phase p ≡ swapped → version (s .words) < T .last → accepted (step R s (Sync p) .reply) ≡ true
     syncs-on p pn ph low = rw (accepts (Sync p) (named-publisher p pn, (negated _ (eq-eqb (publisher s p .place) 34 (placed p swapped ph)), (L .below-last (version (s .words)) low, tt)))) refl
 
-    waits-on : (p b : ℕ) → p < z .publishers → g .tally .phase p ≡ syncing → publisher s p .walk .looks + b ≤ NUMBER-MAX
-        → (accepted (step R s (Raise p) .reply) ≡ true) ⊎ (accepted (step R s (Walk p b) .reply) ≡ true)
-    waits-on p b pn ph few-looks = go (L .goes-on _ _ (publisher s p) (i .shared .fine .publishers-fine p (leb-false _ _ (named-publisher p pn))) (placed p syncing ph .0) (placed p syncing ph .1))
-      where
-        go : (R .raisesAt (publisher s p .place) ≡ true) ⊎ (R .walksAt (publisher s p .place) ≡ true) → (accepted (step R s (Raise p) .reply) ≡ true) ⊎ (accepted (step R s (Walk p b) .reply) ≡ true)
-        go (inl e) = inl (rw (accepts (Raise p) (named-publisher p pn, (negated _ e, tt))) (plain s (Raise p) .accepts))
-        go (inr e) = inr (rw (accepts (Walk p b) (named-publisher p pn, (negated _ e, (le-ltb NUMBER-MAX (publisher s p .walk .looks + b) few-looks, tt)))) refl)
+    -- Whether RAISE and WALK are in turn is told by the phase.
+    turn-told : (f : ℕ → Bool) → ((pl : ℕ) → pl ≤ 34 → f pl ≡ false) → (p : ℕ) → p < publishers (s .words) → f (firstPlace (g .tally .phase p)) ≡ f (publisher s p .place)
+    turn-told f early p lt = rw (i .shared .tallied .phases p)
+        (phase-turn f early (publisher s p .place) (places (L .kind-law) (readers (s .words)) (slots (s .words)) (publisher s p) (i .shared .fine .publishers-fine p lt)))
+
+    raise-told : (p : ℕ) → p < publishers (s .words) → T .raisesIn (g .tally .phase p) ≡ R .raisesAt (publisher s p .place)
+    raise-told p lt = L .raises-in (g .tally .phase p) ∙ turn-told (R .raisesAt) (L .raises-late) p lt
+
+    walk-told : (p : ℕ) → p < publishers (s .words) → T .walksIn (g .tally .phase p) ≡ R .walksAt (publisher s p .place)
+    walk-told p lt = L .walks-in (g .tally .phase p) ∙ turn-told (R .walksAt) (L .walks-late) p lt
+
+    raises-on : (p : ℕ) → p < z .publishers → T .raisesIn (g .tally .phase p) ≡ true → accepted (step R s (Raise p) .reply) ≡ true
+    raises-on p pn e =
+        let turn : R .raisesAt (publisher s p .place) ≡ true = sym (raise-told p (leb-false _ _ (named-publisher p pn))) ∙ e in
+        rw (accepts (Raise p) (named-publisher p pn, (negated _ turn, tt))) (plain s (Raise p) .accepts)
+
+    walks-on : (p b : ℕ) → p < z .publishers → T .walksIn (g .tally .phase p) ≡ true → publisher s p .walk .looks + b ≤ NUMBER-MAX → accepted (step R s (Walk p b) .reply) ≡ true
+    walks-on p b pn e few-looks =
+        let turn : R .walksAt (publisher s p .place) ≡ true = sym (walk-told p (leb-false _ _ (named-publisher p pn))) ∙ e in
+        rw (accepts (Walk p b) (named-publisher p pn, (negated _ turn, (le-ltb NUMBER-MAX (publisher s p .walk .looks + b) few-looks, tt)))) refl
+
+    -- An accepted call is in its turn.
+    at-phase : (p pl : ℕ) (x : Phase) → eqb (publisher s p .place) pl ≡ true → phaseAt pl ≡ x → g .tally .phase p ≡ x
+    at-phase p pl x e q = i .shared .tallied .phases p ∙ (ap phaseAt (eqb-true (publisher s p .place) pl e) ∙ q)
+
+    turn-clear : (c : Call) → AllClear (tests R s c) → InTurn T (g .model) (g .tally) c
+    turn-clear (Enter r) f = let l = leb-false 5 (reader s r .place) (f .1 .0) in omega (arith, i .shared .tallied .places r)
+    turn-clear (Look r k) f = i .shared .tallied .places r ∙ eqb-true (reader s r .place) 5 (not-false _ (f .1 .1 .0))
+    turn-clear (Leave r) f = let l = ltb-false (reader s r .place) 4 (f .1 .0) in omega (arith, i .shared .tallied .places r)
+    turn-clear (Claim p x) f = at-phase p 0 idle (not-false _ (f .1 .1 .0)) refl
+    turn-clear (Write p v) f =
+        let range = within 1 32 (publisher s p .place) (f .1 .1 .0) in
+        let drafted = i .shared .core .publishers p .drafted (range .0) (omega (arith, range .1)) in
+        (i .shared .tallied .phases p ∙ phase-writing (publisher s p .place) (range .0) (omega (arith, range .1)), omega (arith, drafted, range .1))
+    turn-clear (Swap p) f =
+        let at33 = eqb-true (publisher s p .place) 33 (not-false _ (f .1 .0)) in
+        let drafted = i .shared .core .publishers p .drafted (omega arith) (omega arith) in
+        (at-phase p 33 writing (not-false _ (f .1 .0)) refl, omega (arith, drafted, at33))
+    turn-clear (Sync p) f = at-phase p 34 swapped (not-false _ (f .1 .0)) refl
+    turn-clear (Raise p) f = raise-told p (leb-false _ _ (f .0)) ∙ not-false _ (f .1 .0)
+    turn-clear (Walk p b) f = walk-told p (leb-false _ _ (f .0)) ∙ not-false _ (f .1 .0)
+    turn-clear (Release p) f = released-in-order (R .kind) (L .kind-law) z g s (i .shared) p f
+
+    turn-right : (c : Call) → accepted (step R s c .reply) ≡ true → InTurn T (g .model) (g .tally) c
+    unfolding step
+    turn-right c = decided (λ (o : Outcome). accepted (o .reply) ≡ true → InTurn T (g .model) (g .tally) c) (rows R s c) (act R s c) s (all-numbers s c)
+        (λ f ok. turn-clear c (f .1)) (λ ok. clash (sym ok))
 
     frees-on : (p : ℕ) → p < z .publishers → g .tally .phase p ≡ returned
         → (x : ℕ) × (g .told .former p x ≡ true) × (step R s (Release p) .reply ≡ Freed x ((g .tally .releases + 1) % MODULUS))
@@ -281,9 +333,10 @@ module _ (R : Rules) (last : ℕ) (passes : Given → ℕ) (onward-place : ℕ �
         let n : oneMore s ≡ (g .tally .releases + 1) % MODULUS = omega (arith, i .shared .tallied .releases) in
         (publisher s p .held, former-told (R .kind) (L .kind-law) z g s (i .shared) p (omega arith), rw (accepts (Release p) (named-publisher p pn, (turn, tt)), n) refl)
 
-    state-companions : StateCompanions (machine R) (traitsOf R last passes onward-place) z (g .model) (g .told) (g .tally) s
+    state-companions : StateCompanions (machine R) T z (g .model) (g .told) (g .tally) s
     state-companions = record {
       undamaged = not-damaged;
+      in-turn = turn-right;
       enters = λ r rn low.
           let pl : g .tally .place r ≡ reader s r .place = i .shared .tallied .places r in
           let rs : r < readers (s .words) = omega (arith, i .shared .sized .readers-are) in
@@ -292,12 +345,13 @@ module _ (R : Rules) (last : ℕ) (passes : Given → ℕ) (onward-place : ℕ �
           rw (accepts (Look r k) (named-reader r rn, (le-ltb 31 k (omega arith), (negated _ (eq-eqb (reader s r .place) 5 (sym (i .shared .tallied .places r) ∙ five)), tt)))) refl;
       leaves = λ r rn four. rw (accepts (Leave r) (named-reader r rn, (le-ltb (reader s r .place) 4 (omega (arith, i .shared .tallied .places r)), tt))) refl;
       claims = λ p x pn xn fr idle others.
-          rw (accepts (Claim p x) (named-publisher p pn, (named-slot x xn, (idle-turn p idle, (nobody-busy p others, (free-told (R .kind) (L .kind-law) z g s (i .shared) x fr, tt)))))) refl;
-      busy = refused-busy;
+          rw (accepts (Claim p x) (named-publisher p pn, (named-slot x xn, (idle-turn p idle, (nobody-busy p (rw (L .exclusive-is) at others), (free-told (R .kind) (L .kind-law) z g s (i .shared) x fr, tt)))))) refl;
+      busy = λ e. refused-busy (sym (L .exclusive-is) ∙ e);
       writes = writes-on;
       swaps = swaps-on;
       syncs = syncs-on;
-      waits = waits-on;
+      raises = raises-on;
+      walks = walks-on;
       frees = frees-on;
       counted = sym (i .shared .tallied .releases);
     }
@@ -311,16 +365,43 @@ module _ (R : Rules) (last : ℕ) (passes : Given → ℕ) (onward-place : ℕ �
   start s f = decided (λ (o : Outcome). o ≡ outcome Made s → Good (R .kind) (L .Own) (f .arguments) (ghost₀ firstTable) s) (makingTests (R .kind .versions) (f .arguments) (f .lent))
       (outcome Made (made (R .kind .number) (R .freshReader) (f .arguments) (f .lent))) (f .lent) refl
       (λ c e. subst (λ (u : State). Good (R .kind) (L .Own) (f .arguments) (ghost₀ firstTable) u) (outcome-parts _ _ _ e .1) (record {
-        shared = made-invariant (R .kind) (R .freshReader) (f .arguments) (f .lent) c (L .fresh-out .0) (L .fresh-out .1) (L .fresh-reader-fits _) (early-fits (L .kind-law) (f .arguments .readers) (f .arguments .slots) noPublisher (omega arith) (λ l. absurd (omega arith)));
+        shared = made-invariant (R .kind) (R .freshReader) (f .arguments) (f .lent) c (ap (λ (x : Reader). x .place) (L .fresh-is)) (ap (λ (x : Reader). x .picked) (L .fresh-is)) (L .fresh-reader-fits _) (early-fits (L .kind-law) (f .arguments .readers) (f .arguments .slots) noPublisher (omega arith) (λ l. absurd (omega arith)));
         own = L .start-own (f .arguments) (f .lent) c;
       }))
       (λ e. absurd (let q = outcome-parts _ _ _ e .0 in let y : _≡_ {A = ℕ} 0 1 = cc in omega arith))
       (f .made)
 
-  kept : Kept (machine R) (traitsOf R last passes onward-place)
+  -- A fresh store is document 01's, number by number.
+  made-is : (z : Given) (s : State) → AllClear (makingTests (R .kind .versions) z s) → IsFresh z (made (R .kind .number) (R .freshReader) z s)
+  made-is z s c =
+      let k = R .kind .number in
+      let x = R .freshReader in
+      let head = fresh-head k (z .readers) (z .publishers) (z .slots) (z .version) x in record {
+        long = fresh-long k (z .readers) (z .publishers) (z .slots) (z .version) x;
+        readers-given = head READERS-AT (omega arith);
+        publishers-given = head PUBLISHERS-AT (omega arith);
+        slots-given = head SLOTS-AT (omega arith);
+        version-given = head VERSION-AT (omega arith);
+        current-is = head CURRENT-AT (omega arith);
+        releases-are = head RELEASES-AT (omega arith);
+        indicators-are = fresh-indicator k (z .readers) (z .publishers) (z .slots) (z .version) x;
+        readers-are = λ r l. fresh-reader k (z .readers) (z .publishers) (z .slots) (z .version) x r ∙ rw (lt-ltb r READERS-MAX l) (L .fresh-is);
+        publishers-are = fresh-publisher k (z .readers) (z .publishers) (z .slots) (z .version) x;
+        entries-are = let e : length (s .entries) ≡ z .slots * TABLE = eqb-true _ _ (not-false _ (c .1 .1 .1 .1 .0)) in ap (λ (n : ℕ). replicate n FEATHERED) e;
+      }
+
+  pub makes-fresh-of : MakesFresh (machine R)
+  unfolding making
+  makes-fresh-of s f = decided (λ (o : Outcome). o ≡ outcome Made s → IsFresh (f .arguments) s) (makingTests (R .kind .versions) (f .arguments) (f .lent))
+      (outcome Made (made (R .kind .number) (R .freshReader) (f .arguments) (f .lent))) (f .lent) refl
+      (λ c e. subst (IsFresh (f .arguments)) (outcome-parts _ _ _ e .1) (made-is (f .arguments) (f .lent) c))
+      (λ e. absurd (let q = outcome-parts _ _ _ e .0 in let y : _≡_ {A = ℕ} 0 1 = cc in omega arith))
+      (f .made)
+
+  kept : Kept (machine R) T
   kept = record {
     Inv = Good (R .kind) (L .Own);
-    start = start;
+    start = λ s f. rw (L .first-is) (start s f);
     keep = stepped;
     look = look-shelf;
     claim = claim-safe;
@@ -332,11 +413,16 @@ module _ (R : Rules) (last : ℕ) (passes : Given → ℕ) (onward-place : ℕ �
     state-companions = state-companions;
   }
 
-  pub demand3-of : Demand3 (machine R) (λ z. firstTable)
-  demand3-of = demand3 (machine R) (traitsOf R last passes onward-place) kept
+  -- What the invariant gives after every list from fresh.
+  pub reached : (s : State) (f : Fresh (machine R) s) (cs : List Call) → Good (R .kind) (L .Own) (f .arguments) (nextAll (ghost₀ (T .first (f .arguments))) (events (machine R) s cs)) (afterAll (machine R) s cs)
+  unfolding kept
+  reached s f cs = kept-after (machine R) T kept (f .arguments) (ghost₀ (T .first (f .arguments))) s (kept .start s f) cs
 
-  pub companions-of : Companions (machine R) (traitsOf R last passes onward-place)
-  companions-of = companions (machine R) (traitsOf R last passes onward-place) kept
+  pub demand3-of : Demand3 (machine R) (T .first)
+  demand3-of = demand3 (machine R) T kept
+
+  pub companions-of : Companions (machine R) T
+  companions-of = companions (machine R) T kept
 
   -- The damage test is false after every list from fresh.
   pub never-damaged-of : (s : State) → Fresh (machine R) s → (cs : List Call) → damaged R (afterAll (machine R) s cs) ≡ false
@@ -355,31 +441,48 @@ module _ (R : Rules) (last : ℕ) (passes : Given → ℕ) (onward-place : ℕ �
   }
 
   -- A call moves the record that it names, and no other.
-  framed : (s : State) (c : Call) → AllClear (rows R s c) → Framed c (s .words) (act R s c .after .words)
-  framed s (Enter r) f = reader-framed (Enter r) _ _ r _ (L .enter-moves s (undamaged-fine R s (f .0)) r (leb-false _ _ (f .1 .0))) refl refl
-  framed s (Look r k) f = same-framed (Look r k) (s .words)
-  framed s (Leave r) f = reader-framed (Leave r) _ _ r _ (L .leave-moves s (undamaged-fine R s (f .0)) r (leb-false _ _ (f .1 .0))) refl refl
-  framed s (Claim p x) f = claim-framed (R .kind) s (undamaged-fine R s (f .0)) (R .exclusive) p x (f .1)
-  framed s (Write p v) f = write-framed (R .kind) s (undamaged-fine R s (f .0)) p v (f .1)
-  framed s (Swap p) f = swap-framed (R .kind) s (undamaged-fine R s (f .0)) p (f .1)
-  framed s (Sync p) f = sync-framed (R .kind) s (undamaged-fine R s (f .0)) (R .kind .versions) p (f .1)
-  framed s (Raise p) f = raise-framed (R .kind) s (undamaged-fine R s (f .0)) (R .kind .versions) p (leb-false _ _ (f .1 .0))
-  framed s (Walk p b) f = walk-framed (R .kind) s (undamaged-fine R s (f .0)) p b (R .looks s p b) (leb-false _ _ (f .1 .0))
-  framed s (Release p) f = release-framed (R .kind) s (undamaged-fine R s (f .0)) p (f .1)
+  framed : (s : State) (c : Call) → AllClear (rows R s c) → Framed (T .publishes) c (s .words) (act R s c .after .words)
+  framed s (Enter r) f = reader-framed (T .publishes) (Enter r) _ _ r _ (L .enter-moves s (undamaged-fine R s (f .0)) r (leb-false _ _ (f .1 .0))) refl refl
+      (λ e. subst (λ (x : Reader). PlaceAndOne (reader s r) x) (sym e) (L .enter-stays s r (let q = leb-false 5 (reader s r .place) (f .1 .1 .0) in omega arith)))
+  framed s (Look r k) f = same-framed (T .publishes) (Look r k) (s .words)
+  framed s (Leave r) f = reader-framed (T .publishes) (Leave r) _ _ r _ (L .leave-moves s (undamaged-fine R s (f .0)) r (leb-false _ _ (f .1 .0))) refl refl
+      (λ e. subst (λ (x : Reader). LeaveStays (T .publishes) (reader s r) x) (sym e) (L .leave-stays s r))
+  framed s (Claim p x) f = claim-framed (T .publishes) (R .kind) s (undamaged-fine R s (f .0)) (R .exclusive) p x (f .1)
+  framed s (Write p v) f = write-framed (T .publishes) (R .kind) s (undamaged-fine R s (f .0)) p v (f .1)
+  framed s (Swap p) f = swap-framed (T .publishes) (R .kind) s (undamaged-fine R s (f .0)) p (f .1)
+  framed s (Sync p) f = sync-framed (T .publishes) (R .kind) s (undamaged-fine R s (f .0)) (R .kind .versions) p (f .1)
+  framed s (Raise p) f = raise-framed (T .publishes) (R .kind) s (undamaged-fine R s (f .0)) (R .kind .versions) p (leb-false _ _ (f .1 .0))
+  framed s (Walk p b) f = walk-framed (T .publishes) (R .kind) s (undamaged-fine R s (f .0)) p b (R .looks s p b) (leb-false _ _ (f .1 .0)) (L .mark-stays s p b)
+  framed s (Release p) f = release-framed (T .publishes) (R .kind) s (undamaged-fine R s (f .0)) p (f .1)
 
-  step-framed : (s : State) (c : Call) → Framed c (s .words) (step R s c .after .words)
+  step-framed : (s : State) (c : Call) → Framed (T .publishes) c (s .words) (step R s c .after .words)
   unfolding step
-  step-framed s c = decided (λ (o : Outcome). Framed c (s .words) (o .after .words)) (rows R s c) (act R s c) s (all-numbers s c) (framed s c) (same-framed c (s .words))
+  step-framed s c = decided (λ (o : Outcome). Framed (T .publishes) c (s .words) (o .after .words)) (rows R s c) (act R s c) s (all-numbers s c) (framed s c) (same-framed (T .publishes) c (s .words))
 
-  pub frame-of : Frame (machine R)
+  -- An accepted WRITE stores the next entry of the slot held, which is one of the entries.
+  writes-right : (s : State) (p : ℕ) (v : ℤ) → Writes s p v (step R s (Write p v))
+  unfolding step
+  writes-right s p v = decided (λ (o : Outcome). Writes s p v o) (rows R s (Write p v)) (act R s (Write p v)) s refl
+      (λ f.
+      let fine = undamaged-fine R s (f .0) in
+      let range = within 1 32 (publisher s p .place) (f .1 .1 .1 .0) in
+      let held = fine-publisher (L .kind-law) (readers (s .words)) (slots (s .words)) (publisher s p) (fine .publishers-fine p (leb-false _ _ (f .1 .0))) .held-below (range .0) in record {
+        stored = λ _. getD-set-same (s .entries) (nextEntry s p) v (pos 0) (omega (arith, fine .head .entries-are, range .0, range .1, held));
+        others = λ j ne. getD-set-other (s .entries) (nextEntry s p) j v (pos 0) ne;
+        long = length-set (s .entries) (nextEntry s p) v;
+      })
+      (record { stored = λ ok. clash (sym ok); others = λ j ne. refl; long = refl })
+
+  pub frame-of : Frame (λ s. T .publishes) (machine R)
   unfolding step
   frame-of = record {
     words = step-framed;
     entries = λ s c ne. decided (λ (o : Outcome). o .after .entries ≡ s .entries) (rows R s c) (act R s c) s (all-numbers s c) (λ f. plain s c .entries-stay ne) refl;
+    writes = writes-right;
   }
 
   -- A making with every argument in its range is accepted.
-  pub making-accepts-of : MakingAccepts (machine R) (traitsOf R last passes onward-place)
+  pub making-accepts-of : MakingAccepts (machine R) T
   unfolding making
   making-accepts-of g s long rl rh pl ph sl sh len low = rw (decide-accepts (makingTests (R .kind .versions) g s) (outcome Made (made (R .kind .number) (R .freshReader) g s)) s
       (negated _ (eq-eqb _ _ long), (not-outside 1 READERS-MAX _ rl rh, (not-outside 1 PUBLISHERS-MAX _ pl ph, (not-outside SLOTS-MIN SLOTS-MAX _ sl sh, (negated _ (eq-eqb _ _ len), (L .last-fits _ low, tt))))))) refl

@@ -1,57 +1,123 @@
 -- What is promised of a kind with the ten calls, in one record; and the facts of a WALK that every kind has. Assumes nothing.
-use Prim.Native.Nat.{ℕ, _<_}
-use mathlib.Core.Path.{_≡_, refl, sym}
-use mathlib.Core.Bool.{true, false}
+use Prim.Native.Nat.{ℕ, _<_, _≤_}
+use native.Mathlib.Omega.{arith}
+use mathlib.Core.Path.{_≡_, refl, sym, ap, _∙_}
+use mathlib.Core.Logic.{_≢_}
+use mathlib.Core.Bool.{Bool, true, false}
 use mathlib.Core.List.{List}
 use lib.IntN.{pos}
 use lib.ListN.{getD}
-use borrow.Author.Tests.{leb-false, not-false}
+use lib.Dec.{leb, eqb}
+use borrow.Author.Tests.{eqb-true, eqb-false, leb-true, leb-false, not-false}
 use Rattle.calls.specs.declared.Call.{Call}
-use Rattle.calls.specs.declared.Call.the-variants.{Walk}
-use Rattle.calls.specs.declared.Reply.the-variants.{Walked}
+use Rattle.calls.specs.declared.Call.the-variants.{Sync, Raise, Walk}
+use Rattle.calls.specs.declared.Reply.the-variants.{Synced, Raised, Shared, Walked}
 use Rattle.calls.specs.declared.WalkReply.the-variants.{Spent}
-use Rattle.calls.specs.RowLaws.{clash}
+use Rattle.calls.specs.RowLaws.{clash, not-both, pick-split, same}
 use Rattle.calls.specs.AnswerLaws.{NarrowPitch, Proper}
 use Rattle.calls.specs.Events.{accepted}
-use Rattle.calls.specs.Model.{firstTable}
+use Rattle.layout.specs.declared.Publisher.{Publisher}
 use Rattle.layout.specs.declared.Progress.{Progress}
-use Rattle.layout.specs.Layout.{publishers}
+use Rattle.layout.specs.Layout.{VERSION-AT, publishers, version, publisherAt}
 use Rattle.statement.specs.Machine.{State, Outcome, Given, Fresh, afterAll}
 use Rattle.statement.specs.Demand3.{Demand3}
-use Rattle.statement.specs.Companions.{Traits, MakingAccepts, RefusedLeaves, Frame, Companions}
-use Rattle.publication_law.specs.Steps.{publisher, walked}
-use Rattle.publication_law.specs.Rules.{Rules, traitsOf, damaged, act, rows, step, making, machine}
+use Rattle.statement.specs.Companions.{Traits, MakingAccepts, MakesFresh, RefusedLeaves, Frame, Companions}
+use Rattle.publication_law.specs.Steps.{publisher, atPlace, raise, walked}
+use Rattle.publication_law.specs.Rules.{Rules, damaged, act, rows, step, making, machine}
 use Rattle.publication_law.specs.DamageLaws.{Fine}
 use Rattle.publication_law.specs.Calls.{undamaged-fine}
+use Rattle.publication_law.specs.KindLaw.{fine-publisher}
+use Rattle.publication_law.specs.Moves.{MovesPublisher, publisher-moves, publisher-moves-head}
 use Rattle.publication_law.specs.Frames.{walk-record}
 use Rattle.publication_law.specs.Decide.{decided}
-use Rattle.publication_law.specs.Lawful.{Lawful, demand3-of, companions-of, never-damaged-of, making-accepts-of, refused-leaves-of, frame-of, proper-of, proper-making-of, walk-zero-of}
+use Rattle.publication_law.specs.Lawful.{Lawful, demand3-of, companions-of, never-damaged-of, making-accepts-of, refused-leaves-of, frame-of, makes-fresh-of, proper-of, proper-making-of, walk-zero-of}
+
+-- SYNC: the reply is the mark that it stores, the version's successor; next, looks and waits are 0.
+pub record SyncFacts (successor : ℕ → ℕ) (s : State) (p : ℕ) (o : Outcome) : Type 0 where
+  pub reply-is : o .reply ≡ Synced (successor (version (s .words)))
+  pub record-is : publisher (o .after) p ≡ record { place = 35; held = publisher s p .held; walk = record { mark = successor (version (s .words)); next = 0; looks = 0; waits = 0 } }
+
+-- RAISE: raised exactly if the version was one before the mark, and the version then is the mark; else shared, and the version stays. Place 37 either way.
+pub record RaiseFacts (successor : ℕ → ℕ) (s : State) (p : ℕ) (o : Outcome) : Type 0 where
+  pub raised : successor (version (s .words)) ≡ publisher s p .walk .mark → (o .reply ≡ Raised) × (version (o .after .words) ≡ publisher s p .walk .mark)
+  pub shared : successor (version (s .words)) ≢ publisher s p .walk .mark → (o .reply ≡ Shared) × (version (o .after .words) ≡ version (s .words))
+  pub record-is : publisher (o .after) p ≡ record { place = 37; held = publisher s p .held; walk = publisher s p .walk }
 
 pub record Promises (R : Rules) (T : Traits) : Type 0 where
-  pub demand3 : Demand3 (machine R) (λ z. firstTable)
+  pub demand3 : Demand3 (machine R) (T .first)
   pub companions : Companions (machine R) T
   -- the damage test is false after every list from fresh
   pub never-damaged : (s : State) → Fresh (machine R) s → (cs : List Call) → damaged R (afterAll (machine R) s cs) ≡ false
   pub making-accepts : MakingAccepts (machine R) T
   pub refused-leaves : RefusedLeaves (machine R)
-  pub frame : Frame (machine R)
+  pub frame : Frame (λ s. T .publishes) (machine R)
+  -- a fresh store is document 01's, number by number
+  pub makes-fresh : MakesFresh (machine R)
+  -- what an accepted SYNC and an accepted RAISE reply and store, for every state
+  pub sync-facts : (s : State) (p : ℕ) → accepted (step R s (Sync p) .reply) ≡ true → SyncFacts (T .successor) s p (step R s (Sync p))
+  pub raise-facts : (s : State) (p : ℕ) → accepted (step R s (Raise p) .reply) ≡ true → RaiseFacts (T .successor) s p (step R s (Raise p))
   -- every reply of a store whose entries are pitches of 64 bits has an answer that no other proper reply has
   pub proper : (s : State) (c : Call) → ((j : ℕ) → NarrowPitch (getD (s .entries) j (pos 0))) → Proper (step R s c .reply)
   pub proper-making : (g : Given) (s : State) → Proper (making R g s .reply)
   -- a WALK with no looks that replies spent leaves the whole state as it was
   pub walk-zero : (s : State) (p : ℕ) → step R s (Walk p 0) .reply ≡ Walked Spent → step R s (Walk p 0) .after ≡ s
 
-pub promises-of : (R : Rules) (last : ℕ) (passes : Given → ℕ) (onward : ℕ → ℕ) → Lawful R last passes onward → Promises R (traitsOf R last passes onward)
-promises-of R last passes onward L = record {
-  demand3 = demand3-of R last passes onward L;
-  companions = companions-of R last passes onward L;
-  never-damaged = never-damaged-of R last passes onward L;
-  making-accepts = making-accepts-of R last passes onward L;
-  refused-leaves = refused-leaves-of R last passes onward L;
-  frame = frame-of R last passes onward L;
-  proper = proper-of R last passes onward L;
-  proper-making = proper-making-of R last passes onward L;
-  walk-zero = walk-zero-of R last passes onward L;
+module _ (R : Rules) (T : Traits) (L : Lawful R T) where
+  own-record : (s : State) (w′ : List ℕ) (p : ℕ) (y : Publisher) (cur ver rel : ℕ) → MovesPublisher (s .words) w′ p y cur ver rel → publisherAt w′ p ≡ y
+  own-record s w′ p y cur ver rel m = ap (λ (f : ℕ → Publisher). f p) (m .publishers-are) ∙ rw (same p) refl
+
+  sync-facts-of : (s : State) (p : ℕ) → accepted (step R s (Sync p) .reply) ≡ true → SyncFacts (T .successor) s p (step R s (Sync p))
+  unfolding step
+  sync-facts-of s p = decided (λ (o : Outcome). accepted (o .reply) ≡ true → SyncFacts (T .successor) s p o) (rows R s (Sync p)) (act R s (Sync p)) s refl
+      (λ f _. rw (L .successor-is) (record { reply-is = refl; record-is = own-record s _ p _ _ _ _ (publisher-moves (undamaged-fine R s (f .0)) p _ (leb-false _ _ (f .1 .0))) }))
+      (λ ok. clash (sym ok))
+
+  -- A RAISE of a publisher whose mark fits.
+  raise-acts : (s : State) (p : ℕ) → Fine (R .kind) s → p < publishers (s .words) → R .kind .versions .wrongMark (publisher s p .walk .mark) ≡ false → RaiseFacts (T .successor) s p (raise (R .kind .versions) s p)
+  raise-acts s p fine lt fits = rw (L .successor-is) (pick-split (λ (o : Outcome). RaiseFacts (R .kind .versions .markAt) s p o) (eqb (version (s .words)) (R .kind .versions .beforeMark (publisher s p .walk .mark)))
+      (λ e. let m = publisher-moves-head fine p (atPlace (publisher s p) 37) lt VERSION-AT (publisher s p .walk .mark) (omega arith) (omega arith) in
+      record {
+        raised = λ _. (refl, m .version-is);
+        shared = λ ne. absurd (ne (ap (R .kind .versions .markAt) (eqb-true _ _ e) ∙ L .kind-law .versions-law .mark-after _ fits));
+        record-is = own-record s _ p _ _ _ _ m;
+      })
+      (λ e. let m = publisher-moves fine p (atPlace (publisher s p) 37) lt in
+      record {
+        raised = λ q. absurd (eqb-false _ _ e (sym (L .kind-law .versions-law .before-mark (version (s .words))) ∙ ap (R .kind .versions .beforeMark) q));
+        shared = λ ne. (refl, m .version-is);
+        record-is = own-record s _ p _ _ _ _ m;
+      }))
+
+  raise-facts-of : (s : State) (p : ℕ) → accepted (step R s (Raise p) .reply) ≡ true → RaiseFacts (T .successor) s p (step R s (Raise p))
+  unfolding step
+  raise-facts-of s p = decided (λ (o : Outcome). accepted (o .reply) ≡ true → RaiseFacts (T .successor) s p o) (rows R s (Raise p)) (act R s (Raise p)) s refl
+      (λ f _.
+      let fine = undamaged-fine R s (f .0) in
+      let lt = leb-false (publishers (s .words)) p (f .1 .0) in
+      raise-acts s p fine lt (fine-publisher (L .kind-law) _ _ (publisher s p) (fine .publishers-fine p lt) .mark-fits (late-turn (publisher s p .place) (not-false _ (f .1 .1 .0)))))
+      (λ ok. clash (sym ok))
+    where
+      late-turn : (pl : ℕ) → R .raisesAt pl ≡ true → 35 ≤ pl
+      late-turn pl e = go (leb 35 pl) refl
+        where
+          go : (b : Bool) → leb 35 pl ≡ b → 35 ≤ pl
+          go true d = leb-true 35 pl d
+          go false d = absurd (not-both _ e (L .raises-late pl (let q = leb-false 35 pl d in omega arith)))
+
+pub promises-of : (R : Rules) (T : Traits) → Lawful R T → Promises R T
+promises-of R T L = record {
+  demand3 = demand3-of R T L;
+  companions = companions-of R T L;
+  never-damaged = never-damaged-of R T L;
+  making-accepts = making-accepts-of R T L;
+  refused-leaves = refused-leaves-of R T L;
+  frame = frame-of R T L;
+  makes-fresh = makes-fresh-of R T L;
+  sync-facts = sync-facts-of R T L;
+  raise-facts = raise-facts-of R T L;
+  proper = proper-of R T L;
+  proper-making = proper-making-of R T L;
+  walk-zero = walk-zero-of R T L;
 }
 
 -- The facts of every accepted WALK, for every state: reply and record are those of the looks made, of which a kind says L.

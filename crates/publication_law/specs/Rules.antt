@@ -10,9 +10,7 @@ use Rattle.calls.specs.Rows.{Test}
 use Rattle.calls.specs.Rows.Test.{_gives_}
 use Rattle.layout.specs.declared.Reader.{Reader}
 use Rattle.layout.specs.declared.Progress.{Progress}
-use Rattle.calls.specs.Model.{firstTable}
 use Rattle.statement.specs.Machine.{State, state, Outcome, outcome, Given, Machine}
-use Rattle.statement.specs.Companions.{Traits}
 use Rattle.publication_law.specs.Steps.{publisher, decide, noSuchPublisher, publisherTurn, enterTests, lookTests, look, leaveTests, claimTests, claim, writeTests, write, swapTests, swap, syncTests, sync, raise, tooManyLooks, walk, releaseTests, release, makingTests, made}
 use Rattle.publication_law.specs.Damage.{Kind, sharedDamage}
 
@@ -35,10 +33,6 @@ pub record Rules : Type 0 where
   pub walksAt : ℕ → Bool
   -- what a WALK of publisher p by up to b looks comes to
   pub looks : State → ℕ → ℕ → Progress
-
--- In what such a kind differs for the companions: its last version, how many looks of a walk pass before it returns, and the places of ENTER.
-abbrev pub traitsOf : Rules → ℕ → (Given → ℕ) → (ℕ → ℕ) → Traits
-traitsOf R last passes onward = record { first = λ z. firstTable; last = last; passes = passes; onward = onward; exclusive = R .exclusive }
 
 module _ (R : Rules) where
   unfoldable pub damaged : State → Bool

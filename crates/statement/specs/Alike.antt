@@ -15,7 +15,7 @@ use Rattle.calls.specs.Told.{Told}
 use Rattle.calls.specs.Tally.{Tally}
 use Rattle.statement.specs.Machine.{State, outcome, Given, Machine, Fresh, events, afterAll}
 use Rattle.statement.specs.Demand3.{Demand3}
-use Rattle.statement.specs.Companions.{Traits, MakingAccepts, StateCompanions, Companions}
+use Rattle.statement.specs.Companions.{Traits, MakingAccepts, MakesFresh, StateCompanions, Companions}
 use Rattle.statement.specs.Examples.{lentFor, replies, repliesAfter, played, leadTo, Example, Holds, AllHold}
 use Rattle.statement.specs.Examples.Example.{shows, unchanged}
 
@@ -69,6 +69,7 @@ module _ (M N : Machine) where
   state-same : (T : Traits) (g : Given) (h : Model) (t : Told) (y : Tally) (s : State) → ((c : Call) → N .step s c ≡ M .step s c) → StateCompanions M T g h t y s → StateCompanions N T g h t y s
   state-same T g h t y s e x = record {
     undamaged = λ c. rw (e c) (x .undamaged c);
+    in-turn = λ c. rw (e c) (x .in-turn c);
     enters = λ r. rw (e (Enter r)) (x .enters r);
     looks = λ r k. rw (e (Look r k)) (x .looks r k);
     leaves = λ r. rw (e (Leave r)) (x .leaves r);
@@ -77,7 +78,8 @@ module _ (M N : Machine) where
     writes = λ p v. rw (e (Write p v)) (x .writes p v);
     swaps = λ p. rw (e (Swap p)) (x .swaps p);
     syncs = λ p. rw (e (Sync p)) (x .syncs p);
-    waits = λ p b. rw (e (Raise p), e (Walk p b)) (x .waits p b);
+    raises = λ p. rw (e (Raise p)) (x .raises p);
+    walks = λ p b. rw (e (Walk p b)) (x .walks p b);
     frees = λ p. rw (e (Release p)) (x .frees p);
     counted = x .counted;
   }
@@ -117,6 +119,9 @@ module _ (M N : Machine) where
 
     pub making-accepts-alike : (T : Traits) → MakingAccepts M T → MakingAccepts N T
     making-accepts-alike T d g s = rw (A .makings g s) (d g s)
+
+    pub makes-fresh-alike : MakesFresh M → MakesFresh N
+    makes-fresh-alike d s f = d s (fresh-alike s f)
 
     -- From an accepted making on: the same replies, and the same states.
     made-fresh : (g : Given) (s : State) → M .making g s .reply ≡ Made → Fresh M (M .making g s .after)

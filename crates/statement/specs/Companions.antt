@@ -1,29 +1,31 @@
 -- The companions of demand 3, without which a store of no use would meet it.
-use Prim.Native.Nat.{ℕ, _+_, _*_, _%_, _<_, _≤_}
+use Prim.Native.Nat.{ℕ, _+_, _-_, _*_, _%_, _<_, _≤_}
 use mathlib.Core.Path.{_≡_}
-use mathlib.Core.Logic.{_≢_, _⊎_}
+use mathlib.Core.Logic.{_≢_}
 use mathlib.Core.Bool.{Bool, true, false}
 use mathlib.Core.List.{List, _∷_, _++_}
 use mathlib.Core.Option.{Option, none, some}
-use lib.IntN.{ℤ}
+use lib.IntN.{ℤ, pos}
 use lib.Signed.{ltZ}
-use lib.ListN.{getD, length}
+use lib.ListN.{getD, length, replicate}
 use lib.Dec.{ltb, eqb}
 use Rattle.calls.specs.declared.Call.{Call}
 use Rattle.calls.specs.declared.Call.the-variants.{Enter, Look, Leave, Claim, Write, Swap, Sync, Raise, Walk, Release}
 use Rattle.calls.specs.declared.Reply.{Reply}
 use Rattle.calls.specs.declared.Reply.the-variants.{Made, At, Left, Claimed, Written, Swapped, Walked, Freed, Refused}
 use Rattle.calls.specs.declared.WalkReply.the-variants.{Returned}
-use Rattle.calls.specs.Numbers.{READERS-MAX, PUBLISHERS-MAX, SLOTS-MIN, SLOTS-MAX, TABLE, PITCH-LOW, PITCH-HIGH, NUMBER-MAX, MODULUS, DAMAGED, BUSY}
+use Rattle.calls.specs.Numbers.{READERS-MAX, PUBLISHERS-MAX, SLOTS-MIN, SLOTS-MAX, TABLE, PITCH-LOW, PITCH-HIGH, FEATHERED, NUMBER-MAX, NOT-READING, MODULUS, DAMAGED, BUSY}
 use Rattle.calls.specs.Events.{Event, accepted}
 use Rattle.calls.specs.Events.Event.{_⇒_}
 use Rattle.calls.specs.Model.{Model, modelOf}
 use Rattle.calls.specs.Told.{Told, toldBy, holds, Has}
 use Rattle.calls.specs.Told.Role.{free}
-use Rattle.calls.specs.Tally.{Tally, tallyOf}
-use Rattle.calls.specs.Tally.Phase.{writing, swapped, syncing, returned}
-use Rattle.layout.specs.Layout.{WORDS, HEAD, CURRENT-AT, VERSION-AT, RELEASES-AT, version, releases, readerAt, publisherAt}
-use Rattle.statement.specs.Machine.{State, Given, Machine, Fresh, events, afterAll}
+use Rattle.calls.specs.Tally.{Phase, Tally, tallyOf}
+use Rattle.calls.specs.Tally.Phase.{idle, writing, swapped, raised, returned}
+use Rattle.layout.specs.declared.Reader.{Reader}
+use Rattle.layout.specs.declared.Publisher.{Publisher}
+use Rattle.layout.specs.Layout.{WORDS, HEAD, CURRENT-AT, VERSION-AT, RELEASES-AT, readers, publishers, slots, current, version, releases, indicator, readerWords, noPublisher, blankReader, readerAt, publisherAt, entryAt}
+use Rattle.statement.specs.Machine.{State, Outcome, Given, Machine, Fresh, events, afterAll}
 
 -- In what the kinds differ here.
 pub record Traits : Type 0 where
@@ -33,8 +35,15 @@ pub record Traits : Type 0 where
   pub last : ℕ
   -- how many looks of a walk pass before it returns
   pub passes : Given → ℕ
+  -- the mark of a synchronise at a version: the version's successor
+  pub successor : ℕ → ℕ
+  -- the phases in which RAISE and WALK are in turn
+  pub raisesIn : Phase → Bool
+  pub walksIn : Phase → Bool
   -- the place that follows a reader's place
   pub onward : ℕ → ℕ
+  -- whether readers publish versions, so that a LEAVE publishes too
+  pub publishes : Bool
   -- whether a claim needs that nobody else holds a slot
   pub exclusive : Bool
 
@@ -42,6 +51,24 @@ pub record Traits : Type 0 where
 abbrev pub MakingAccepts : Machine → Traits → Type 0
 MakingAccepts M T = (g : Given) (s : State) → length (s .words) ≡ WORDS → 1 ≤ g .readers → g .readers ≤ READERS-MAX → 1 ≤ g .publishers → g .publishers ≤ PUBLISHERS-MAX
     → SLOTS-MIN ≤ g .slots → g .slots ≤ SLOTS-MAX → length (s .entries) ≡ g .slots * TABLE → g .version ≤ T .last → M .making g s .reply ≡ Made
+
+-- A fresh store, to the letter: every entry 9000, slot 0 current, readers and publishers at place 0, published versions NOT_READING, the version and the sizes as given
+-- and every other number 0.
+pub record IsFresh (z : Given) (s : State) : Type 0 where
+  pub long : length (s .words) ≡ WORDS
+  pub readers-given : readers (s .words) ≡ z .readers
+  pub publishers-given : publishers (s .words) ≡ z .publishers
+  pub slots-given : slots (s .words) ≡ z .slots
+  pub version-given : version (s .words) ≡ z .version
+  pub current-is : current (s .words) ≡ 0
+  pub releases-are : releases (s .words) ≡ 0
+  pub indicators-are : (i : ℕ) → indicator (s .words) i ≡ 0
+  pub readers-are : (r : ℕ) → r < READERS-MAX → readerAt (s .words) r ≡ blankReader NOT-READING
+  pub publishers-are : (p : ℕ) → publisherAt (s .words) p ≡ noPublisher
+  pub entries-are : s .entries ≡ replicate (z .slots * TABLE) FEATHERED
+
+abbrev pub MakesFresh : Machine → Type 0
+MakesFresh M = (s : State) (f : Fresh M s) → IsFresh (f .arguments) s
 
 -- A refused call changes neither the store nor the entries, and a refused making leaves both as lent.
 pub record RefusedLeaves (M : Machine) : Type 0 where
@@ -90,24 +117,82 @@ headNamed (Release p) k = eqb k RELEASES-AT
 abbrev pub One : List ℕ → List ℕ → Type 0
 One w w′ = (j : ℕ) × ((k : ℕ) → k < HEAD → k ≢ j → getD w′ k 0 ≡ getD w k 0)
 
+-- Of a reader's numbers its place, which is its first word, and at most one more moved.
+abbrev pub PlaceAndOne : Reader → Reader → Type 0
+PlaceAndOne x x′ = (j : ℕ) × ((k : ℕ) → k ≢ 0 → k ≢ j → getD (readerWords x′) k 0 ≡ getD (readerWords x) k 0)
+
+-- LEAVE, in a kind that publishes readers' versions or does not.
+pub record LeaveStays (publishes : Bool) (x x′ : Reader) : Type 0 where
+  pub first : x′ .first ≡ x .first
+  pub second : x′ .second ≡ x .second
+  pub published : publishes ≡ false → x′ .published ≡ x .published
+  pub picked : x′ .picked ≡ x .picked
+
+-- A publisher of which only the place moved.
+pub record HeldAndWalkStay (y y′ : Publisher) : Type 0 where
+  pub held : y′ .held ≡ y .held
+  pub walk : y′ .walk ≡ y .walk
+
+-- What stays of the record that a call names, in a kind that publishes readers' versions or does not: of LOOK all; CLAIM may move place and held,
+-- WRITE, RAISE and RELEASE the place, SWAP place and held, SYNC place and walk, WALK place, next, looks and waits,
+-- ENTER the place and at most one more, LEAVE the place and, where it publishes, the published version.
+abbrev pub OwnStays : Bool → Call → List ℕ → List ℕ → Type 0
+OwnStays publishes (Enter r) w w′ = PlaceAndOne (readerAt w r) (readerAt w′ r)
+OwnStays publishes (Look r k) w w′ = readerAt w′ r ≡ readerAt w r
+OwnStays publishes (Leave r) w w′ = LeaveStays publishes (readerAt w r) (readerAt w′ r)
+OwnStays publishes (Claim p x) w w′ = publisherAt w′ p .walk ≡ publisherAt w p .walk
+OwnStays publishes (Write p v) w w′ = HeldAndWalkStay (publisherAt w p) (publisherAt w′ p)
+OwnStays publishes (Swap p) w w′ = publisherAt w′ p .walk ≡ publisherAt w p .walk
+OwnStays publishes (Sync p) w w′ = publisherAt w′ p .held ≡ publisherAt w p .held
+OwnStays publishes (Raise p) w w′ = HeldAndWalkStay (publisherAt w p) (publisherAt w′ p)
+OwnStays publishes (Walk p b) w w′ = (publisherAt w′ p .held ≡ publisherAt w p .held) × (publisherAt w′ p .walk .mark ≡ publisherAt w p .walk .mark)
+OwnStays publishes (Release p) w w′ = HeldAndWalkStay (publisherAt w p) (publisherAt w′ p)
+
 -- Only what is named moved.
-pub record Framed (c : Call) (w w′ : List ℕ) : Type 0 where
+pub record Framed (publishes : Bool) (c : Call) (w w′ : List ℕ) : Type 0 where
   pub long : length w′ ≡ length w
   pub readers : (r : ℕ) → readerNamed c ≢ some r → readerAt w′ r ≡ readerAt w r
   pub publishers : (p : ℕ) → publisherNamed c ≢ some p → publisherAt w′ p ≡ publisherAt w p
+  pub own : OwnStays publishes c w w′
   pub head : (k : ℕ) → k < HEAD → headNamed c k ≡ false → getD w′ k 0 ≡ getD w k 0
   pub one : One w w′
 
--- For every state: a call moves the record of the reader or publisher named, perhaps one number of the head, which its step names, and nothing else;
--- a WALK that record alone. Only WRITE moves the entries.
-pub record Frame (M : Machine) : Type 0 where
-  pub words : (s : State) (c : Call) → Framed c (s .words) (M .step s c .after .words)
+-- The entry that a WRITE of publisher p stores: the next one of the slot held.
+abbrev pub nextEntry : State → ℕ → ℕ
+nextEntry s p = entryAt (publisherAt (s .words) p .held) (publisherAt (s .words) p .place - 1)
+
+-- Of the entries an accepted WRITE stores that one, and no other moves.
+pub record Writes (s : State) (p : ℕ) (v : ℤ) (o : Outcome) : Type 0 where
+  pub stored : accepted (o .reply) ≡ true → getD (o .after .entries) (nextEntry s p) (pos 0) ≡ v
+  pub others : (j : ℕ) → j ≢ nextEntry s p → getD (o .after .entries) j (pos 0) ≡ getD (s .entries) j (pos 0)
+  pub long : length (o .after .entries) ≡ length (s .entries)
+
+-- For every state: a call moves the numbers that its step names of the record of the reader or publisher named, perhaps one number of the head, which its step names too,
+-- and nothing else; a WALK that record alone. Only WRITE moves the entries, and one of them.
+pub record Frame (publishes : State → Bool) (M : Machine) : Type 0 where
+  pub words : (s : State) (c : Call) → Framed (publishes s) c (s .words) (M .step s c .after .words)
   pub entries : (s : State) (c : Call) → ((p : ℕ) (v : ℤ) → c ≢ Write p v) → M .step s c .after .entries ≡ s .entries
+  pub writes : (s : State) (p : ℕ) (v : ℤ) → Writes s p v (M .step s (Write p v))
+
+-- The turn of each call, by what the calls told: a reader's place, a publisher's phase and its draft.
+abbrev pub InTurn : Traits → Model → Tally → Call → Type 0
+InTurn T h y (Enter r) = y .place r < 5
+InTurn T h y (Look r k) = y .place r ≡ 5
+InTurn T h y (Leave r) = 4 ≤ y .place r
+InTurn T h y (Claim p x) = y .phase p ≡ idle
+InTurn T h y (Write p v) = (y .phase p ≡ writing) × (length (h .draft p) < TABLE)
+InTurn T h y (Swap p) = (y .phase p ≡ writing) × (length (h .draft p) ≡ TABLE)
+InTurn T h y (Sync p) = y .phase p ≡ swapped
+InTurn T h y (Raise p) = T .raisesIn (y .phase p) ≡ true
+InTurn T h y (Walk p b) = T .walksIn (y .phase p) ≡ true
+InTurn T h y (Release p) = y .phase p ≡ returned
 
 -- What holds of a state after a list of calls that told h, t and y.
 pub record StateCompanions (M : Machine) (T : Traits) (g : Given) (h : Model) (t : Told) (y : Tally) (s : State) : Type 0 where
   -- never damaged: no call is refused with 1
   pub undamaged : (c : Call) → M .step s c .reply ≢ Refused DAMAGED
+  -- order: a call is accepted in its turn alone
+  pub in-turn : (c : Call) → accepted (M .step s c .reply) ≡ true → InTurn T h y c
   -- readers never wait: the next ENTER replies the next place, whatever stands between;
   -- LOOK is accepted after the pick, and LEAVE in an open section
   pub enters : (r : ℕ) → r < g .readers → y .place r < 5 → M .step s (Enter r) .reply ≡ At (T .onward (y .place r))
@@ -118,13 +203,14 @@ pub record StateCompanions (M : Machine) (T : Traits) (g : Given) (h : Model) (t
       → (T .exclusive ≡ true → (q z : ℕ) → holds t q z ≡ false) → M .step s (Claim p x) .reply ≡ Claimed x
   pub busy : T .exclusive ≡ true → (p x q z : ℕ) → p < g .publishers → x < g .slots → ((z : ℕ) → holds t p z ≡ false) → q ≢ p → holds t q z ≡ true
       → M .step s (Claim p x) .reply ≡ Refused BUSY
-  -- a publisher gets on: it writes 32 entries, then swaps, then synchronises unless the version is the last, raises or walks, and releases what it held
+  -- a publisher gets on: it writes 32 entries, then swaps, then synchronises unless the version is the last,
+  -- raises and walks each in its phases, a WALK unless its looks could pass 2^64 - 1 (33), and releases what it held
   pub writes : (p : ℕ) (v : ℤ) → p < g .publishers → y .phase p ≡ writing → length (h .draft p) < TABLE → ltZ v PITCH-LOW ≡ false → ltZ PITCH-HIGH v ≡ false
       → M .step s (Write p v) .reply ≡ Written (length (h .draft p) + 1)
   pub swaps : (p : ℕ) → p < g .publishers → y .phase p ≡ writing → length (h .draft p) ≡ TABLE → (x : ℕ) × (t .current ≡ some x) × (M .step s (Swap p) .reply ≡ Swapped x)
   pub syncs : (p : ℕ) → p < g .publishers → y .phase p ≡ swapped → version (s .words) < T .last → accepted (M .step s (Sync p) .reply) ≡ true
-  pub waits : (p b : ℕ) → p < g .publishers → y .phase p ≡ syncing → publisherAt (s .words) p .walk .looks + b ≤ NUMBER-MAX
-      → (accepted (M .step s (Raise p) .reply) ≡ true) ⊎ (accepted (M .step s (Walk p b) .reply) ≡ true)
+  pub raises : (p : ℕ) → p < g .publishers → T .raisesIn (y .phase p) ≡ true → accepted (M .step s (Raise p) .reply) ≡ true
+  pub walks : (p b : ℕ) → p < g .publishers → T .walksIn (y .phase p) ≡ true → publisherAt (s .words) p .walk .looks + b ≤ NUMBER-MAX → accepted (M .step s (Walk p b) .reply) ≡ true
   pub frees : (p : ℕ) → p < g .publishers → y .phase p ≡ returned
       → (x : ℕ) × (t .former p x ≡ true) × (M .step s (Release p) .reply ≡ Freed x ((y .releases + 1) % MODULUS))
   -- releases is the number of accepted RELEASEs modulo 2^64
@@ -135,8 +221,8 @@ pub record ListCompanions (M : Machine) (T : Traits) (g : Given) (s : State) (cs
   pub state-companions : StateCompanions M T g (modelOf (T .first g) (events M s cs)) (toldBy (events M s cs)) (tallyOf (events M s cs)) (afterAll M s cs)
   -- whole tables: the model's table always has 32 entries
   pub tables : length (modelOf (T .first g) (events M s cs) .table) ≡ TABLE
-  -- order: of a publisher's CLAIM, SWAP, SYNC, return and RELEASE the last one before a return is a SYNC ..
-  pub returns-after : (pre post : List Event) (p b l w : ℕ) → events M s cs ≡ pre ++ (Walk p b ⇒ Walked (Returned l w)) ∷ post → tallyOf pre .phase p ≡ syncing
+  -- order: of a publisher's CLAIM, SWAP, SYNC, quiet, RAISE, return and RELEASE the last one before a return is a RAISE ..
+  pub returns-after : (pre post : List Event) (p b l w : ℕ) → events M s cs ≡ pre ++ (Walk p b ⇒ Walked (Returned l w)) ∷ post → tallyOf pre .phase p ≡ raised
   -- .. and the last one before an accepted RELEASE is a return
   pub releases-after : (pre post : List Event) (p : ℕ) (a : Reply) → events M s cs ≡ pre ++ (Release p ⇒ a) ∷ post → accepted a ≡ true → tallyOf pre .phase p ≡ returned
   -- counts: a return has looks = readers + waits (new) or 2 + waits (old); waits is how often p's WALK replied waiting since its SYNC

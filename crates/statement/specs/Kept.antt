@@ -24,7 +24,7 @@ use Rattle.calls.specs.Events.Event.{_⇒_}
 use Rattle.calls.specs.Model.{Model, model₀, shelve, entry}
 use Rattle.calls.specs.Told.{Told, told₀, tell, entered}
 use Rattle.calls.specs.Tally.{Tally, tally₀, tally}
-use Rattle.calls.specs.Tally.Phase.{syncing, returned}
+use Rattle.calls.specs.Tally.Phase.{raised, returned}
 use Rattle.statement.specs.Machine.{State, Given, Machine, Fresh, events, afterAll}
 use Rattle.statement.specs.Demand3.{LeftIn, Slots, Picks, Due, Demand3}
 use Rattle.statement.specs.Companions.{Traits, StateCompanions, ListCompanions, Companions}
@@ -81,13 +81,13 @@ all-model = all-part (λ g. g .model) shelve (λ g c a. refl)
 all-told : (g : Ghost) (es : List Event) → nextAll g es .told ≡ foldEvents tell (g .told) es
 all-told = all-part (λ g. g .told) tell (λ g c a. refl)
 
-all-tally : (g : Ghost) (es : List Event) → nextAll g es .tally ≡ foldEvents tally (g .tally) es
+pub all-tally : (g : Ghost) (es : List Event) → nextAll g es .tally ≡ foldEvents tally (g .tally) es
 all-tally = all-part (λ g. g .tally) tally (λ g c a. refl)
 
 -- What a return shows.
 pub record Back (T : Traits) (z : Given) (g : Ghost) (p l w : ℕ) : Type 0 where
   pub none-pending : (r : ℕ) → g .pend p r ≡ false
-  pub in-order : g .tally .phase p ≡ syncing
+  pub in-order : g .tally .phase p ≡ raised
   pub looks-are : l ≡ T .passes z + w
   pub waits-are : w ≡ g .tally .waits p
 
@@ -132,9 +132,9 @@ module _ (M : Machine) (T : Traits) (K : Kept M T) (z : Given) where
       let h : Reach g ((d ⇒ b) ∷ pre) c a post = record { at-state = f .at-state; inv = f .inv; reply-is = f .reply-is; rest = f .rest; post-is = f .post-is } in
       subst (λ (y : Event). Reach g (y ∷ pre) c a post) (cc) h
 
-  last : (g : Ghost) (s : State) → K .Inv z g s → (cs : List Call) → K .Inv z (nextAll g (events M s cs)) (afterAll M s cs)
-  last g s i [] = i
-  last g s i (d ∷ cs) = last _ _ (K .keep z g s i d) cs
+  pub kept-after : (g : Ghost) (s : State) → K .Inv z g s → (cs : List Call) → K .Inv z (nextAll g (events M s cs)) (afterAll M s cs)
+  kept-after g s i [] = i
+  kept-after g s i (d ∷ cs) = kept-after _ _ (K .keep z g s i d) cs
 
 -- A reader that a synchronise waits for is waited for until it leaves.
 record Still (g : Ghost) (p r : ℕ) : Type 0 where
@@ -216,7 +216,7 @@ module _ (M : Machine) (T : Traits) (K : Kept M T) (s : State) (f : Fresh M s) (
   to pre c a post e = reach M T K (f .arguments) (ghost₀ (T .first (f .arguments))) s (K .start s f) cs pre c a post e
 
   ending : K .Inv (f .arguments) (nextAll (ghost₀ (T .first (f .arguments))) (events M s cs)) (afterAll M s cs)
-  ending = last M T K (f .arguments) (ghost₀ (T .first (f .arguments))) s (K .start s f) cs
+  ending = kept-after M T K (f .arguments) (ghost₀ (T .first (f .arguments))) s (K .start s f) cs
 
   due : Due M (T .first (f .arguments)) s cs
   due = record {

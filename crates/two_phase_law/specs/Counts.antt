@@ -75,6 +75,12 @@ pub record Looked (count : ℕ) (y : Publisher) (b : ℕ) (k : Progress) : Type 
   pub returns : (l w : ℕ) → k .reply ≡ Returned l w → (y .place ≢ 35) × (l ≡ k .walk .looks) × (w ≡ k .walk .waits)
   pub high : placeAfter (y .place) (k .reply) ≤ 38
 
+-- A look keeps the mark.
+pub look-mark : (count : ℕ) (y : Publisher) (b : ℕ) → lookAt count y b .walk .mark ≡ y .walk .mark
+unfolding lookAt
+look-mark count y b = pick-split (λ (k : Progress). k .walk .mark ≡ y .walk .mark) (eqb b 0) (λ _. refl)
+    (λ _. pick-split (λ (k : Progress). k .walk .mark ≡ y .walk .mark) (eqb count 0) (λ _. refl) (λ _. refl))
+
 pub look-turn : (place : ℕ) → (eqb place 35 || eqb place 37) ≡ true → (place ≡ 35) ⊎ (place ≡ 37)
 look-turn place e = go (eqb place 35) refl
   where

@@ -10,20 +10,16 @@ use Rattle.calls.specs.Model.{firstTable}
 use Rattle.layout.specs.Layout.{indicator}
 use Rattle.statement.specs.Machine.{State}
 use Rattle.statement.specs.Demand3.{Demand3}
-use Rattle.statement.specs.Companions.{Traits}
 use Rattle.publication_law.specs.Steps.{publisher}
 use Rattle.publication_law.specs.Rules.{step}
 use Rattle.publication_law.specs.Promises.{Promises, promises-of, WalkFacts, walk-facts}
-use Rattle.two_phase_law.specs.Steps.{LAST, placeOn, watched, looksOf, rules, TwoPhase}
+use Rattle.two_phase_law.specs.Steps.{watched, looksOf, rules, TwoPhase}
+use Rattle.two_phase_law.specs.Traits.{traits}
 use Rattle.two_phase_law.specs.Counts.{Looked, look-turn, looked}
 use Rattle.two_phase_law.specs.Safety.{lawful}
 
--- No version is above LAST; a return passes two looks; ENTER goes 1, 4, 5; a claim needs that nobody else holds a slot.
-abbrev pub traits : Traits
-traits = record { first = λ z. firstTable; last = LAST; passes = λ z. 2; onward = placeOn; exclusive = true }
-
 pub old-promises : Promises rules traits
-old-promises = promises-of rules LAST (λ z. 2) placeOn lawful
+old-promises = promises-of rules traits lawful
 
 pub old-demand3 : Demand3 TwoPhase (λ z. firstTable)
 old-demand3 = old-promises .demand3

@@ -10,18 +10,19 @@ use mathlib.Core.List.{List}
 use lib.ListN.{length}
 use lib.Dec.{leb, ltb, eqb}
 use borrow.Author.Tests.{eqb-true, eqb-false, eq-eqb, ne-eqb, leb-false, le-leb, lt-leb, ltb-false, le-ltb}
-use Rattle.calls.specs.declared.Call.the-variants.{Enter, Leave, Sync, Walk}
+use Rattle.calls.specs.declared.Call.the-variants.{Enter, Leave, Sync, Raise, Walk}
 use Rattle.calls.specs.declared.Reply.the-variants.{At, Left, Synced, Walked}
 use Rattle.calls.specs.declared.WalkReply.{WalkReply}
 use Rattle.calls.specs.declared.WalkReply.the-variants.{Waiting, Spent, Quiet, Returned}
 use Rattle.calls.specs.Base.{pick, upd}
 use Rattle.calls.specs.Numbers.{READERS-MAX, KIND-OLD}
-use Rattle.calls.specs.RowLaws.{by-test, or-none, all-false, none-true, count-none, pick-split, AllClear, AllFalse}
+use Rattle.calls.specs.RowLaws.{by-test, neither, or-none, all-false, none-true, count-none, pick-split, AllClear, AllFalse}
 use Rattle.layout.specs.declared.Reader.{Reader}
 use Rattle.layout.specs.declared.Publisher.{Publisher}
-use Rattle.layout.specs.Layout.{HEAD, INDICATORS, INDICATORS-AT, readers, publishers, slots, current, version, indicator, readerAt, withReader, withIndicator, noReader}
+use Rattle.layout.specs.Layout.{HEAD, INDICATORS, INDICATORS-AT, readers, publishers, slots, current, version, indicator, readerAt, withReader, withIndicator}
 use Rattle.layout.specs.Laws.{length-reader, indicator-reader, indicator-put, fresh-indicator, fresh-reader}
 use Rattle.statement.specs.Machine.{State, state, Given}
+use Rattle.statement.specs.Companions.{PlaceAndOne}
 use Rattle.statement.specs.Kept.{Ghost, Back}
 use Rattle.statement.specs.Kept as kept
 use Rattle.publication_law.specs.Steps.{reader, publisher, enterTests, leaveTests, syncTests, sync, raise, walk, placeAfter, made}
@@ -30,11 +31,12 @@ use Rattle.publication_law.specs.Core.{Onward}
 use Rattle.publication_law.specs.Core.Onward.{stays-out, opens, picks}
 use Rattle.publication_law.specs.Moves.{MovesReader, reader-moves, reader-moves-indicator}
 use Rattle.publication_law.specs.KindLaw.{KindLaw, up-to-law}
-use Rattle.publication_law.specs.Rules.{traitsOf}
+use Rattle.publication_law.specs.Frames.{place-and-one}
 use Rattle.publication_law.specs.Lawful.{Good, Lawful}
 use Rattle.publication_law.specs.Detector.{Detector, OwnOf, start-own, early-own, enter-good, leave-good, sync-good, raise-good, walk-good, return-good}
-use Rattle.two_phase_law.specs.Steps.{LAST, versions, kind, readerRows, parity, addedTo, onward, placeOn, entered, enterWords, leaving, leaveWords, watched, looksOf, lookAt, rules}
-use Rattle.two_phase_law.specs.Counts.{Counted, counted-to, none-added, stays-counted, arrives-counted, leaves-counted, passedAt, Looked, look-turn, turn-low, turn-high, looked}
+use Rattle.two_phase_law.specs.Steps.{LAST, versions, kind, readerRows, parity, addedTo, onward, placeOn, entered, enterWords, leaving, leaveWords, watched, looksOf, lookAt, freshReader, rules}
+use Rattle.two_phase_law.specs.Traits.{traits}
+use Rattle.two_phase_law.specs.Counts.{Counted, counted-to, none-added, stays-counted, arrives-counted, leaves-counted, passedAt, Looked, look-mark, look-turn, turn-low, turn-high, looked}
 
 abbrev pub law : KindLaw kind
 law = record {
@@ -86,6 +88,13 @@ onward-place ver cur x = go (eqb (x .place) 0) (eqb (x .place) 1)
 onward-first : (ver cur : ℕ) (x : Reader) → 4 ≤ x .place → onward ver cur x .first ≡ x .first
 unfolding onward
 onward-first ver cur x l = rw (ne-eqb (x .place) 0 (λ z. omega arith), ne-eqb (x .place) 1 (λ z. omega arith)) refl
+
+-- The place and at most one number more.
+onward-stays : (ver cur : ℕ) (x : Reader) → PlaceAndOne x (onward ver cur x)
+unfolding onward
+onward-stays ver cur x = pick-split (PlaceAndOne x) (eqb (x .place) 0) (λ _. place-and-one _ _ 1 (λ n. absurd (n refl)) (λ _. refl) (λ _. refl) (λ _. refl))
+    (λ _. pick-split (PlaceAndOne x) (eqb (x .place) 1) (λ _. place-and-one _ _ 0 (λ _. refl) (λ _. refl) (λ _. refl) (λ _. refl))
+    (λ _. place-and-one _ _ 4 (λ _. refl) (λ _. refl) (λ _. refl) (λ n. absurd (n refl))))
 
 -- The words after an ENTER and a LEAVE.
 enter-moves : (s : State) → Fine kind s → (r : ℕ) → r < readers (s .words) → MovesReader (s .words) (enterWords s r) r (entered s r)
@@ -156,7 +165,7 @@ module _ (z : Given) (g : Ghost) (s : State) (i : Good kind (OwnOf detector) z g
   sync-kept : (p : ℕ) → AllClear (syncTests versions s p) → Good kind (OwnOf detector) z (kept.advance g (Sync p) (Synced (version (s .words) + 1))) (sync versions s p .after)
   sync-kept p f = sync-good detector kind law z g s i p f refl refl (λ r _ l. absurd (omega arith))
 
-  raise-kept : (p : ℕ) → p < publishers (s .words) → eqb (publisher s p .place) 36 ≡ true → Good kind (OwnOf detector) z g (raise versions s p .after)
+  raise-kept : (p : ℕ) → p < publishers (s .words) → eqb (publisher s p .place) 36 ≡ true → Good kind (OwnOf detector) z (kept.advance g (Raise p) (raise versions s p .reply)) (raise versions s p .after)
   raise-kept p lt turn =
       let at36 = eqb-true (publisher s p .place) 36 turn in
       raise-good detector kind law z g s i p lt (omega arith) (omega arith) refl (rw at36 refl) (λ r b _. b (omega arith)) (λ _. i .own .readers-are)
@@ -208,46 +217,49 @@ module _ (z : Given) (g : Ghost) (s : State) (i : Good kind (OwnOf detector) z g
     walk-kept = walk-good detector kind law z g s i p b lt low high (looksOf s (publisher s p) b) (came .waits-are) still-counted
         none-pending (came .mark-same) (le-ltb 38 _ (came .high)) (λ r q l. rw (came .mark-same) (after-behind r q l))
 
-    return-shown : (l w : ℕ) → looksOf s (publisher s p) b .reply ≡ Returned l w → Back (traitsOf rules LAST (λ z. 2) placeOn) z g p l w
+    -- A return is said at 37.
+    returned-at37 : (publisher s p .place ≡ 35) ⊎ (publisher s p .place ≡ 37) → publisher s p .place ≢ 35 → publisher s p .place ≡ 37
+    returned-at37 (inl at35) ne = absurd (ne at35)
+    returned-at37 (inr at37) ne = at37
+
+    return-shown : (l w : ℕ) → looksOf s (publisher s p) b .reply ≡ Returned l w → Back traits z g p l w
     return-shown l w q =
         let n = came .returns l w q in
-        return-good detector kind law z g s i p b lt low high (looksOf s (publisher s p) b) (came .waits-are) still-counted (traitsOf rules LAST (λ z. 2) placeOn) l w q
+        return-good detector kind law z g s i p b lt low high (looksOf s (publisher s p) b) (came .waits-are) still-counted traits l w (returned-at37 turn (n .0)) q
         (none-pending (rw q refl)) (n .1) (n .2) (rw q refl)
 
 -- At the start no reader has added to an indicator.
-start-counted : (z : Given) (s : State) → let w = made KIND-OLD noReader z s .words in Counted (readers w) (indicator w) (readerAt w)
-start-counted z s k _ = fresh-indicator KIND-OLD (z .readers) (z .publishers) (z .slots) (z .version) noReader k ∙ sym (count-none (λ r. addedTo k (readerAt w r)) (readers w) (λ r l. none r))
+start-counted : (z : Given) (s : State) → let w = made KIND-OLD freshReader z s .words in Counted (readers w) (indicator w) (readerAt w)
+start-counted z s k _ = fresh-indicator KIND-OLD (z .readers) (z .publishers) (z .slots) (z .version) freshReader k ∙ sym (count-none (λ r. addedTo k (readerAt w r)) (readers w) (λ r l. none r))
   where
     w : List ℕ
-    w = made KIND-OLD noReader z s .words
+    w = made KIND-OLD freshReader z s .words
 
     none : (r : ℕ) → addedTo k (readerAt w r) ≡ false
-    none r = rw (fresh-reader KIND-OLD (z .readers) (z .publishers) (z .slots) (z .version) noReader r) (pick-split (λ (x : Reader). addedTo k x ≡ false) (ltb r READERS-MAX) (λ _. refl) (λ _. refl))
-
--- From 35 to 37 a RAISE (36) or a WALK (35, 37) is in turn.
-goes-on : (rs ss : ℕ) (y : Publisher) → kind .publisherDamaged rs ss y ≡ false → 35 ≤ y .place → y .place ≤ 37 → (eqb (y .place) 36 ≡ true) ⊎ ((eqb (y .place) 35 || eqb (y .place) 37) ≡ true)
-goes-on rs ss y e low high = go (eqb (y .place) 36) refl (eqb (y .place) 35) refl
-  where
-    go : (a : Bool) → eqb (y .place) 36 ≡ a → (b : Bool) → eqb (y .place) 35 ≡ b → (a ≡ true) ⊎ ((b || eqb (y .place) 37) ≡ true)
-    go true c b d = inl refl
-    go false c true d = inr refl
-    go false c false d = let n = eqb-false (y .place) 36 c in let m = eqb-false (y .place) 35 d in inr (eq-eqb (y .place) 37 (omega arith))
+    none r = rw (fresh-reader KIND-OLD (z .readers) (z .publishers) (z .slots) (z .version) freshReader r) (pick-split (λ (x : Reader). addedTo k x ≡ false) (ltb r READERS-MAX) (λ _. refl) (λ _. refl))
 
 no-looks : (s : State) (p : ℕ) → looksOf s (publisher s p) 0 ≡ record { walk = publisher s p .walk; reply = Spent }
 unfolding lookAt
 no-looks s p = refl
 
 -- All that only the old store can show: a walk passes two looks, ENTER goes 1, 4, 5.
-pub lawful : Lawful rules LAST (λ z. 2) placeOn
+pub lawful : Lawful rules traits
 lawful = record {
   kind-law = law;
+  first-is = refl;
+  exclusive-is = refl;
+  successor-is = refl;
+  raises-in = λ x. refl;
+  walks-in = λ x. refl;
   last-fits = λ v l. le-ltb LAST v l;
   below-last = λ v l. ne-eqb v LAST (λ e. omega arith);
-  goes-on = goes-on;
+  raises-late = λ pl l. ne-eqb pl 36 (λ e. omega arith);
+  walks-late = λ pl l. neither (eqb pl 35) (eqb pl 37) (ne-eqb pl 35 (λ e. omega arith)) (ne-eqb pl 37 (λ e. omega arith));
+  mark-stays = λ s p b. look-mark (indicator (s .words) (watched (publisher s p))) (publisher s p) b;
   no-looks = no-looks;
   Own = OwnOf detector;
-  start-own = λ z s f. start-own detector KIND-OLD noReader z s (start-counted z s);
-  fresh-out = (refl, refl);
+  start-own = λ z s f. start-own detector KIND-OLD freshReader z s (start-counted z s);
+  fresh-is = refl;
   fresh-reader-fits = λ ss. refl;
   no-further = λ z g s i. counted-to s (i .own .readers-are);
   early-own = early-own detector;
@@ -255,6 +267,8 @@ lawful = record {
   left = λ s r. leaving (reader s r);
   leave-moves = leave-moves;
   enter-place = λ s f r l low. onward-place (version (s .words)) (current (s .words)) (reader s r);
+  enter-stays = λ s r low. onward-stays (version (s .words)) (current (s .words)) (reader s r);
+  leave-stays = λ s r. record { first = refl; second = refl; published = λ _. refl; picked = refl };
   enter-kept = enter-kept;
   leave-kept = leave-kept;
   sync-kept = sync-kept;

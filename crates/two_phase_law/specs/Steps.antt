@@ -7,12 +7,12 @@ use lib.Dec.{leb, ltb, eqb}
 use Rattle.calls.specs.declared.WalkReply.{WalkReply}
 use Rattle.calls.specs.declared.WalkReply.the-variants.{Waiting, Spent, Quiet, Returned}
 use Rattle.calls.specs.Base.{pick}
-use Rattle.calls.specs.Numbers.{KIND-OLD}
+use Rattle.calls.specs.Numbers.{NOT-READING, KIND-OLD}
 use Rattle.calls.specs.Rows.{anyTrue, countBelow}
 use Rattle.layout.specs.declared.Reader.{Reader}
 use Rattle.layout.specs.declared.Publisher.{Publisher}
 use Rattle.layout.specs.declared.Progress.{Progress}
-use Rattle.layout.specs.Layout.{readers, current, version, indicator, readerAt, withIndicator, withReader, noReader}
+use Rattle.layout.specs.Layout.{readers, current, version, indicator, readerAt, withIndicator, withReader, blankReader}
 use Rattle.statement.specs.Machine.{State, Machine}
 use Rattle.publication_law.specs.Steps.{Versions, upTo, reader, publisher}
 use Rattle.publication_law.specs.Damage.{Kind, wrongPick, publisherRows}
@@ -101,12 +101,16 @@ lookAt count y b =
 abbrev pub looksOf : State → Publisher → ℕ → Progress
 looksOf s y b = lookAt (indicator (s .words) (watched y)) y b
 
+-- A fresh reader's published version is NOT_READING, in all 64 records.
+abbrev pub freshReader : Reader
+freshReader = blankReader NOT-READING
+
 -- 31 another publisher not at place 0; RAISE p at 36; WALK p b at 35 and 37.
 abbrev pub rules : Rules
 rules = record {
   kind = kind;
   further = λ s. miscounted s 0 || miscounted s 1;
-  freshReader = noReader;
+  freshReader = freshReader;
   entered = entered;
   enterWords = enterWords;
   leaveWords = leaveWords;

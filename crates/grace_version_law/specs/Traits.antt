@@ -1,0 +1,23 @@
+-- In what the new store differs for the companions of demand 3.
+use Prim.Native.Nat.{suc, _+_}
+use mathlib.Core.Bool.{true, false}
+use Rattle.calls.specs.Model.{firstTable}
+use Rattle.calls.specs.Tally.{inPhase}
+use Rattle.calls.specs.Tally.Phase.{synchronising, raised}
+use Rattle.statement.specs.Companions.{Traits}
+use Rattle.grace_version_law.specs.Steps.{LAST}
+
+-- No version is above LAST; a return passes each reader once; a mark is one above the version; RAISE follows SYNC and WALK follows RAISE;
+-- ENTER goes 1, 2, 3, 4, 5; readers publish versions; a claim may stand beside others.
+abbrev pub traits : Traits
+traits = record {
+  first = λ z. firstTable;
+  last = LAST;
+  passes = λ z. z .readers;
+  successor = λ v. v + 1;
+  raisesIn = inPhase synchronising;
+  walksIn = inPhase raised;
+  onward = suc;
+  publishes = true;
+  exclusive = false;
+}
