@@ -23,7 +23,7 @@ use Rattle.layout.specs.declared.Walk.{Walk as WalkNumbers}
 use Rattle.layout.specs.Layout.{READERS-AT, readers, publishers, slots, current, version, readerAt, withReader}
 use Rattle.layout.specs.Laws.{fresh-head, fresh-reader}
 use Rattle.statement.specs.Machine.{State, state, Given, Fresh, events, afterAll}
-use Rattle.statement.specs.Companions.{PlaceAndOne}
+use Rattle.statement.specs.Frame.{PlaceAndOne}
 use Rattle.statement.specs.Kept.{Ghost, Back}
 use Rattle.statement.specs.Kept as kept
 use Rattle.publication_law.specs.Steps.{reader, publisher, atPlace, enterTests, leaveTests, syncTests, sync, raise, walk, newWalk, placeAfter, made}

@@ -17,7 +17,8 @@ use Rattle.calls.specs.Model.{firstTable}
 use Rattle.layout.specs.Layout.{WORDS, kind, indicator}
 use Rattle.statement.specs.Machine.{State, state, Given, Fresh, events, afterAll}
 use Rattle.statement.specs.Demand3.{Demand3}
-use Rattle.statement.specs.Companions.{MakingAccepts, MakesFresh, RefusedLeaves, Frame, Companions}
+use Rattle.statement.specs.Frame.{Frame}
+use Rattle.statement.specs.Companions.{MakingAccepts, MakesFresh, RefusedLeaves, Companions}
 use Rattle.statement.specs.Alike.{fresh-alike, after-alike, events-alike, demand3-alike, companions-alike, making-accepts-alike, makes-fresh-alike}
 use Rattle.publication_law.specs.DamageLaws.{zero-damaged}
 use Rattle.publication_law.specs.Steps.{publisher}

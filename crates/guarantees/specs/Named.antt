@@ -17,7 +17,8 @@ use Rattle.calls.specs.AnswerLaws.{NarrowPitch, Proper}
 use Rattle.calls.specs.Numbers.{KIND-NEW, KIND-OLD}
 use Rattle.statement.specs.Machine.{State, Outcome, Given, Machine, Fresh, afterAll}
 use Rattle.statement.specs.Demand3.{Demand3}
-use Rattle.statement.specs.Companions.{Traits, RefusedLeaves, Frame}
+use Rattle.statement.specs.Frame.{Frame}
+use Rattle.statement.specs.Companions.{Traits, RefusedLeaves}
 use Rattle.statement.specs.Alike.{Alike}
 use Rattle.publication_law.specs.Rules.{step, making, machine}
 use Rattle.publication_law.specs.Calls.{undamaged-fine}

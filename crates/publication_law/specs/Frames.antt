@@ -21,7 +21,7 @@ use Rattle.layout.specs.declared.Progress.{Progress}
 use Rattle.layout.specs.Layout.{HEAD, CURRENT-AT, VERSION-AT, RELEASES-AT, publishers, readerWords, readerAt, publisherAt, withPublisher}
 use Rattle.layout.specs.Laws.{publisher-put, head-publisher}
 use Rattle.statement.specs.Machine.{State, Outcome}
-use Rattle.statement.specs.Companions.{readerNamed, publisherNamed, headNamed, One, PlaceAndOne, HeldAndWalkStay, OwnStays, Framed}
+use Rattle.statement.specs.Frame.{readerNamed, publisherNamed, headNamed, One, PlaceAndOne, HeldAndWalkStay, OwnStays, Framed}
 use Rattle.publication_law.specs.Steps.{Versions, publisher, atPlace, claim, claimTests, write, writeTests, swap, swapTests, sync, syncTests, raise, walk, walked, release, releaseTests, oneMore}
 use Rattle.publication_law.specs.Damage.{Kind}
 use Rattle.publication_law.specs.DamageLaws.{Fine, publisher-below}

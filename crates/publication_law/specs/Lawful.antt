@@ -34,7 +34,8 @@ use Rattle.layout.specs.Layout.{READERS-AT, PUBLISHERS-AT, SLOTS-AT, CURRENT-AT
 use Rattle.layout.specs.Laws.{publisher-back, fresh-head, fresh-long, fresh-indicator, fresh-reader, fresh-publisher}
 use Rattle.statement.specs.Machine.{State, state, Outcome, outcome, Given, Fresh, events, afterAll}
 use Rattle.statement.specs.Demand3.{Demand3}
-use Rattle.statement.specs.Companions.{Traits, IsFresh, MakesFresh, MakingAccepts, RefusedLeaves, PlaceAndOne, LeaveStays, Framed, nextEntry, Writes, Frame, InTurn, StateCompanions, Companions}
+use Rattle.statement.specs.Frame.{PlaceAndOne, LeaveStays, Framed, nextEntry, Writes, Frame}
+use Rattle.statement.specs.Companions.{Traits, IsFresh, MakesFresh, MakingAccepts, RefusedLeaves, InTurn, StateCompanions, Companions}
 use Rattle.statement.specs.Kept.{Ghost, ghost₀, advance, next, nextAll, Back, Kept, kept-after, demand3, companions}
 use Rattle.publication_law.specs.Steps.{reader, publisher, atPlace, anotherBusy, enterTests, leaveTests, syncTests, sync, raise, walk, oneMore, makingTests, made}
 use Rattle.publication_law.specs.Damage.{Kind, sharedDamage}

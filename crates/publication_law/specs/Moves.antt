@@ -15,7 +15,7 @@ use Rattle.layout.specs.declared.Publisher.{Publisher}
 use Rattle.layout.specs.Layout.{HEAD, indicator, CURRENT-AT, VERSION-AT, RELEASES-AT, WORDS, readers, publishers, current, version, releases, readerAt, publisherAt, withReader, withPublisher}
 use Rattle.layout.specs.Laws.{length-reader, length-publisher, head-reader, head-publisher, reader-head, publisher-head, reader-publisher, publisher-reader, reader-put, publisher-put, indicator-by}
 use Rattle.statement.specs.Machine.{State}
-use Rattle.statement.specs.Companions.{One}
+use Rattle.statement.specs.Frame.{One}
 use Rattle.publication_law.specs.Damage.{Kind}
 use Rattle.publication_law.specs.DamageLaws.{Fine, reader-below, publisher-below}
 

@@ -21,7 +21,8 @@ use Rattle.layout.specs.declared.Progress.{Progress}
 use Rattle.layout.specs.Layout.{VERSION-AT, publishers, version, publisherAt}
 use Rattle.statement.specs.Machine.{State, Outcome, Given, Fresh, afterAll}
 use Rattle.statement.specs.Demand3.{Demand3}
-use Rattle.statement.specs.Companions.{Traits, MakingAccepts, MakesFresh, RefusedLeaves, Frame, Companions}
+use Rattle.statement.specs.Frame.{Frame}
+use Rattle.statement.specs.Companions.{Traits, MakingAccepts, MakesFresh, RefusedLeaves, Companions}
 use Rattle.publication_law.specs.Steps.{publisher, atPlace, raise, walked}
 use Rattle.publication_law.specs.Rules.{Rules, damaged, act, rows, step, making, machine}
 use Rattle.publication_law.specs.DamageLaws.{Fine}

@@ -1,5 +1,6 @@
 pub mod Machine
 pub mod Demand3
+pub mod Frame
 pub mod Companions
 pub mod Kept
 pub mod Examples

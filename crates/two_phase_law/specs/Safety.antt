@@ -22,7 +22,7 @@ use Rattle.layout.specs.declared.Publisher.{Publisher}
 use Rattle.layout.specs.Layout.{HEAD, INDICATORS, INDICATORS-AT, readers, publishers, slots, current, version, indicator, readerAt, withReader, withIndicator}
 use Rattle.layout.specs.Laws.{length-reader, indicator-reader, indicator-put, fresh-indicator, fresh-reader}
 use Rattle.statement.specs.Machine.{State, state, Given}
-use Rattle.statement.specs.Companions.{PlaceAndOne}
+use Rattle.statement.specs.Frame.{PlaceAndOne}
 use Rattle.statement.specs.Kept.{Ghost, Back}
 use Rattle.statement.specs.Kept as kept
 use Rattle.publication_law.specs.Steps.{reader, publisher, enterTests, leaveTests, syncTests, sync, raise, walk, placeAfter, made}

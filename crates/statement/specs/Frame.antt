@@ -1,0 +1,116 @@
+-- What a call may move, for every state: document 01's 'A step leaves every number that it doesn't name'.
+use Prim.Native.Nat.{ℕ, _-_, _<_}
+use mathlib.Core.Path.{_≡_}
+use mathlib.Core.Logic.{_≢_}
+use mathlib.Core.Bool.{Bool, true, false}
+use mathlib.Core.List.{List}
+use mathlib.Core.Option.{Option, none, some}
+use lib.IntN.{ℤ, pos}
+use lib.ListN.{getD, length}
+use lib.Dec.{ltb, eqb}
+use Rattle.calls.specs.declared.Call.{Call}
+use Rattle.calls.specs.declared.Call.the-variants.{Enter, Look, Leave, Claim, Write, Swap, Sync, Raise, Walk, Release}
+use Rattle.calls.specs.Events.{accepted}
+use Rattle.layout.specs.declared.Reader.{Reader}
+use Rattle.layout.specs.declared.Publisher.{Publisher}
+use Rattle.layout.specs.Layout.{HEAD, CURRENT-AT, VERSION-AT, RELEASES-AT, readerWords, readerAt, publisherAt, entryAt}
+use Rattle.statement.specs.Machine.{State, Outcome, Machine}
+
+-- The reader or the publisher that a call names.
+abbrev pub readerNamed : Call → Option ℕ
+readerNamed (Enter r) = some r
+readerNamed (Look r k) = some r
+readerNamed (Leave r) = some r
+readerNamed (Claim p s) = none
+readerNamed (Write p v) = none
+readerNamed (Swap p) = none
+readerNamed (Sync p) = none
+readerNamed (Raise p) = none
+readerNamed (Walk p b) = none
+readerNamed (Release p) = none
+
+abbrev pub publisherNamed : Call → Option ℕ
+publisherNamed (Enter r) = none
+publisherNamed (Look r k) = none
+publisherNamed (Leave r) = none
+publisherNamed (Claim p s) = some p
+publisherNamed (Write p v) = some p
+publisherNamed (Swap p) = some p
+publisherNamed (Sync p) = some p
+publisherNamed (Raise p) = some p
+publisherNamed (Walk p b) = some p
+publisherNamed (Release p) = some p
+
+-- The words of the head that a call may move: SWAP the current slot, RAISE the version, RELEASE the releases; ENTER and LEAVE an indicator, in a kind that has them.
+abbrev pub headNamed : Call → ℕ → Bool
+headNamed (Enter r) k = ltb RELEASES-AT k
+headNamed (Look r j) k = false
+headNamed (Leave r) k = ltb RELEASES-AT k
+headNamed (Claim p x) k = false
+headNamed (Write p v) k = false
+headNamed (Swap p) k = eqb k CURRENT-AT
+headNamed (Sync p) k = false
+headNamed (Raise p) k = eqb k VERSION-AT
+headNamed (Walk p b) k = false
+headNamed (Release p) k = eqb k RELEASES-AT
+
+-- Of the head at most one word moved.
+abbrev pub One : List ℕ → List ℕ → Type 0
+One w w′ = (j : ℕ) × ((k : ℕ) → k < HEAD → k ≢ j → getD w′ k 0 ≡ getD w k 0)
+
+-- Of a reader's numbers its place, which is its first word, and at most one more moved.
+abbrev pub PlaceAndOne : Reader → Reader → Type 0
+PlaceAndOne x x′ = (j : ℕ) × ((k : ℕ) → k ≢ 0 → k ≢ j → getD (readerWords x′) k 0 ≡ getD (readerWords x) k 0)
+
+-- LEAVE, in a kind that publishes readers' versions or does not.
+pub record LeaveStays (publishes : Bool) (x x′ : Reader) : Type 0 where
+  pub first : x′ .first ≡ x .first
+  pub second : x′ .second ≡ x .second
+  pub published : publishes ≡ false → x′ .published ≡ x .published
+  pub picked : x′ .picked ≡ x .picked
+
+-- A publisher of which only the place moved.
+pub record HeldAndWalkStay (y y′ : Publisher) : Type 0 where
+  pub held : y′ .held ≡ y .held
+  pub walk : y′ .walk ≡ y .walk
+
+-- What stays of the record that a call names, in a kind that publishes readers' versions or does not: of LOOK all; CLAIM may move place and held,
+-- WRITE, RAISE and RELEASE the place, SWAP place and held, SYNC place and walk, WALK place, next, looks and waits,
+-- ENTER the place and at most one more, LEAVE the place and, where it publishes, the published version.
+abbrev pub OwnStays : Bool → Call → List ℕ → List ℕ → Type 0
+OwnStays publishes (Enter r) w w′ = PlaceAndOne (readerAt w r) (readerAt w′ r)
+OwnStays publishes (Look r k) w w′ = readerAt w′ r ≡ readerAt w r
+OwnStays publishes (Leave r) w w′ = LeaveStays publishes (readerAt w r) (readerAt w′ r)
+OwnStays publishes (Claim p x) w w′ = publisherAt w′ p .walk ≡ publisherAt w p .walk
+OwnStays publishes (Write p v) w w′ = HeldAndWalkStay (publisherAt w p) (publisherAt w′ p)
+OwnStays publishes (Swap p) w w′ = publisherAt w′ p .walk ≡ publisherAt w p .walk
+OwnStays publishes (Sync p) w w′ = publisherAt w′ p .held ≡ publisherAt w p .held
+OwnStays publishes (Raise p) w w′ = HeldAndWalkStay (publisherAt w p) (publisherAt w′ p)
+OwnStays publishes (Walk p b) w w′ = (publisherAt w′ p .held ≡ publisherAt w p .held) × (publisherAt w′ p .walk .mark ≡ publisherAt w p .walk .mark)
+OwnStays publishes (Release p) w w′ = HeldAndWalkStay (publisherAt w p) (publisherAt w′ p)
+
+-- Only what is named moved.
+pub record Framed (publishes : Bool) (c : Call) (w w′ : List ℕ) : Type 0 where
+  pub long : length w′ ≡ length w
+  pub readers : (r : ℕ) → readerNamed c ≢ some r → readerAt w′ r ≡ readerAt w r
+  pub publishers : (p : ℕ) → publisherNamed c ≢ some p → publisherAt w′ p ≡ publisherAt w p
+  pub own : OwnStays publishes c w w′
+  pub head : (k : ℕ) → k < HEAD → headNamed c k ≡ false → getD w′ k 0 ≡ getD w k 0
+  pub one : One w w′
+
+-- The entry that a WRITE of publisher p stores: the next one of the slot held.
+abbrev pub nextEntry : State → ℕ → ℕ
+nextEntry s p = entryAt (publisherAt (s .words) p .held) (publisherAt (s .words) p .place - 1)
+
+-- Of the entries an accepted WRITE stores that one, and no other moves.
+pub record Writes (s : State) (p : ℕ) (v : ℤ) (o : Outcome) : Type 0 where
+  pub stored : accepted (o .reply) ≡ true → getD (o .after .entries) (nextEntry s p) (pos 0) ≡ v
+  pub others : (j : ℕ) → j ≢ nextEntry s p → getD (o .after .entries) j (pos 0) ≡ getD (s .entries) j (pos 0)
+  pub long : length (o .after .entries) ≡ length (s .entries)
+
+-- For every state: a call moves the numbers that its step names of the record of the reader or publisher named, perhaps one number of the head, which its step names too,
+-- and nothing else; a WALK that record alone. Only WRITE moves the entries, and one of them.
+pub record Frame (publishes : State → Bool) (M : Machine) : Type 0 where
+  pub words : (s : State) (c : Call) → Framed (publishes s) c (s .words) (M .step s c .after .words)
+  pub entries : (s : State) (c : Call) → ((p : ℕ) (v : ℤ) → c ≢ Write p v) → M .step s c .after .entries ≡ s .entries
+  pub writes : (s : State) (p : ℕ) (v : ℤ) → Writes s p v (M .step s (Write p v))
