@@ -64,6 +64,8 @@ static struct rahuvyte_reply NAMED(make)(uint64_t *words, size_t words_len, int1
     s->publishers = publishers;
     s->slots = slots;
     s->version = version;
+    for (int r = 0; r < READERS_MAX; r++)
+        s->reader[r].published = NOT_READING;
     for (uint16_t i = 0; i < slots; i++)
         for (int k = 0; k < TABLE; k++)
             entries[i * TABLE + k] = 9000;

@@ -66,7 +66,7 @@ typedef int16_t rahuvyte_pitch;
 #define RAHUVYTE_LAST_NEW (UINT64_MAX - 1)
 #define RAHUVYTE_LAST_OLD (UINT64_MAX / 2)
 
-/* What a reader of the new store has published while it is out: a number among the store's words. */
+/* What each reader of a fresh store has published, and in a new store each reader that is out: a number among the store's words. */
 #define RAHUVYTE_NOT_READING UINT64_MAX
 
 /* ---- Replies ---- */

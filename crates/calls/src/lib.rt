@@ -23,7 +23,7 @@ pub const SLOTS_MAX: u16 = 32;
 pub const TABLE: usize = 32;
 // The greatest number of 64 bits.
 pub const NUMBER_MAX: u64 = 18446744073709551615;
-// New store: what LEAVE publishes, and what a fresh reader has published.
+// What a fresh reader has published, and what LEAVE of the new store publishes.
 pub const NOT_READING: u64 = 18446744073709551615;
 
 // The kind word of a store's words.

@@ -353,9 +353,3 @@ publish-suc n v = sym (go (withReaders n (replicate WORDS 0) (blankReader v)) (�
 
 pub publish-next : (n v : ℕ) → set (withReaders n (replicate WORDS 0) (blankReader v)) (HEAD + READER-WORDS * n + 3) v ≡ withReaders (n + 1) (replicate WORDS 0) (blankReader v)
 publish-next n v = rw (add-one n) (publish-suc n v)
-
-pub publish-none : (n : ℕ) → withReaders n (replicate WORDS 0) (blankReader 0) ≡ replicate WORDS 0
-publish-none zero = readers-none (replicate WORDS 0) (blankReader 0)
-publish-none (suc n) = sym (publish-suc n 0)
-    ∙ set-zero (withReaders n (replicate WORDS 0) (blankReader 0)) (HEAD + READER-WORDS * n + 3) (untouched n (replicate WORDS 0) (blankReader 0) (HEAD + READER-WORDS * n + 3) (omega arith) ∙ zero-at WORDS (HEAD + READER-WORDS * n + 3))
-    ∙ publish-none n

@@ -6,7 +6,7 @@ ghost use Prim.Native.Nat.{_<_};
 ghost use lib.ListN.{length, replicate};
 ghost use Rattle.calls.specs.Numbers.{READERS-MAX, PUBLISHERS-MAX};
 ghost use Rattle.layout.specs.Layout.{WORDS, INDICATORS, kind, readers, publishers, slots, current, version, releases, indicator, withCurrent, withVersion, withReleases, withIndicator, readerAt, publisherAt, withReader, withPublisher, withReaders, blankReader, fresh};
-use calls::READERS_MAX;
+use calls::PUBLISHERS_MAX;
 use calls::WalkReply;
 
 // The length of a store's words.
@@ -254,18 +254,16 @@ fn clear(words: &mut [u64])
     }
 }
 
-// In words that are all 0: stores what each of the 64 readers has published.
+// In words that are all 0: stores what each of the 64 readers has published. The publishers' records are the last of the words.
 fn publish_all(words: &mut [u64], published: u64)
     requires { ⌜ now words ≡ replicate WORDS 0 ⌝ }
     ensures { λ _. ⌜ now (words .exit) ≡ withReaders READERS-MAX (replicate WORDS 0) (blankReader published) ⌝ }
 {
-    if published == 0 {
-        return;
-    }
-    let mut r: usize = 0;
-    while r < READERS_MAX as usize {
-        words[FIRST_READER + READER_WORDS * r + PUBLISHED] = published;
-        r += 1;
+    let end = words.len() - PUBLISHER_WORDS * PUBLISHERS_MAX as usize;
+    let mut at: usize = FIRST_READER + PUBLISHED;
+    while at < end {
+        words[at] = published;
+        at += READER_WORDS;
     }
 }
 

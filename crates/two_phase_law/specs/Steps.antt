@@ -1,5 +1,5 @@
 -- The old store (Two-Phase with one publisher): what it fixes of the damage test and of the ten calls. `rules` gathers it; publication_law has the rest.
--- A reader's second and published version and a walk's next have no use here: they have the fresh store's numbers from the making on and are not tested.
+-- A reader's second and published version and a walk's next have no use here: they stay as the making left them and are not tested.
 use Prim.Native.Nat.{ℕ, _+_, _-_, _%_}
 use mathlib.Core.Bool.{Bool, true, not, _&&_, _||_}
 use mathlib.Core.List.{List, [], _∷_}

@@ -9,6 +9,7 @@ ghost use Rattle.two_phase_law.specs.Steps.{rules};
 use calls::DAMAGED;
 use calls::KIND_OLD;
 use calls::NO_SUCH_PUBLISHER;
+use calls::NOT_READING;
 use calls::PUBLISHER_TURN;
 use calls::Pitch;
 use calls::Reply;
@@ -37,7 +38,7 @@ pub fn make(
         words,
         entries,
         KIND_OLD,
-        0,
+        NOT_READING,
         readers,
         publishers,
         slots,

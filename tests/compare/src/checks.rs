@@ -98,7 +98,7 @@ fn a_difference_is_told_by_name() {
         "{text}"
     );
 
-    let mut both = lent(Rules::altered(Alteration::FreshPublishedZero));
+    let mut both = lent(Rules::altered(Alteration::FreshNewPublishedZero));
     let text = report(both.call(&MAKE));
     assert!(
         text.contains("word 12, reader 0 published: library 18446744073709551615, second 0"),

@@ -350,7 +350,7 @@ fn examples_fall_under_altered_rules() {
             "P3",
             p3,
             &[
-                A::FreshPublishedZero,
+                A::FreshNewPublishedZero,
                 A::WaitNotALook,
                 A::WaitsNotCounted,
                 A::PassesBelowMark,
@@ -377,7 +377,7 @@ fn examples_fall_under_altered_rules() {
         (
             "P7",
             p7,
-            &[A::SpentAtCount, A::SpentKeepsNext, A::FreshPublishedZero],
+            &[A::SpentAtCount, A::SpentKeepsNext, A::FreshNewPublishedZero],
         ),
         ("P8", p8, &[A::SyncAtLast, A::MakingBelowLast]),
         (

@@ -66,10 +66,13 @@ fn words_are_those_of_the_page() {
 }
 
 #[test]
-fn a_fresh_old_store_publishes_nothing() {
-    let (words, entries) = made(Kind::Old, (64, 16, 32), 5);
+fn a_fresh_old_store_has_not_reading_in_every_record() {
+    let (words, entries) = made(Kind::Old, (3, 16, 32), 5);
     let mut due = [0; WORDS];
-    due[..6].copy_from_slice(&[2, 64, 16, 32, 0, 5]);
+    due[..6].copy_from_slice(&[2, 3, 16, 32, 0, 5]);
+    for word in (12..=327).step_by(5) {
+        due[word] = u64::MAX;
+    }
     assert_eq!(words, due);
     assert_eq!(entries, vec![9000; 1024]);
 }

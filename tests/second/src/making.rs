@@ -84,16 +84,11 @@ fn first_version_limit(kind: Kind, rules: Rules) -> u64 {
 
 /// All 64 records are fresh, whatever the number of readers.
 fn fresh_readers(kind: Kind, readers: u16, rules: Rules) -> [Reader; MOST_READERS] {
-    let mut published = match kind {
-        Kind::New => NOT_READING,
-        Kind::Old => 0,
+    let zero = match kind {
+        Kind::New => Alteration::FreshNewPublishedZero,
+        Kind::Old => Alteration::FreshOldPublishedZero,
     };
-    if rules.has(Alteration::FreshPublishedZero) {
-        published = 0;
-    }
-    if rules.has(Alteration::FreshOldPublished) {
-        published = NOT_READING;
-    }
+    let published = if rules.has(zero) { 0 } else { NOT_READING };
     let mut records = [Reader {
         published,
         ..Reader::default()

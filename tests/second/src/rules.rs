@@ -30,8 +30,8 @@ alterations! {
     MakingBelowLast "making refuses the last version"
     RefusedMakingClears "a refused making clears the words"
     FreshEntriesZero "fresh entries are 0"
-    FreshPublishedZero "fresh published versions are 0"
-    FreshOldPublished "a fresh old store has published versions"
+    FreshNewPublishedZero "a fresh new store's published versions are 0"
+    FreshOldPublishedZero "a fresh old store's published versions are 0"
     FreshWithinSizeOnly "published versions are fresh only within the size"
     // The damage test.
     NameBeforeSpoiled "10 and 11 are tested before 1"

@@ -73,7 +73,7 @@ fn shows(alteration: Alteration) -> bool {
         A::RefusedMakingClears | A::FreshWithinSizeOnly => true,
         A::SpoiledBeyondSizes | A::HoldersBeyondSizes => true,
         // Numbers that no call looks at.
-        A::FreshOldPublished | A::OldSyncKeepsNext | A::ReleaseClearsHeld => true,
+        A::FreshOldPublishedZero | A::OldSyncKeepsNext | A::ReleaseClearsHeld => true,
         // From a fresh store the version is never below mark - 1.
         A::RaisesWhenBehind => true,
         // Nearly 2^64 looks or releases.
