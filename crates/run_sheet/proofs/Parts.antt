@@ -1,24 +1,28 @@
--- What is fed of a read: the part from a place on. Some of it is taken, no more than there is, and what was fed before and then is what was fed in all. Assumes nothing.
+-- What is fed of a read: the part from a place on. Some of it is taken, no more than there is, and what was fed before and then is what was fed in all, which is what is kept. Assumes nothing.
 use Prim.Native.Nat.{ℕ, _+_, _-_, _≤_, _<_}
 use native.Mathlib.Omega.{arith}
 use Rattle.sheet_law.specs.Reads.{fed-append}
 use Rattle.sheet_law.specs.Widths.{tail}
 use mathlib.Core.Path.{refl, sym, _≡_, ap, _∙_}
 use mathlib.Core.List.{List, _++_}
+use mathlib.Core.Bool.{true, false}
 use lib.ListN.{length, take, drop, length-drop}
 use lib.Seq.{take-all, take-add}
 use Rattle.sheet_law.specs.Printing.{PRINTED-MAX}
 use Rattle.sheet_law.specs.Sheet.{SheetState, fed}
-use Rattle.sheet.specs.Feeds.{Feeds, moves}
+use Rattle.calls.specs.RowLaws.{clash}
+use Rattle.sheet.specs.Feeds.{Feeds, within, moves}
+use Rattle.run_sheet.specs.Keeps.{Keeps}
 
 tail-length : (n : ℕ) (l : List ℕ) → length (take (length l - n) (drop n l)) ≡ length l - n
 tail-length n l = ap length (take-all (length l - n) (drop n l) (rw length-drop (omega arith))) ∙ length-drop n l
 
-pub taken-within : (l : List ℕ) (from used : ℕ) → from < length l → used ≤ length (take (length l - from) (drop from l)) → from + used ≤ length l
-taken-within l from used h t = omega (arith, tail-length from l)
+module _ {d : SheetState} (l : List ℕ) (from : ℕ) {used : ℕ} {e : SheetState} {before out : List ℕ} {made : ℕ} (f : Feeds d (take (length l - from) (drop from l)) used e before out made) (h : from < length l) where
+  pub taken-within : from + used ≤ length l
+  taken-within = omega (arith, within f, tail-length from l)
 
-pub taken-some : (d : SheetState) (l : List ℕ) (from used : ℕ) (e : SheetState) (out : List ℕ) (made : ℕ) → Feeds d (take (length l - from) (drop from l)) used e out made → from < length l → PRINTED-MAX ≤ length out → 0 < used
-taken-some d l from used e out made f h fits = moves d (take (length l - from) (drop from l)) used e out made f fits (omega (arith, tail-length from l))
+  pub taken-some : PRINTED-MAX ≤ length before → 0 < used
+  taken-some fits = moves f fits (omega (arith, tail-length from l))
 
 -- Fed so far, and then some of what is left: fed so much further.
 pub fed-further : (d e g : SheetState) (l : List ℕ) (from used : ℕ) → e ≡ fed d (take from l) → g ≡ fed e (take used (take (length l - from) (drop from l))) → g ≡ fed d (take (from + used) l)
@@ -33,5 +37,9 @@ pub fed-none : (d : SheetState) (l : List ℕ) → d ≡ fed d (take 0 l)
 unfolding fed
 fed-none d l = refl
 
-pub fed-whole : (d e : SheetState) (l : List ℕ) (from : ℕ) → e ≡ fed d (take from l) → length l ≤ from → e ≡ fed d l
-fed-whole d e l from p h = p ∙ ap (λ (k : List ℕ). fed d k) (take-all from l h)
+-- What is kept where a write failed after a step, and at the end of the read.
+pub stopped : {d e g : SheetState} (l : List ℕ) (from : ℕ) {used : ℕ} {before out : List ℕ} {made : ℕ} → e ≡ fed d (take from l) → from < length l → Feeds e (take (length l - from) (drop from l)) used g before out made → Keeps d l g false
+stopped {d} {e} {g} l from {used} p h f = record { bytes = from + used; within = taken-within l from f h; after = fed-further d e g l from used p (f .after); whole = λ w. clash (sym w) }
+
+pub ended : {d e : SheetState} (l : List ℕ) (from : ℕ) → e ≡ fed d (take from l) → from ≤ length l → length l ≤ from → Keeps d l e true
+ended l from p h k = record { bytes = from; within = h; after = p; whole = λ w. omega arith }

@@ -2,13 +2,13 @@
 // all that is known of lines, commands and replies stands in the library below it. It uses sheet and what lies below, and io and libc to read and write.
 ghost use Prim.Native.Nat.{_≤_};
 ghost use mathlib.Core.Path.{_≡_};
-ghost use mathlib.Core.Bool.{true};
 ghost use lib.ListN.{length, take};
 ghost use Rattle.io.specs.Counts.{Counts};
 ghost use Rattle.statement.specs.Machine.{state};
 ghost use Rattle.sheet_law.specs.Printing.{PRINTED-MAX};
-ghost use Rattle.sheet_law.specs.Sheet.{sheetState, fed};
+ghost use Rattle.sheet_law.specs.Sheet.{sheetState};
 ghost use Rattle.sheet_law.specs.Reads.{KEPT};
+ghost use Rattle.run_sheet.specs.Keeps.{Keeps};
 use calls::Pitch;
 use layout::WORDS;
 use libc::STDERR_FILENO;
@@ -47,7 +47,7 @@ struct Said {
     written: bool,
 }
 
-// The bytes of one read: the output is written whenever it is full, and at their end. If all could be written, all of them were fed.
+// The bytes of one read: the output is written whenever it is full, and at their end. What is kept is what the bytes fed make of it: the first of the read, and all of them if all could be written.
 fn say(
     words: &mut [u64],
     room: &mut [Pitch],
@@ -59,7 +59,7 @@ fn say(
 ) -> Said
     requires { ⌜ length (now kept) ≡ KEPT ⌝ }
     requires { ⌜ PRINTED-MAX ≤ length (now out) ⌝ }
-    ensures { λ r. ⌜ (r .written ≡ true → sheetState (r .lines) (take (r .count) (now (kept .exit))) (state (now (words .exit)) (now (room .exit))) ≡ fed (sheetState lines (take count (now (kept .entry))) (state (now (words .entry)) (now (room .entry)))) (now (input .entry))) ⌝ }
+    ensures { λ r. ⌜ Keeps (sheetState lines (take count (now (kept .entry))) (state (now (words .entry)) (now (room .entry)))) (now (input .entry)) (sheetState (r .lines) (take (r .count) (now (kept .exit))) (state (now (words .exit)) (now (room .exit)))) (r .written) ⌝ }
 {
     let mut read = lines;
     let mut held = count;

@@ -1,13 +1,14 @@
--- One turn of the loop: the next byte joins the line, or ends it, and what went on so far goes on by that byte. Assumes nothing.
-use Prim.Native.Nat.{ℕ, zero, suc, _+_, _≤_, _<_}
+-- One turn of the loop: the next byte joins the line, or ends it, and what went on so far goes on by that byte; what is taken in all is what was taken so far and
+-- what is taken of the rest. Assumes nothing.
+use Prim.Native.Nat.{ℕ, zero, suc, _+_, _-_, _≤_, _<_}
 use native.Mathlib.Omega.{arith}
 use native.Mathlib.Numerals.{add-one}
 use mathlib.Core.Path.{_≡_, refl, sym, _∙_, ap}
 use mathlib.Core.List.{List, [], _∷_, _++_, append-nil}
 use mathlib.Core.Bool.{Bool, true, false, not}
 use lib.Dec.{leb}
-use lib.ListN.{length, getD, set, take}
-use lib.Seq.{take-suc, take-all, take-suc-set, length-take-le}
+use lib.ListN.{length, getD, set, take, drop, length-append, take-append-drop, drop-of-length-le}
+use lib.Seq.{take-suc, take-all, take-suc-set, length-take-le, drop-cons}
 use borrow.Author.Tests.{eq-eqb, ne-eqb, lt-ltb, le-ltb, leb-true, leb-false}
 use Rattle.calls.specs.declared.Reply.{Reply}
 use Rattle.calls.specs.RowLaws.{clash}
@@ -19,8 +20,8 @@ use Rattle.sheet_law.specs.Reading.{LINE-MAX, lineOf}
 use Rattle.sheet_law.specs.Printing.{replyText, printedLine, PRINTED-MAX}
 use Rattle.sheet_law.specs.Sheet.{played, next, SheetState, sheetState, joined, byte, saidAt, fed, printed, ending}
 use Rattle.sheet_law.specs.Reads.{fed-append, printed-append, known-all, over-80}
-use Rattle.sheet_printing.specs.Buffer.{Added}
-use Rattle.sheet.specs.Feeds.{Went}
+use Rattle.sheet_printing.specs.Buffer.{Added, behind}
+use Rattle.sheet.specs.Feeds.{stopsAt, taken, Feeds}
 use Rattle.sheet_law.specs.Reads.{KEPT}
 
 more : (t : List ℕ) (u : ℕ) → u < length t → take (u + 1) t ≡ take u t ++ (getD t u 0 ∷ [])
@@ -37,46 +38,107 @@ printed-next d t u h =
     ∙ printed-append d (take u t) (getD t u 0 ∷ [])
     ∙ ap (λ (k : List ℕ). printed d (take u t) ++ k) (append-nil (saidAt (fed d (take u t)) (getD t u 0)))
 
--- What goes on by one byte: the state by `byte`, the output by `saidAt`.
-went-on : (d : SheetState) (t : List ℕ) (u : ℕ) (e f : SheetState) (out new : List ℕ) (m l : ℕ) → Went d t u e out m → u < length t → l ≤ length new
-    → f ≡ byte e (getD t u 0) → take l new ≡ take m out ++ saidAt e (getD t u 0) → Went d t (u + 1) f new l
-went-on d t u e f out new m l w h fill moved said = record {
-  taken = omega arith;
-  filled = fill;
-  after = moved ∙ ap (λ (x : SheetState). byte x (getD t u 0)) (w .after) ∙ sym (fed-next d t u h);
-  says =
-      said
-      ∙ ap (λ (k : List ℕ). k ++ saidAt e (getD t u 0)) (w .says)
-      ∙ ap (λ (x : SheetState). printed d (take u t) ++ saidAt x (getD t u 0)) (w .after)
-      ∙ sym (printed-next d t u h);
-}
+-- The input from a byte on: it is taken, or feeding stops there.
+taken-one : (room : ℕ) (e : SheetState) (b : ℕ) (t : List ℕ) → stopsAt room b ≡ false → taken room e (b ∷ t) ≡ suc (taken (room - length (saidAt e b)) (byte e b) t)
+unfolding taken
+taken-one room e b t g = rw g refl
 
-pub begins : (d : SheetState) (t out : List ℕ) → Went d t 0 d out 0
+taken-none : (room : ℕ) (e : SheetState) (b : ℕ) (t : List ℕ) → stopsAt room b ≡ true → taken room e (b ∷ t) ≡ 0
+unfolding taken
+taken-none room e b t g = rw g refl
+
+taken-next : (room : ℕ) (e : SheetState) (t : List ℕ) (u : ℕ) → u < length t → stopsAt room (getD t u 0) ≡ false
+    → taken room e (drop u t) ≡ suc (taken (room - length (saidAt e (getD t u 0))) (byte e (getD t u 0)) (drop (u + 1) t))
+taken-next room e t u h g =
+    ap (λ (k : List ℕ). taken room e k) (drop-cons t u 0 h ∙ ap (λ (n : ℕ). getD t u 0 ∷ drop n t) (sym (add-one u)))
+    ∙ taken-one room e (getD t u 0) (drop (u + 1) t) g
+
+-- So far u bytes are taken and m bytes printed. What is taken in all is these and, from the state e on and into the room that is left, what is taken of the rest.
+pub record Going (d : SheetState) (t : List ℕ) (u : ℕ) (e : SheetState) (before out : List ℕ) (m : ℕ) : Type 0 where
+  pub total : taken (length before) d t ≡ u + taken (length before - m) e (drop u t)
+  pub after : e ≡ fed d (take u t)
+  pub prints : m ≡ length (printed d (take u t))
+  pub bytes : take m out ≡ printed d (take u t)
+  pub rest : drop m out ≡ drop m before
+
+pub begins : (d : SheetState) (t out : List ℕ) → Going d t 0 d out out 0
 unfolding fed printed
-begins d t out = record { taken = omega arith; filled = omega arith; after = refl; says = refl }
+begins d t out = let z : length out - 0 ≡ length out = omega arith in
+    record { total = omega (arith, ap (λ (r : ℕ). taken r d t) z); after = refl; prints = refl; bytes = refl; rest = refl }
 
-module _ (d : SheetState) (t : List ℕ) (u n : ℕ) (k : List ℕ) (s : State) (out : List ℕ) (m : ℕ) (w : Went d t u (sheetState n k s) out m) (h : u < length t) where
+-- What goes on by one byte: the state by `byte`, the output by what is said at it.
+module _ (d : SheetState) (t : List ℕ) (u : ℕ) (e f : SheetState) (before out new : List ℕ) (m l : ℕ) (x : List ℕ) where
+  went-on : Going d t u e before out m → u < length t → stopsAt (length before - m) (getD t u 0) ≡ false
+      → f ≡ byte e (getD t u 0) → saidAt e (getD t u 0) ≡ x → l ≡ m + length x → take l new ≡ take m out ++ x → drop l new ≡ drop l out → Going d t (u + 1) f before new l
+  went-on w h goes moved said long put rest =
+      let left : length before - m - length (saidAt e (getD t u 0)) ≡ length before - l = omega (arith, ap length said) in
+      let same : taken (length before - m - length (saidAt e (getD t u 0))) (byte e (getD t u 0)) (drop (u + 1) t) ≡ taken (length before - l) f (drop (u + 1) t) =
+      ap (λ (r : ℕ). taken r (byte e (getD t u 0)) (drop (u + 1) t)) left ∙ ap (λ (y : SheetState). taken (length before - l) y (drop (u + 1) t)) (sym moved) in
+      let all : printed d (take (u + 1) t) ≡ printed d (take u t) ++ x =
+      printed-next d t u h ∙ ap (λ (y : SheetState). printed d (take u t) ++ saidAt y (getD t u 0)) (sym (w .after)) ∙ ap (λ (k : List ℕ). printed d (take u t) ++ k) said in
+      record {
+        total = omega (arith, w .total, taken-next (length before - m) e t u h goes, same);
+        after = moved ∙ ap (λ (y : SheetState). byte y (getD t u 0)) (w .after) ∙ sym (fed-next d t u h);
+        prints = omega (arith, long, w .prints, ap length all, length-append (printed d (take u t)) x);
+        bytes = put ∙ ap (λ (k : List ℕ). k ++ x) (w .bytes) ∙ sym all;
+        rest = rest ∙ behind before out m l (omega arith) (w .rest);
+      }
+
+module _ (d : SheetState) (t : List ℕ) (u n : ℕ) (k : List ℕ) (s : State) (before out : List ℕ) (m : ℕ) (w : Going d t u (sheetState n k s) before out m) (h : u < length t) where
   -- Every byte but a newline joins the line.
-  pub joins : (getD t u 0 ≡ NEWLINE → ⊥) → (j : List ℕ) → j ≡ joined k (getD t u 0) → Went d t (u + 1) (sheetState n j s) out m
+  pub joins : (getD t u 0 ≡ NEWLINE → ⊥) → (j : List ℕ) → j ≡ joined k (getD t u 0) → Going d t (u + 1) (sheetState n j s) before out m
   joins ne j e =
-      went-on d t u (sheetState n k s) (sheetState n j s) out out m m w h (w .filled)
+      went-on d t u (sheetState n k s) (sheetState n j s) before out out m m [] w h
+      (rw (ne-eqb (getD t u 0) NEWLINE ne) refl)
       (rw (e, ne-eqb (getD t u 0) NEWLINE ne) refl)
-      (rw (ne-eqb (getD t u 0) NEWLINE ne) (sym (append-nil (take m out))))
+      (rw (ne-eqb (getD t u 0) NEWLINE ne) refl)
+      (omega arith)
+      (sym (append-nil (take m out)))
+      refl
 
-  module _ (nl : getD t u 0 ≡ NEWLINE) (room : m + PRINTED-MAX ≤ length out) (new : List ℕ) (l : ℕ) (same : length new ≡ length out) (q : ℕ) (number : q ≡ next n) where
+  module _ (nl : getD t u 0 ≡ NEWLINE) (room : m + PRINTED-MAX ≤ length out) (as-long : length out ≡ length before) (new : List ℕ) (l : ℕ) (q : ℕ) (number : q ≡ next n) where
+    goes : stopsAt (length before - m) (getD t u 0) ≡ false
+    goes = rw (eq-eqb (getD t u 0) NEWLINE nl) (le-ltb (length before - m) PRINTED-MAX (omega arith))
+
     -- A line that is unread.
-    pub ends-unread : lineOf k ≡ Unread → Added PRINTED-MAX (printedLine q (text "unread")) out m new l → Went d t (u + 1) (sheetState q [] s) new l
+    pub ends-unread : lineOf k ≡ Unread → Added PRINTED-MAX (printedLine q (text "unread")) out m new l → Going d t (u + 1) (sheetState q [] s) before new l
     ends-unread e a =
-        went-on d t u (sheetState n k s) (sheetState q [] s) out new m l w h (omega (arith, a .small, a .moved))
+        went-on d t u (sheetState n k s) (sheetState q [] s) before out new m l (printedLine q (text "unread")) w h goes
         (rw (eq-eqb (getD t u 0) NEWLINE nl, known-all s k, e, number) refl)
-        (rw (eq-eqb (getD t u 0) NEWLINE nl, known-all s k, e, sym number) (a .bytes))
+        (rw (eq-eqb (getD t u 0) NEWLINE nl, known-all s k, e, sym number) refl)
+        (a .moved)
+        (a .bytes)
+        (a .rest)
 
     -- A line that is a command.
-    pub ends-read : (c : Command) → lineOf k ≡ Read c → (a : Reply) (r : State) → outcome a r ≡ played s c → Added PRINTED-MAX (printedLine q (replyText a)) out m new l → Went d t (u + 1) (sheetState q [] r) new l
+    pub ends-read : (c : Command) → lineOf k ≡ Read c → (a : Reply) (r : State) → outcome a r ≡ played s c → Added PRINTED-MAX (printedLine q (replyText a)) out m new l → Going d t (u + 1) (sheetState q [] r) before new l
     ends-read c e a r p b =
-        went-on d t u (sheetState n k s) (sheetState q [] r) out new m l w h (omega (arith, b .small, b .moved))
+        went-on d t u (sheetState n k s) (sheetState q [] r) before out new m l (printedLine q (replyText a)) w h goes
         (rw (eq-eqb (getD t u 0) NEWLINE nl, known-all s k, e, sym number) (ap (λ (o : Outcome). sheetState q [] (o .after)) p))
-        (rw (eq-eqb (getD t u 0) NEWLINE nl, known-all s k, e, sym number) (b .bytes ∙ ap (λ (o : Outcome). take m out ++ printedLine q (replyText (o .reply))) p))
+        (rw (eq-eqb (getD t u 0) NEWLINE nl, known-all s k, e, sym number) (ap (λ (o : Outcome). printedLine q (replyText (o .reply))) (sym p)))
+        (b .moved)
+        (b .bytes)
+        (b .rest)
+
+-- Where nothing of the rest is taken, what went on so far is all.
+module _ {d : SheetState} {t : List ℕ} {u : ℕ} {e : SheetState} {before out : List ℕ} {m : ℕ} (w : Going d t u e before out m) where
+  all-taken : taken (length before - m) e (drop u t) ≡ 0 → Feeds d t u e before out m
+  all-taken none = record {
+    takes = omega (arith, w .total, none);
+    after = w .after;
+    prints = w .prints;
+    says = sym (take-append-drop m out) ∙ ap (λ (k : List ℕ). k ++ drop m out) (w .bytes) ∙ ap (λ (k : List ℕ). printed d (take u t) ++ k) (w .rest);
+  }
+
+  pub at-the-end : length t ≤ u → Feeds d t u e before out m
+  unfolding taken
+  at-the-end h = all-taken (ap (λ (k : List ℕ). taken (length before - m) e k) (drop-of-length-le t h))
+
+  pub at-a-newline : u < length t → getD t u 0 ≡ NEWLINE → length before < m + PRINTED-MAX → Feeds d t u e before out m
+  at-a-newline h nl full =
+      all-taken
+      (ap (λ (k : List ℕ). taken (length before - m) e k) (drop-cons t u 0 h)
+      ∙ taken-none (length before - m) e (getD t u 0) (drop (suc u) t) (rw (eq-eqb (getD t u 0) NEWLINE nl) (lt-ltb (length before - m) PRINTED-MAX (omega arith))))
 
 -- Keeping a byte of a line: it joins the bytes that are kept, or the line has over 80 bytes already.
 module _ (kept : List ℕ) (count b : ℕ) (whole : length kept ≡ KEPT) where

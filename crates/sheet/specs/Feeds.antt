@@ -1,64 +1,98 @@
--- What feeding a sheet comes to: it stops at the end of the input, or at the first newline for which the longest line would no longer fit into the output. That fed step by step,
--- the last line at the end, a sheet prints what its definition says. Assumes nothing.
-use Prim.Native.Nat.{ℕ, zero, suc, _+_, _≤_, _<_}
+-- What feeding a sheet comes to: how many bytes of the input are taken, the state after them, and the output. That fed step by step, the last line at the end,
+-- a sheet prints what its definition says. Assumes nothing.
+use Prim.Native.Nat.{ℕ, suc, _-_, _≤_, _<_}
 use native.Mathlib.Omega.{arith}
 use mathlib.Core.Path.{_≡_, refl, sym, ap, _∙_}
-use mathlib.Core.Logic.{_⊎_, inl, inr}
+use mathlib.Core.Bool.{Bool, true, false, _&&_}
 use mathlib.Core.List.{List, [], _∷_, _++_}
-use lib.ListN.{length, getD, take}
-use lib.Seq.{length-take-le, take-length}
+use lib.Dec.{eqb, ltb}
+use lib.ListN.{length, take, drop, length-append}
+use lib.Seq.{take-at, take-length}
+use borrow.Author.Tests.{le-ltb}
+use Rattle.calls.specs.Base.{pick}
+use Rattle.calls.specs.RowLaws.{pick-split}
 use Rattle.sheet.specs.declared.Fed.{Fed}
 use Rattle.sheet_law.specs.Text.{NEWLINE}
 use Rattle.sheet_law.specs.Printing.{PRINTED-MAX}
-use Rattle.sheet_law.specs.Sheet.{sheet, SheetState, start, fed, printed, ending}
+use Rattle.sheet_law.specs.Sheet.{sheet, SheetState, start, byte, saidAt, fed, printed, ending}
 use Rattle.sheet_law.specs.Reads.{KEPT, fed-append, printed-append, whole}
 
 -- What feeding answers: the numbers of the state after, and how far it went.
 abbrev pub fedAt : ℕ → ℕ → ℕ → ℕ → Fed
 fedAt lines count used made = record { lines = lines; count = count; used = used; made = made }
 
--- From the state d, `used` bytes of the input were taken; e is the state after them, and the first `made` bytes of the output are what was printed for them.
--- What the output holds beyond those, and the kept bytes beyond the line's, is left open.
-pub record Went (d : SheetState) (input : List ℕ) (used : ℕ) (e : SheetState) (out : List ℕ) (made : ℕ) : Type 0 where
-  pub taken : used ≤ length input
-  pub filled : made ≤ length out
-  pub after : e ≡ fed d (take used input)
-  pub says : take made out ≡ printed d (take used input)
+-- Feeding stops at a newline if the longest line does not fit into the room that is left, and at no other byte.
+abbrev pub stopsAt : ℕ → ℕ → Bool
+stopsAt room b = eqb b NEWLINE && ltb room PRINTED-MAX
 
-pub record Feeds (d : SheetState) (input : List ℕ) (used : ℕ) (e : SheetState) (out : List ℕ) (made : ℕ) : Type 0 where
-  pub went : Went d input used e out made
-  pub stops : (used ≡ length input) ⊎ ((used < length input) × (getD input used 0 ≡ NEWLINE) × (length out < made + PRINTED-MAX))
+-- How many bytes of an input are taken, with so much room in the output; what is printed for a byte takes its length of it.
+unfoldable pub taken : ℕ → SheetState → List ℕ → ℕ
+taken room d [] = 0
+taken room d (b ∷ t) = pick (stopsAt room b) 0 (suc (taken (room - length (saidAt d b)) (byte d b) t))
+
+-- From the state d, `used` bytes of the input are taken; e is the state after them, and `made` bytes are printed for them, at the start of the output. Behind
+-- those the output is as before. The kept bytes beyond the line's are left open.
+pub record Feeds (d : SheetState) (input : List ℕ) (used : ℕ) (e : SheetState) (before out : List ℕ) (made : ℕ) : Type 0 where
+  pub takes : used ≡ taken (length before) d input
+  pub after : e ≡ fed d (take used input)
+  pub prints : made ≡ length (printed d (take used input))
+  pub says : out ≡ printed d (take used input) ++ drop made before
 
 -- A state whose line is kept in so many bytes is fed; with any other number of bytes for it nothing is done.
 pub record FeedsIn (size : ℕ) (d : SheetState) (input : List ℕ) (used : ℕ) (e : SheetState) (before out : List ℕ) (made : ℕ) : Type 0 where
-  pub right : size ≡ KEPT → Feeds d input used e out made
+  pub right : size ≡ KEPT → Feeds d input used e before out made
   pub wrong : (size ≡ KEPT → ⊥) → (used ≡ 0) × (made ≡ 0) × (e ≡ d) × (out ≡ before)
 
-nothing-said : (d : SheetState) (made : ℕ) (out : List ℕ) → take made out ≡ printed d [] → length (take made out) ≡ 0
-unfolding printed
-nothing-said d made out s = ap length s
+-- No more is taken than there is, and into an output that the longest line fits into something of every input.
+taken-most : (room : ℕ) (d : SheetState) (t : List ℕ) → taken room d t ≤ length t
+unfolding taken
+taken-most room d [] = omega arith
+taken-most room d (b ∷ t) = pick-split (λ (n : ℕ). n ≤ suc (length t)) (stopsAt room b) (λ e. omega arith) (λ e. omega (arith, taken-most (room - length (saidAt d b)) (byte d b) t))
 
--- Into an output that the longest line fits into, something of every input is taken.
-pub moves : (d : SheetState) (input : List ℕ) (used : ℕ) (e : SheetState) (out : List ℕ) (made : ℕ) → Feeds d input used e out made → PRINTED-MAX ≤ length out → 0 < length input → 0 < used
-moves d input used e out made f fits some = go used (f .stops) (f .went .says)
-  where
-    go : (u : ℕ) → (u ≡ length input) ⊎ ((u < length input) × (getD input u 0 ≡ NEWLINE) × (length out < made + PRINTED-MAX)) → take made out ≡ printed d (take u input) → 0 < u
-    go zero (inl h) s = absurd (omega arith)
-    go zero (inr h) s = absurd (omega (arith, h .2, length-take-le made out (f .went .filled), nothing-said d made out s))
-    go (suc u) h s = omega arith
+and-false : (x : Bool) → (x && false) ≡ false
+and-false true = refl
+and-false false = refl
+
+taken-some : (room : ℕ) (d : SheetState) (t : List ℕ) → PRINTED-MAX ≤ room → 0 < length t → 0 < taken room d t
+unfolding taken
+taken-some room d [] fits some = absurd (omega arith)
+taken-some room d (b ∷ t) fits some = rw (le-ltb room PRINTED-MAX fits, and-false (eqb b NEWLINE)) (omega arith)
+
+-- What is known of a step besides.
+module _ {d : SheetState} {input : List ℕ} {used : ℕ} {e : SheetState} {before out : List ℕ} {made : ℕ} (f : Feeds d input used e before out made) where
+  pub within : used ≤ length input
+  within = omega (arith, f .takes, taken-most (length before) d input)
+
+  pub moves : PRINTED-MAX ≤ length before → 0 < length input → 0 < used
+  moves fits some = omega (arith, f .takes, taken-some (length before) d input fits some)
+
+  pub filled : made ≤ length out
+  filled = omega (arith, f .prints, ap length (f .says), length-append (printed d (take used input)) (drop made before))
+
+  pub begins-with : take made out ≡ printed d (take used input)
+  begins-with = ap (λ (l : List ℕ). take made l) (f .says) ∙ take-at (printed d (take used input)) (drop made before) made (sym (f .prints))
+
+  -- Where nothing was made the output is as before.
+  pub nothing-made : made ≡ 0 → out ≡ before
+  nothing-made none = f .says ∙ ap (λ (l : List ℕ). l ++ drop made before) (empty (printed d (take used input)) (omega (arith, f .prints))) ∙ ap (λ (n : ℕ). drop n before) none
+    where
+      empty : (l : List ℕ) → length l ≡ 0 → l ≡ []
+      empty [] h = refl
+      empty (b ∷ l) h = absurd (omega arith)
 
 -- One step: what it was given, and what it came to.
 pub record Step : Type 0 where
   pub input : List ℕ
   pub used : ℕ
   pub after : SheetState
+  pub before : List ℕ
   pub out : List ℕ
   pub made : ℕ
 
 -- Steps after each other, each from the state as the one before left it.
 abbrev pub Chain : SheetState → List Step → Type 0
 Chain d [] = Unit {0}
-Chain d (s ∷ ss) = Feeds d (s .input) (s .used) (s .after) (s .out) (s .made) × Chain (s .after) ss
+Chain d (s ∷ ss) = Feeds d (s .input) (s .used) (s .after) (s .before) (s .out) (s .made) × Chain (s .after) ss
 
 -- The state after them, all that they took and all that they printed.
 abbrev pub stateAfter : SheetState → List Step → SheetState
@@ -78,22 +112,22 @@ unfolding fed
 chain-after d [] c = refl
 chain-after d (s ∷ ss) (f, c) =
     chain-after (s .after) ss c
-    ∙ ap (λ (e : SheetState). fed e (allTaken ss)) (f .went .after)
+    ∙ ap (λ (e : SheetState). fed e (allTaken ss)) (f .after)
     ∙ sym (fed-append d (take (s .used) (s .input)) (allTaken ss))
 
 chain-printed : (d : SheetState) (ss : List Step) → Chain d ss → allPrinted ss ≡ printed d (allTaken ss)
 unfolding printed
 chain-printed d [] c = refl
 chain-printed d (s ∷ ss) (f, c) =
-    ap (λ (k : List ℕ). k ++ allPrinted ss) (f .went .says)
-    ∙ ap (λ (k : List ℕ). printed d (take (s .used) (s .input)) ++ k) (chain-printed (s .after) ss c ∙ ap (λ (e : SheetState). printed e (allTaken ss)) (f .went .after))
+    ap (λ (k : List ℕ). k ++ allPrinted ss) (begins-with f)
+    ∙ ap (λ (k : List ℕ). printed d (take (s .used) (s .input)) ++ k) (chain-printed (s .after) ss c ∙ ap (λ (e : SheetState). printed e (allTaken ss)) (f .after))
     ∙ sym (printed-append d (take (s .used) (s .input)) (allTaken ss))
 
 -- However the input is cut, and however often the output was full: what all steps printed from the start, and the step that takes the whole ending, is the sheet of all that was taken.
-pub fed-sheet : (ss : List Step) → Chain start ss → (l : Step) → Feeds (stateAfter start ss) (l .input) (l .used) (l .after) (l .out) (l .made) → l .input ≡ ending (stateAfter start ss .begun) → l .used ≡ length (l .input)
+pub fed-sheet : (ss : List Step) → Chain start ss → (l : Step) → Feeds (stateAfter start ss) (l .input) (l .used) (l .after) (l .before) (l .out) (l .made) → l .input ≡ ending (stateAfter start ss .begun) → l .used ≡ length (l .input)
     → allPrinted ss ++ take (l .made) (l .out) ≡ sheet (allTaken ss)
 fed-sheet ss c l f e all =
-    ap (λ (k : List ℕ). allPrinted ss ++ k) (f .went .says ∙ ap (λ (n : ℕ). printed (stateAfter start ss) (take n (l .input))) all ∙ ap (λ (k : List ℕ). printed (stateAfter start ss) k) (take-length (l .input) ∙ e))
+    ap (λ (k : List ℕ). allPrinted ss ++ k) (begins-with f ∙ ap (λ (n : ℕ). printed (stateAfter start ss) (take n (l .input))) all ∙ ap (λ (k : List ℕ). printed (stateAfter start ss) k) (take-length (l .input) ∙ e))
     ∙ ap (λ (k : List ℕ). k ++ printed (stateAfter start ss) (ending (stateAfter start ss .begun))) (chain-printed start ss c)
     ∙ ap (λ (x : SheetState). printed start (allTaken ss) ++ printed x (ending (x .begun))) (chain-after start ss c)
     ∙ sym (printed-append start (allTaken ss) (ending (fed start (allTaken ss) .begun)))

@@ -1,18 +1,31 @@
 -- What it is to put a text into a buffer, at a place.
-use Prim.Native.Nat.{ℕ, _+_, _≤_, _<_}
-use mathlib.Core.Path.{_≡_}
+use Prim.Native.Nat.{ℕ, _+_, _-_, _≤_, _<_}
+use native.Mathlib.Omega.{arith}
+use mathlib.Core.Path.{_≡_, sym, ap, _∙_}
 use mathlib.Core.List.{List, _++_}
-use lib.ListN.{length, take}
+use lib.ListN.{length, take, drop}
+use lib.Seq.{drop-drop}
 use Rattle.sheet_law.specs.Printing.{PRINTED-MAX}
 
--- A text of at most n bytes is put: the buffer up to the next place is what it was up to the place, and then the text. What it holds from `next` on is left
--- open.
+-- A text of at most n bytes is put: the buffer up to the next place is what it was up to the place, and then the text; from the next place on it is what it
+-- was.
 pub record Added (n : ℕ) (text before : List ℕ) (place : ℕ) (after : List ℕ) (next : ℕ) : Type 0 where
   pub small : length text ≤ n
   pub moved : next ≡ place + length text
   pub bytes : take next after ≡ take place before ++ text
+  pub rest : drop next after ≡ drop next before
 
--- A line is put where there is room for the longest, and what the buffer then holds from `next` on is left open; elsewhere nothing is written.
+-- A line is put where there is room for the longest; elsewhere nothing is written.
 pub record Printed (line before : List ℕ) (place : ℕ) (after : List ℕ) (next : ℕ) : Type 0 where
   pub put : place + PRINTED-MAX ≤ length before → Added PRINTED-MAX line before place after next
   pub full : length before < place + PRINTED-MAX → (next ≡ place) × (after ≡ before)
+
+-- What is as it was from a place on is so from every later place on.
+pub behind : (before after : List ℕ) (a b : ℕ) → a ≤ b → drop a after ≡ drop a before → drop b after ≡ drop b before
+behind before after a b h e =
+    let m : a + (b - a) ≡ b = omega arith in
+    ap (λ (n : ℕ). drop n after) (sym m)
+    ∙ sym (drop-drop (b - a) a after)
+    ∙ ap (λ (l : List ℕ). drop (b - a) l) e
+    ∙ drop-drop (b - a) a before
+    ∙ ap (λ (n : ℕ). drop n before) m

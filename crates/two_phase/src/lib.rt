@@ -5,6 +5,7 @@ ghost use lib.ListN.{replicate};
 ghost use Rattle.calls.specs.declared.Call.the-variants.{Enter, Look, Leave, Claim, Write, Swap, Sync, Raise, Walk, Release};
 ghost use Rattle.layout.specs.Layout.{WORDS};
 ghost use Rattle.statement.specs.Machine.{state, outcome, given};
+ghost use Rattle.publication_law.specs.Steps.{upTo};
 ghost use Rattle.publication_law.specs.Rules.{step, making};
 ghost use Rattle.two_phase_law.specs.Steps.{rules};
 use calls::Pitch;
@@ -36,6 +37,13 @@ pub struct Stepped {
 impl TwoPhase {
     // The last version: 2^63 - 1.
     pub const LAST: u64 = two_phase_damage::LAST;
+
+    // LAST is the number that the rules go by: the versions of making, of SYNC and of the damage test are those up to it.
+    pub fn last_version() -> u64
+        ensures { λ n. ⌜ rules .kind .versions ≡ upTo n ⌝ }
+    {
+        Self::LAST
+    }
 
     // A refused making hands back a store with every number 0.
     pub fn make(

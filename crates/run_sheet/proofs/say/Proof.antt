@@ -7,8 +7,8 @@ use mathlib.Core.Path.{_≡_, refl, sym, _∙_}
 use lib.Seq.{length-take-le}
 use Rattle.sheet_law.specs.Printing.{PRINTED-MAX}
 use Rattle.sheet_law.specs.Reads.{KEPT}
-use Rattle.run_sheet.proofs.Parts.{taken-within, taken-some, fed-none, fed-further, fed-whole}
-use Rattle.calls.specs.RowLaws.{clash}
+use Rattle.run_sheet.proofs.Parts.{taken-within, taken-some, fed-none, fed-further, stopped, ended}
+use Rattle.sheet.specs.Feeds.{filled}
 use Rattle.statement.specs.Machine.{state}
 use Rattle.sheet_law.specs.Sheet.{sheetState, fed}
 use Rattle.run_sheet.proofs.say.Statement.{statement}
@@ -21,10 +21,10 @@ abbrev μ-loop : tie.MeasureT-loop
 μ-loop words₀ room₀ kept₀ lines count input out₀ read₀ held₀ from₀ words room kept out read held from = length input - from
 
 within : (c : tie.Else1 Inv-loop μ-loop) → c .before .before .before .before .before .before .before .before .before .before .before .before .before .before .before .before .before .before .loop .from + c .before .before .before .before .before .before .before .before .before .before .before .feed .result .used ≤ length (c .before .before .before .before .before .before .before .before .before .before .before .before .before .before .before .before .before .before .before .before .before .before .before .args .input .now)
-within c = taken-within (c .before .before .before .before .before .before .before .before .before .before .before .before .before .before .before .before .before .before .before .before .before .before .before .args .input .now) (c .before .before .before .before .before .before .before .before .before .before .before .before .before .before .before .before .before .before .loop .from) (c .before .before .before .before .before .before .before .before .before .before .before .feed .result .used) (c .before .before .before .before .before .before .before .before .before .before .before .before .before .before .before .before .before .loop-test .taken) ((c .before .before .before .before .before .before .before .before .before .before .before .feed .ensures .right (c .before .before .before .before .before .before .before .before .before .before .before .before .before .before .before .before .before .before .loop .inv .2 ∙ c .before .before .before .before .before .before .before .before .before .before .before .before .before .before .before .before .before .before .loop .inv .5)) .went .taken)
+within c = taken-within (c .before .before .before .before .before .before .before .before .before .before .before .before .before .before .before .before .before .before .before .before .before .before .before .args .input .now) (c .before .before .before .before .before .before .before .before .before .before .before .before .before .before .before .before .before .before .loop .from) (c .before .before .before .before .before .before .before .before .before .before .before .feed .ensures .right (c .before .before .before .before .before .before .before .before .before .before .before .before .before .before .before .before .before .before .loop .inv .2 ∙ c .before .before .before .before .before .before .before .before .before .before .before .before .before .before .before .before .before .before .loop .inv .5)) (c .before .before .before .before .before .before .before .before .before .before .before .before .before .before .before .before .before .loop-test .taken)
 
 some : (c : tie.Else1 Inv-loop μ-loop) → 0 < c .before .before .before .before .before .before .before .before .before .before .before .feed .result .used
-some c = let k = c .before .before .before .before .before .before .before .before .before .before .before .before .before .before .before .before .before .before .loop in taken-some _ (c .before .before .before .before .before .before .before .before .before .before .before .before .before .before .before .before .before .before .before .before .before .before .before .args .input .now) (k .from) (c .before .before .before .before .before .before .before .before .before .before .before .feed .result .used) _ _ (c .before .before .before .before .before .before .before .before .before .before .before .feed .result .made) (c .before .before .before .before .before .before .before .before .before .before .before .feed .ensures .right (c .before .before .before .before .before .before .before .before .before .before .before .before .before .before .before .before .before .before .loop .inv .2 ∙ c .before .before .before .before .before .before .before .before .before .before .before .before .before .before .before .before .before .before .loop .inv .5)) (c .before .before .before .before .before .before .before .before .before .before .before .before .before .before .before .before .before .loop-test .taken) (omega (arith, c .before .before .before .before .before .before .before .before .before .before .before .feed .kept .1 .1 .1 .1 .1 .1 .0, k .inv .3, k .inv .6))
+some c = let k = c .before .before .before .before .before .before .before .before .before .before .before .before .before .before .before .before .before .before .loop in taken-some (c .before .before .before .before .before .before .before .before .before .before .before .before .before .before .before .before .before .before .before .before .before .before .before .args .input .now) (k .from) (c .before .before .before .before .before .before .before .before .before .before .before .feed .ensures .right (c .before .before .before .before .before .before .before .before .before .before .before .before .before .before .before .before .before .before .loop .inv .2 ∙ c .before .before .before .before .before .before .before .before .before .before .before .before .before .before .before .before .before .before .loop .inv .5)) (c .before .before .before .before .before .before .before .before .before .before .before .before .before .before .before .before .before .loop-test .taken) (omega (arith, k .inv .3, k .inv .6))
 
 loop-holds : tie.Need-loop-holds Inv-loop μ-loop
 loop-holds c = (refl, refl, refl, refl, omega arith, c .before .before .before .before .pre .0, c .before .before .before .before .pre .1, fed-none _ (c .before .before .before .before .args .input .now))
@@ -42,13 +42,13 @@ feed-requires : tie.Need-feed-requires Inv-loop μ-loop
 feed-requires c κs = search needs
 
 add-from : tie.Need-add-from Inv-loop μ-loop
-add-from c = omega (arith, taken-within (c .before .before .before .before .before .before .before .before .before .before .before .before .before .before .before .before .before .before .before .before .args .input .now) (c .before .before .before .before .before .before .before .before .before .before .before .before .before .before .before .loop .from) (c .before .before .before .before .before .before .before .before .feed .result .used) (c .before .before .before .before .before .before .before .before .before .before .before .before .before .before .loop-test .taken) ((c .before .before .before .before .before .before .before .before .feed .ensures .right (c .before .before .before .before .before .before .before .before .before .before .before .before .before .before .before .loop .inv .2 ∙ c .before .before .before .before .before .before .before .before .before .before .before .before .before .before .before .loop .inv .5)) .went .taken))
+add-from c = omega (arith, taken-within (c .before .before .before .before .before .before .before .before .before .before .before .before .before .before .before .before .before .before .before .before .args .input .now) (c .before .before .before .before .before .before .before .before .before .before .before .before .before .before .before .loop .from) (c .before .before .before .before .before .before .before .before .feed .ensures .right (c .before .before .before .before .before .before .before .before .before .before .before .before .before .before .before .loop .inv .2 ∙ c .before .before .before .before .before .before .before .before .before .before .before .before .before .before .before .loop .inv .5)) (c .before .before .before .before .before .before .before .before .before .before .before .before .before .before .loop-test .taken))
 
 slice-reshare-prefix-written : tie.Need-slice-reshare-prefix-written Inv-loop μ-loop
-slice-reshare-prefix-written c = (c .before .before .before .before .before .before .before .before .feed .ensures .right (c .before .before .before .before .before .before .before .before .before .before .before .before .before .before .before .loop .inv .2 ∙ c .before .before .before .before .before .before .before .before .before .before .before .before .before .before .before .loop .inv .5)) .went .filled
+slice-reshare-prefix-written c = filled (c .before .before .before .before .before .before .before .before .feed .ensures .right (c .before .before .before .before .before .before .before .before .before .before .before .before .before .before .before .loop .inv .2 ∙ c .before .before .before .before .before .before .before .before .before .before .before .before .before .before .before .loop .inv .5))
 
 slice-aggregate-written : tie.Need-slice-aggregate-written Inv-loop μ-loop
-slice-aggregate-written c = sym (length-take-le (c .before .before .before .before .before .before .before .before .before .feed .result .made) (c .before .before .before .before .before .before .before .before .before .feed .last .1 .1 .1 .1 .1 .1 .0) ((c .before .before .before .before .before .before .before .before .before .feed .ensures .right (c .before .before .before .before .before .before .before .before .before .before .before .before .before .before .before .before .loop .inv .2 ∙ c .before .before .before .before .before .before .before .before .before .before .before .before .before .before .before .before .loop .inv .5)) .went .filled))
+slice-aggregate-written c = sym (length-take-le (c .before .before .before .before .before .before .before .before .before .feed .result .made) (c .before .before .before .before .before .before .before .before .before .feed .last .1 .1 .1 .1 .1 .1 .0) (filled (c .before .before .before .before .before .before .before .before .before .feed .ensures .right (c .before .before .before .before .before .before .before .before .before .before .before .before .before .before .before .before .loop .inv .2 ∙ c .before .before .before .before .before .before .before .before .before .before .before .before .before .before .before .before .loop .inv .5))))
 
 written-requires : tie.Need-written-requires Inv-loop μ-loop
 written-requires c κs = search needs
@@ -66,14 +66,14 @@ same-length-4 : tie.Need-same-length-4 Inv-loop μ-loop
 same-length-4 c = c .before .before .before .before .before .before .before .before .before .before .before .feed .kept .1 .1 .1 .1 .1 .1 .0 ∙ c .before .before .before .before .before .before .before .before .before .before .before .before .before .before .before .before .before .before .loop .inv .3
 
 returns : tie.Need-returns Inv-loop μ-loop
-returns c = λ e. clash (sym e)
+returns c = let k = c .before .before .before .before .before .before .before .before .before .before .before .before .before .before .before .before .before .before .loop in stopped (c .before .before .before .before .before .before .before .before .before .before .before .before .before .before .before .before .before .before .before .before .before .before .before .args .input .now) (k .from) (k .inv .7) (c .before .before .before .before .before .before .before .before .before .before .before .before .before .before .before .before .before .loop-test .taken) (c .before .before .before .before .before .before .before .before .before .before .before .feed .ensures .right (c .before .before .before .before .before .before .before .before .before .before .before .before .before .before .before .before .before .before .loop .inv .2 ∙ c .before .before .before .before .before .before .before .before .before .before .before .before .before .before .before .before .before .before .loop .inv .5))
 
 loop-less : tie.Need-loop-less Inv-loop μ-loop
 loop-less c = omega (arith, within c, some c)
 
 loop-again : tie.Need-loop-again Inv-loop μ-loop
 loop-again c = let k = c .before .before .before .before .before .before .before .before .before .before .before .before .before .before .before .before .before .before .loop in
-    (c .before .before .before .before .before .before .before .before .before .before .before .feed .kept .0 ∙ k .inv .0, c .before .before .before .before .before .before .before .before .before .before .before .feed .kept .1 .0 ∙ k .inv .1, c .before .before .before .before .before .before .before .before .before .before .before .feed .kept .1 .1 .0 ∙ k .inv .2, c .before .before .before .before .before .before .before .before .before .before .before .feed .kept .1 .1 .1 .1 .1 .1 .0 ∙ k .inv .3, within c, k .inv .5, k .inv .6, fed-further _ _ _ (c .before .before .before .before .before .before .before .before .before .before .before .before .before .before .before .before .before .before .before .before .before .before .before .args .input .now) (k .from) (c .before .before .before .before .before .before .before .before .before .before .before .feed .result .used) (k .inv .7) ((c .before .before .before .before .before .before .before .before .before .before .before .feed .ensures .right (c .before .before .before .before .before .before .before .before .before .before .before .before .before .before .before .before .before .before .loop .inv .2 ∙ c .before .before .before .before .before .before .before .before .before .before .before .before .before .before .before .before .before .before .loop .inv .5)) .went .after))
+    (c .before .before .before .before .before .before .before .before .before .before .before .feed .kept .0 ∙ k .inv .0, c .before .before .before .before .before .before .before .before .before .before .before .feed .kept .1 .0 ∙ k .inv .1, c .before .before .before .before .before .before .before .before .before .before .before .feed .kept .1 .1 .0 ∙ k .inv .2, c .before .before .before .before .before .before .before .before .before .before .before .feed .kept .1 .1 .1 .1 .1 .1 .0 ∙ k .inv .3, within c, k .inv .5, k .inv .6, fed-further _ _ _ (c .before .before .before .before .before .before .before .before .before .before .before .before .before .before .before .before .before .before .before .before .before .before .before .args .input .now) (k .from) (c .before .before .before .before .before .before .before .before .before .before .before .feed .result .used) (k .inv .7) ((c .before .before .before .before .before .before .before .before .before .before .before .feed .ensures .right (c .before .before .before .before .before .before .before .before .before .before .before .before .before .before .before .before .before .before .loop .inv .2 ∙ c .before .before .before .before .before .before .before .before .before .before .before .before .before .before .before .before .before .before .loop .inv .5)) .after))
 
 same-length-5 : tie.Need-same-length-5 Inv-loop μ-loop
 same-length-5 c = c .before .loop .inv .0
@@ -88,7 +88,7 @@ same-length-8 : tie.Need-same-length-8 Inv-loop μ-loop
 same-length-8 c = c .before .loop .inv .3
 
 returns-2 : tie.Need-returns-2 Inv-loop μ-loop
-returns-2 c = λ e. fed-whole _ _ (c .before .before .before .before .before .before .args .input .now) (c .before .loop .from) (c .before .loop .inv .7) (c .loop-test .left)
+returns-2 c = let k = c .before .loop in ended (c .before .before .before .before .before .before .args .input .now) (k .from) (k .inv .7) (k .inv .4) (c .loop-test .left)
 
 pub say-spec : {M : Type 1} → statement M
 say-spec =

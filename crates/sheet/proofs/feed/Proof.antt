@@ -1,20 +1,19 @@
--- At every turn the state and the output are what the bytes so far make of them; a turn is one byte. Assumes nothing.
+-- At every turn the state and the output are what the bytes so far make of them, and what is taken in all is these and what is taken of the rest; a turn is one byte. Assumes nothing.
 use borrow.Author.Needs.{needs}
 use native.Mathlib.Omega.{arith}
 use lib.ListN.{length, take}
 use Prim.Native.Nat.{_+_, _-_}
 use mathlib.Core.Path.{_≡_, refl, sym, _∙_}
-use mathlib.Core.Logic.{_⊎_, inl, inr, ⊎-elim}
+use mathlib.Core.Logic.{⊎-elim}
 use Rattle.statement.specs.Machine.{state}
 use Rattle.sheet_law.specs.Sheet.{sheetState}
-use Rattle.sheet.specs.Feeds.{Went}
 use Rattle.sheet_law.specs.Reads.{KEPT}
-use Rattle.sheet.proofs.Turns.{begins, joins, ends-unread, ends-read, fits-true, fits-false}
+use Rattle.sheet.proofs.Turns.{Going, begins, joins, ends-unread, ends-read, at-the-end, at-a-newline, fits-true, fits-false}
 use Rattle.sheet.proofs.feed.Statement.{statement}
 use Rattle.sheet.proofs.feed.Tie as tie
 
 abbrev Inv-loop : tie.InvT-loop
-Inv-loop words₀ room₀ kept₀ lines₀ count₀ input out₀ used₀ made₀ words room kept lines count out used made = (length kept ≡ KEPT) × (length words ≡ length words₀) × (length room ≡ length room₀) × (length out ≡ length out₀) × (length kept₀ ≡ KEPT) × Went (sheetState lines₀ (take count₀ kept₀) (state words₀ room₀)) input used (sheetState lines (take count kept) (state words room)) out made
+Inv-loop words₀ room₀ kept₀ lines₀ count₀ input out₀ used₀ made₀ words room kept lines count out used made = (length kept ≡ KEPT) × (length words ≡ length words₀) × (length room ≡ length room₀) × (length out ≡ length out₀) × (length kept₀ ≡ KEPT) × Going (sheetState lines₀ (take count₀ kept₀) (state words₀ room₀)) input used (sheetState lines (take count kept) (state words room)) out₀ out made
 
 abbrev μ-loop : tie.MeasureT-loop
 μ-loop words₀ room₀ kept₀ lines₀ count₀ input out₀ used₀ made₀ words room kept lines count out used made = length input - used
@@ -42,7 +41,7 @@ loop-less c = omega (arith, c .before .before .before .before .before .before .l
 
 loop-again : tie.Need-loop-again Inv-loop μ-loop
 loop-again c = let k = c .before .before .before .before .before .before .before .loop in
-    (c .before .before .keep .kept .0 ∙ k .inv .0, k .inv .1, k .inv .2, k .inv .3, k .inv .4, joins _ _ (k .used) (k .lines) (take (k .count) (k .kept)) (state (k .words) (k .room)) (k .out) (k .made) (k .inv .5) (c .before .before .before .before .before .before .loop-test .taken) (c .before .before .before .before .if2 .taken) _ (c .before .before .keep .ensures))
+    (c .before .before .keep .kept .0 ∙ k .inv .0, k .inv .1, k .inv .2, k .inv .3, k .inv .4, joins _ _ (k .used) (k .lines) (take (k .count) (k .kept)) (state (k .words) (k .room)) _ (k .out) (k .made) (k .inv .5) (c .before .before .before .before .before .before .loop-test .taken) (c .before .before .before .before .if2 .taken) _ (c .before .before .keep .ensures))
 
 fits-requires : tie.Need-fits-requires Inv-loop μ-loop
 fits-requires c κs = search needs
@@ -75,7 +74,7 @@ loop-again-2 c = let k = c .before .before .before .before .before .before .befo
   k .inv .2,
   c .before .before .print-unread .kept .0 ∙ k .inv .3,
   k .inv .4,
-  ends-unread _ _ (k .used) (k .lines) (take (k .count) (k .kept)) (state (k .words) (k .room)) (k .out) (k .made) (k .inv .5) (c .before .before .before .before .before .before .before .before .before .before .before .before .before .before .loop-test .taken) (c .before .before .before .before .before .before .before .before .before .before .before .before .if2 .left) room _ _ (c .before .before .print-unread .kept .0) _ (c .before .before .before .before .before .before .before .before .wrapping-add-u64 .ensures) (sym (c .before .before .before .before .before .before .line-in .ensures) ∙ c .before .before .before .before .enum-told .given .1) (c .before .before .print-unread .ensures .put room),
+  ends-unread _ _ (k .used) (k .lines) (take (k .count) (k .kept)) (state (k .words) (k .room)) _ (k .out) (k .made) (k .inv .5) (c .before .before .before .before .before .before .before .before .before .before .before .before .before .before .loop-test .taken) (c .before .before .before .before .before .before .before .before .before .before .before .before .if2 .left) room (k .inv .3) _ _ _ (c .before .before .before .before .before .before .before .before .wrapping-add-u64 .ensures) (sym (c .before .before .before .before .before .before .line-in .ensures) ∙ c .before .before .before .before .enum-told .given .1) (c .before .before .print-unread .ensures .put room),
 )
 
 play-requires : tie.Need-play-requires Inv-loop μ-loop
@@ -94,7 +93,7 @@ loop-again-3 c = let k = c .before .before .before .before .before .before .befo
   c .before .before .before .before .before .before .before .play .kept .1 .0 ∙ k .inv .2,
   c .before .before .print-reply .kept .0 ∙ k .inv .3,
   k .inv .4,
-  ends-read _ _ (k .used) (k .lines) (take (k .count) (k .kept)) (state (k .words) (k .room)) (k .out) (k .made) (k .inv .5) (c .before .before .before .before .before .before .before .before .before .before .before .before .before .before .before .before .before .before .before .before .before .loop-test .taken) (c .before .before .before .before .before .before .before .before .before .before .before .before .before .before .before .before .before .before .before .if2 .left) room _ _ (c .before .before .print-reply .kept .0) _ (c .before .before .before .before .before .before .before .before .before .before .before .before .before .before .before .wrapping-add-u64 .ensures) _ (sym (c .before .before .before .before .before .before .before .before .before .before .before .before .before .line-in .ensures) ∙ c .before .before .before .before .before .before .before .before .before .before .before .command .given .1) _ _ (c .before .before .before .before .before .before .before .play .ensures) (c .before .before .print-reply .ensures .put room),
+  ends-read _ _ (k .used) (k .lines) (take (k .count) (k .kept)) (state (k .words) (k .room)) _ (k .out) (k .made) (k .inv .5) (c .before .before .before .before .before .before .before .before .before .before .before .before .before .before .before .before .before .before .before .before .before .loop-test .taken) (c .before .before .before .before .before .before .before .before .before .before .before .before .before .before .before .before .before .before .before .if2 .left) room (k .inv .3) _ _ _ (c .before .before .before .before .before .before .before .before .before .before .before .before .before .before .before .wrapping-add-u64 .ensures) _ (sym (c .before .before .before .before .before .before .before .before .before .before .before .before .before .line-in .ensures) ∙ c .before .before .before .before .before .before .before .before .before .before .before .command .given .1) _ _ (c .before .before .before .before .before .before .before .play .ensures) (c .before .before .print-reply .ensures .put room),
 )
 
 progress-requires-2 : tie.Need-progress-requires-2 Inv-loop μ-loop
@@ -115,13 +114,10 @@ same-length-4 c = c .before .before .loop .inv .3
 returns-2 : tie.Need-returns-2 Inv-loop μ-loop
 returns-2 c = let k = c .before .before .loop in
     rw (c .progress2 .ensures) (record {
-      right = λ e. record {
-        went = k .inv .5;
-        stops = ⊎-elim
-            (λ t. inl (omega (arith, t .left, k .inv .5 .taken)))
-            (λ t. inr (t .0 .taken, t .2 .left, fits-false (k .made + 74) (length (k .out)) (t .4 .result) (t .4 .ensures) (t .5 .taken)))
-            (c .before .loop-test .came);
-      };
+      right = λ e. ⊎-elim
+          (λ t. at-the-end (k .inv .5) (t .left))
+          (λ t. at-a-newline (k .inv .5) (t .0 .taken) (t .2 .left) (omega (arith, k .inv .3, fits-false (k .made + 74) (length (k .out)) (t .4 .result) (t .4 .ensures) (t .5 .taken))))
+          (c .before .loop-test .came);
       wrong = λ ne. absurd (ne (c .before .before .before .if1 .left));
     })
 

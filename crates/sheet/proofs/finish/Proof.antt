@@ -1,9 +1,9 @@
 -- A line that was begun is fed a newline; where none was, nothing is left to say. Assumes nothing.
 use borrow.Author.Needs.{needs}
 use lib.ListN.{length}
-use mathlib.Core.Path.{refl, sym, ap}
-use mathlib.Core.Logic.{inl}
-use Rattle.sheet.proofs.Turns.{begins, ending-none, ending-some}
+use mathlib.Core.Path.{refl, ap}
+use native.Mathlib.Omega.{arith}
+use Rattle.sheet.proofs.Turns.{begins, at-the-end, ending-none, ending-some}
 use Rattle.sheet.proofs.finish.Statement.{statement}
 use Rattle.sheet.proofs.finish.Tie as tie
 
@@ -11,7 +11,7 @@ progress-requires : tie.Need-progress-requires
 progress-requires c κs = search needs
 
 returns : tie.Need-returns
-returns c = rw (c .progress .ensures) (record { right = λ e. record { went = begins _ _ _; stops = inl (sym (ap length (ending-none (c .before .before .before .before .before .args .kept .now) (c .before .before .before .before .before .args .count) (c .before .if1 .taken)))) }; wrong = λ ne. (refl, refl, refl, refl) })
+returns c = rw (c .progress .ensures) (record { right = λ e. at-the-end (begins _ _ _) (omega (arith, ap length (ending-none (c .before .before .before .before .before .args .kept .now) (c .before .before .before .before .before .args .count) (c .before .if1 .taken)))); wrong = λ ne. (refl, refl, refl, refl) })
 
 slice-aggregate-feed : tie.Need-slice-aggregate-feed
 slice-aggregate-feed c = search needs
