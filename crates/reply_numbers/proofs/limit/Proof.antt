@@ -4,17 +4,20 @@ use lib.ListN.{getD}
 use mathlib.Core.Path.{_≡_, refl, ap}
 use mathlib.Core.List.{List, [], _∷_}
 use Prim.Native.Nat.{ℕ}
-use Rattle.calls.specs.Numbers.{PITCH-LOW, PITCH-HIGH, FEATHERED}
+use Rattle.calls.specs.Numbers.{KIND-NEW, KIND-OLD, READERS-MAX, PUBLISHERS-MAX, SLOTS-MIN, SLOTS-MAX, TABLE, PITCH-LOW, PITCH-HIGH, FEATHERED, NOT-READING}
 use Rattle.calls.specs.Answer.{pitchNumber}
-use Rattle.rahuvyte.specs.Numbers.{limits}
-use Rattle.rahuvyte.proofs.limit.Statement.{statement}
-use Rattle.rahuvyte.proofs.limit.Tie as tie
-use Rattle.rahuvyte.proofs.limit.Reads as reads
-use Rattle.rahuvyte.proofs.limit.Lts as lts
-use Rattle.rahuvyte.proofs.pitch_number.Reads as pitch-number-reads
+use Rattle.layout.specs.Layout.{WORDS}
+use Rattle.grace_version_law.specs.Steps as new-store
+use Rattle.two_phase_law.specs.Steps as old-store
+use Rattle.reply_numbers.specs.Numbers.{limits}
+use Rattle.reply_numbers.proofs.limit.Statement.{statement}
+use Rattle.reply_numbers.proofs.limit.Tie as tie
+use Rattle.reply_numbers.proofs.limit.Reads as reads
+use Rattle.reply_numbers.proofs.limit.Lts as lts
+use Rattle.reply_numbers.proofs.pitch_number.Reads as pitch-number-reads
 
 numbers-are : (a b d : ℕ) → a ≡ pitchNumber PITCH-LOW → b ≡ pitchNumber PITCH-HIGH → d ≡ pitchNumber FEATHERED
-    → 425 ∷ 1 ∷ 2 ∷ 64 ∷ 16 ∷ 2 ∷ 32 ∷ 32 ∷ a ∷ b ∷ d ∷ 18446744073709551615 ∷ 18446744073709551614 ∷ 9223372036854775807 ∷ [] ≡ limits
+    → WORDS ∷ KIND-NEW ∷ KIND-OLD ∷ READERS-MAX ∷ PUBLISHERS-MAX ∷ SLOTS-MIN ∷ SLOTS-MAX ∷ TABLE ∷ a ∷ b ∷ d ∷ NOT-READING ∷ new-store.LAST ∷ old-store.LAST ∷ [] ≡ limits
 numbers-are a b d e f g = rw (e, f, g) refl
 
 pitch-number-requires : tie.Need-pitch-number-requires

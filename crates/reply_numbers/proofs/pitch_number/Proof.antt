@@ -13,10 +13,10 @@ use lib.Signed.{leZ, nonNeg, mag}
 use Rattle.calls.specs.Numbers.{NUMBER-MAX}
 use Rattle.calls.specs.RowLaws.{clash}
 use Rattle.calls.specs.Answer.{pitchNumber}
-use Rattle.rahuvyte.proofs.pitch_number.Statement.{statement}
-use Rattle.rahuvyte.proofs.pitch_number.Tie as tie
-use Rattle.rahuvyte.proofs.pitch_number.Reads as reads
-use Rattle.rahuvyte.proofs.pitch_number.Lts as lts
+use Rattle.reply_numbers.proofs.pitch_number.Statement.{statement}
+use Rattle.reply_numbers.proofs.pitch_number.Tie as tie
+use Rattle.reply_numbers.proofs.pitch_number.Reads as reads
+use Rattle.reply_numbers.proofs.pitch_number.Lts as lts
 
 -- From 0 up a pitch is its own number.
 plain : (v : ℤ) → leZ (pos 0) v ≡ true → mag v < 32768 → T (nonNeg v) × Fits w64 (natAbs v)

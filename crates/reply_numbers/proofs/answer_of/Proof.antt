@@ -4,13 +4,13 @@ use mathlib.Core.Path.{sym, ap, _∙_}
 use mir.ValLaws.{toZ-ofZ}
 use mir.Syntax.{w16}
 use Rattle.calls.specs.Answer.{answerOf}
-use Rattle.rahuvyte.proofs.answer_of.Statement.{statement}
-use Rattle.rahuvyte.proofs.answer_of.Tie as tie
-use Rattle.rahuvyte.proofs.answer_of.Reads as reads
-use Rattle.rahuvyte.proofs.answer_of.Lts as lts
-use Rattle.rahuvyte.proofs.numbers.Reads as numbers-reads
-use Rattle.rahuvyte.proofs.pitch_number.Reads as pitch-number-reads
-use Rattle.rahuvyte.proofs.walk_answer.Reads as walk-answer-reads
+use Rattle.reply_numbers.proofs.answer_of.Statement.{statement}
+use Rattle.reply_numbers.proofs.answer_of.Tie as tie
+use Rattle.reply_numbers.proofs.answer_of.Reads as reads
+use Rattle.reply_numbers.proofs.answer_of.Lts as lts
+use Rattle.reply_numbers.proofs.numbers.Reads as numbers-reads
+use Rattle.reply_numbers.proofs.pitch_number.Reads as pitch-number-reads
+use Rattle.reply_numbers.proofs.walk_answer.Reads as walk-answer-reads
 
 enum-told : tie.Need-enum-told
 enum-told c = search needs

@@ -2,11 +2,11 @@
 use borrow.Author.Needs.{needs}
 use mathlib.Core.Path.{sym, ap, _∙_}
 use Rattle.calls.specs.Answer.{walkAnswer}
-use Rattle.rahuvyte.proofs.walk_answer.Statement.{statement}
-use Rattle.rahuvyte.proofs.walk_answer.Tie as tie
-use Rattle.rahuvyte.proofs.walk_answer.Reads as reads
-use Rattle.rahuvyte.proofs.walk_answer.Lts as lts
-use Rattle.rahuvyte.proofs.numbers.Reads as numbers-reads
+use Rattle.reply_numbers.proofs.walk_answer.Statement.{statement}
+use Rattle.reply_numbers.proofs.walk_answer.Tie as tie
+use Rattle.reply_numbers.proofs.walk_answer.Reads as reads
+use Rattle.reply_numbers.proofs.walk_answer.Lts as lts
+use Rattle.reply_numbers.proofs.numbers.Reads as numbers-reads
 
 enum-known-reply : tie.Need-enum-known-reply
 enum-known-reply c = search needs
