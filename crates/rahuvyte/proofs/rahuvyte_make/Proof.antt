@@ -6,7 +6,7 @@ use Rattle.rahuvyte.proofs.rahuvyte_make.Tie as tie
 use Rattle.rahuvyte.proofs.rahuvyte_make.Reads as reads
 use Rattle.rahuvyte.proofs.rahuvyte_make.Lts as lts
 use Rattle.kinds.proofs.make.Reads as make-reads
-use Rattle.rahuvyte.proofs.answer_of.Reads as answer-of-reads
+use Rattle.reply_numbers.proofs.answer_of.Reads as answer-of-reads
 
 make-requires : tie.Need-make-requires
 make-requires c κs = search needs

@@ -1,0 +1,66 @@
+-- `pitch_number` meets its contract: from 0 up a pitch is its own number; a negative v stands -1 - v below 2^64 - 1. Assumes nothing.
+use native.Mathlib.Omega.{arith}
+use mir.Val.{SFits, Fits}
+use mir.Syntax.{w16, w64}
+use mir.ValLaws.{toZ-ofZ}
+use mathlib.Core.Path.{_≡_, refl, sym, _∙_}
+use mathlib.Core.Bool.{true, false}
+use borrow.Author.Tests.{le-ltb, le-leb}
+use lib.Dec.{T}
+use Prim.Native.Nat.{ℕ, suc, _-_, _<_}
+use lib.IntN.{ℤ, pos, negsuc, natAbs, _-ℤ_}
+use lib.Signed.{leZ, nonNeg, mag}
+use Rattle.calls.specs.Numbers.{NUMBER-MAX}
+use Rattle.calls.specs.RowLaws.{clash}
+use Rattle.calls.specs.Answer.{pitchNumber}
+use Rattle.reply_numbers.proofs.pitch_number.Statement.{statement}
+use Rattle.reply_numbers.proofs.pitch_number.Tie as tie
+use Rattle.reply_numbers.proofs.pitch_number.Reads as reads
+use Rattle.reply_numbers.proofs.pitch_number.Lts as lts
+
+-- From 0 up a pitch is its own number.
+plain : (v : ℤ) → leZ (pos 0) v ≡ true → mag v < 32768 → T (nonNeg v) × Fits w64 (natAbs v)
+plain (pos n) e l = (tt, record { fits = omega arith })
+plain (negsuc n) e l = clash (sym e)
+
+plain-number : (v : ℤ) → leZ (pos 0) v ≡ true → natAbs v ≡ pitchNumber v
+plain-number (pos n) e = refl
+plain-number (negsuc n) e = clash (sym e)
+
+-- Below, -1 - v is how far it stands below -1.
+below : (n : ℕ) → negsuc 0 -ℤ negsuc n ≡ pos n
+below n = let e : suc n - 1 ≡ n = omega arith in rw (le-ltb (suc n) 1 (omega arith), e) refl
+
+lower : (v : ℤ) → leZ (pos 0) v ≡ false → mag v < 32768 → SFits w16 (negsuc 0 -ℤ v)
+lower (pos n) e l = clash (sym (le-leb 0 n (omega arith)) ∙ e)
+lower (negsuc n) e l = record { sfits = rw (below n) l }
+
+lower-sign : (v : ℤ) → leZ (pos 0) v ≡ false → mag v < 32768 → T (nonNeg (negsuc 0 -ℤ v)) × Fits w64 (natAbs (negsuc 0 -ℤ v))
+lower-sign (pos n) e l = clash (sym (le-leb 0 n (omega arith)) ∙ e)
+lower-sign (negsuc n) e l = rw (below n) (tt, record { fits = omega arith })
+
+lower-number : (v : ℤ) → leZ (pos 0) v ≡ false → NUMBER-MAX - natAbs (negsuc 0 -ℤ v) ≡ pitchNumber v
+lower-number (pos n) e = clash (sym (le-leb 0 n (omega arith)) ∙ e)
+lower-number (negsuc n) e = rw (below n) refl
+
+cast-result : tie.Need-cast-result
+cast-result c = let t = simp (toZ-ofZ _ _ (c .before .fits .v)) at (c .if1 .taken) in simp (toZ-ofZ _ _ (c .before .fits .v)) (plain (c .before .args .v) t (c .before .fits .v .sfits))
+
+returns : tie.Need-returns
+returns c = let t = simp (toZ-ofZ _ _ (c .before .fits .v)) at (c .if1 .taken) in simp (toZ-ofZ _ _ (c .before .fits .v)) (plain-number (c .before .args .v) t)
+
+sub-result : tie.Need-sub-result
+sub-result c = let t = simp (toZ-ofZ _ _ (c .before .fits .v)) at (c .if1 .left) in simp (toZ-ofZ _ _ (c .before .fits .v)) (lower (c .before .args .v) t (c .before .fits .v .sfits))
+
+cast-result-2 : tie.Need-cast-result-2
+cast-result-2 c = let t = simp (toZ-ofZ _ _ (c .before .fits .v)) at (c .if1 .left) in let f = lower (c .before .args .v) t (c .before .fits .v .sfits) in simp (toZ-ofZ _ _ (c .before .fits .v), toZ-ofZ _ _ f) (lower-sign (c .before .args .v) t (c .before .fits .v .sfits))
+
+sub-result-2 : tie.Need-sub-result-2
+sub-result-2 c = let t = simp (toZ-ofZ _ _ (c .before .fits .v)) at (c .if1 .left) in let f = lower (c .before .args .v) t (c .before .fits .v .sfits) in simp (toZ-ofZ _ _ (c .before .fits .v), toZ-ofZ _ _ f) (omega (arith, lower-sign (c .before .args .v) t (c .before .fits .v .sfits) .1))
+
+returns-2 : tie.Need-returns-2
+returns-2 c = let t = simp (toZ-ofZ _ _ (c .before .fits .v)) at (c .if1 .left) in let f = lower (c .before .args .v) t (c .before .fits .v .sfits) in simp (toZ-ofZ _ _ (c .before .fits .v), toZ-ofZ _ _ f) (lower-number (c .before .args .v) t)
+
+pub pitch-number-spec : {M : Type 1} → statement M
+pitch-number-spec =
+    tie.close (tie.spec cast-result returns sub-result cast-result-2 sub-result-2 returns-2)

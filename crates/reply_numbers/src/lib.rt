@@ -1,0 +1,177 @@
+// The numbers that C gets: a reply as three of them, and those that the header names, one after another, for its test.
+// The public functions are total. specs/: the header's numbers as lists.
+// It uses the damage crates of both kinds, which have the last versions, and what lies below.
+ghost use mathlib.Core.Path.{_≡_};
+ghost use Prim.Native.Nat.{_<_};
+ghost use lib.ListN.{length, getD};
+ghost use Rattle.calls.specs.Answer.{answer, pitchNumber, walkAnswer, answerOf};
+ghost use Rattle.reply_numbers.specs.Numbers.{limits, refusals, codes, numberOf};
+use calls::Answer;
+use calls::NUMBER_MAX;
+use calls::Pitch;
+use calls::Reply;
+use calls::WalkReply;
+
+// A pitch in 64 bits: v, and 2^64 + v where v is negative.
+fn pitch_number(v: Pitch) -> u64
+    ensures { λ n. ⌜ n ≡ pitchNumber v ⌝ }
+{
+    if v >= 0 {
+        return v as u64;
+    }
+    NUMBER_MAX - (-1 - v) as u64
+}
+
+// Three numbers.
+fn numbers(code: u64, first: u64, second: u64) -> Answer
+    ensures { λ a. ⌜ a ≡ answer code first second ⌝ }
+{
+    Answer {
+        code: code,
+        first: first,
+        second: second,
+    }
+}
+
+// The numbers of a walk's answer.
+fn walk_answer(reply: WalkReply) -> Answer
+    ensures { λ a. ⌜ a ≡ walkAnswer reply ⌝ }
+{
+    match reply {
+        WalkReply::Waiting(w) => numbers(calls::CODE_WAITING, w, 0),
+        WalkReply::Spent => numbers(calls::CODE_SPENT, 0, 0),
+        WalkReply::Quiet => numbers(calls::CODE_QUIET, 0, 0),
+        WalkReply::Returned(l, w) => numbers(calls::CODE_RETURNED, l, w),
+    }
+}
+
+// The numbers of a reply.
+pub fn answer_of(reply: Reply) -> Answer
+    ensures { λ a. ⌜ a ≡ answerOf reply ⌝ }
+{
+    match reply {
+        Reply::Made => numbers(calls::CODE_MADE, 0, 0),
+        Reply::At(n) => numbers(calls::CODE_AT, n, 0),
+        Reply::Pitch(v) => numbers(calls::CODE_PITCH, pitch_number(v), 0),
+        Reply::Left => numbers(calls::CODE_LEFT, 0, 0),
+        Reply::Claimed(s) => numbers(calls::CODE_CLAIMED, s, 0),
+        Reply::Written(n) => numbers(calls::CODE_WRITTEN, n, 0),
+        Reply::Swapped(s) => numbers(calls::CODE_SWAPPED, s, 0),
+        Reply::Synced(m) => numbers(calls::CODE_SYNCED, m, 0),
+        Reply::Raised => numbers(calls::CODE_RAISED, 0, 0),
+        Reply::Shared => numbers(calls::CODE_SHARED, 0, 0),
+        Reply::Walked(o) => walk_answer(o),
+        Reply::Freed(s, n) => numbers(calls::CODE_FREED, s, n),
+        Reply::Refused(n) => numbers(n, 0, 0),
+    }
+}
+
+// How many numbers of each sort the header names.
+const LIMITS: usize = 14;
+
+const REFUSALS: usize = 17;
+
+const CODES: usize = 15;
+
+// Where the refusals and the codes begin among them, and where all end.
+const FIRST_REFUSAL: usize = LIMITS;
+
+const FIRST_CODE: usize = FIRST_REFUSAL + REFUSALS;
+
+const END: usize = FIRST_CODE + CODES;
+
+// The sizes and limits that it names.
+fn limit(which: usize) -> u64
+    requires { ⌜ which < length limits ⌝ }
+    ensures { λ n. ⌜ n ≡ getD limits which 0 ⌝ }
+{
+    let low = pitch_number(calls::PITCH_LOW);
+    let high = pitch_number(calls::PITCH_HIGH);
+    let feathered = pitch_number(calls::FEATHERED);
+    let numbers: [u64; LIMITS] = [
+        layout::WORDS as u64,
+        calls::KIND_NEW,
+        calls::KIND_OLD,
+        calls::READERS_MAX as u64,
+        calls::PUBLISHERS_MAX as u64,
+        calls::SLOTS_MIN as u64,
+        calls::SLOTS_MAX as u64,
+        calls::TABLE as u64,
+        low,
+        high,
+        feathered,
+        calls::NOT_READING,
+        grace_version_damage::LAST,
+        two_phase_damage::LAST,
+    ];
+    numbers[which]
+}
+
+// The refusal numbers.
+fn refusal(which: usize) -> u64
+    requires { ⌜ which < length refusals ⌝ }
+    ensures { λ n. ⌜ n ≡ getD refusals which 0 ⌝ }
+{
+    let numbers: [u64; REFUSALS] = [
+        calls::DAMAGED,
+        calls::BAD_READERS,
+        calls::BAD_PUBLISHERS,
+        calls::BAD_SLOTS,
+        calls::BAD_ENTRIES,
+        calls::BAD_VERSION,
+        calls::NO_SUCH_READER,
+        calls::NO_SUCH_PUBLISHER,
+        calls::NO_SUCH_SLOT,
+        calls::NO_SUCH_ENTRY,
+        calls::BAD_PITCH,
+        calls::READER_TURN,
+        calls::PUBLISHER_TURN,
+        calls::SLOT_IN_USE,
+        calls::BUSY,
+        calls::VERSION_IS_LAST,
+        calls::TOO_MANY_LOOKS,
+    ];
+    numbers[which]
+}
+
+// The codes of the replies.
+fn code(which: usize) -> u64
+    requires { ⌜ which < length codes ⌝ }
+    ensures { λ n. ⌜ n ≡ getD codes which 0 ⌝ }
+{
+    let numbers: [u64; CODES] = [
+        calls::CODE_MADE,
+        calls::CODE_AT,
+        calls::CODE_PITCH,
+        calls::CODE_LEFT,
+        calls::CODE_CLAIMED,
+        calls::CODE_WRITTEN,
+        calls::CODE_SWAPPED,
+        calls::CODE_SYNCED,
+        calls::CODE_RAISED,
+        calls::CODE_SHARED,
+        calls::CODE_WAITING,
+        calls::CODE_SPENT,
+        calls::CODE_QUIET,
+        calls::CODE_RETURNED,
+        calls::CODE_FREED,
+    ];
+    numbers[which]
+}
+
+// The numbers that the header names, one after another; past the last 0.
+pub fn number(which: u16) -> u64
+    ensures { λ n. ⌜ n ≡ numberOf which ⌝ }
+{
+    let i = which as usize;
+    if i < FIRST_REFUSAL {
+        return limit(i);
+    }
+    if i < FIRST_CODE {
+        return refusal(i - FIRST_REFUSAL);
+    }
+    if i < END {
+        return code(i - FIRST_CODE);
+    }
+    0
+}
