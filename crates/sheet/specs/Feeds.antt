@@ -31,7 +31,7 @@ taken room d [] = 0
 taken room d (b ∷ t) = pick (stopsAt room b) 0 (suc (taken (room - length (saidAt d b)) (byte d b) t))
 
 -- From the state d, `used` bytes of the input are taken; e is the state after them, and `made` bytes are printed for them, at the start of the output. Behind
--- those the output is as before. The kept bytes beyond the line's are left open.
+-- those the output is as before. Left open are the kept bytes beyond the line's, and how far a count goes above them all.
 pub record Feeds (d : SheetState) (input : List ℕ) (used : ℕ) (e : SheetState) (before out : List ℕ) (made : ℕ) : Type 0 where
   pub takes : used ≡ taken (length before) d input
   pub after : e ≡ fed d (take used input)
