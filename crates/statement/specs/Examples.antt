@@ -1,5 +1,5 @@
 -- Examples as data: calls played from a making, and the replies that are due.
-use Prim.Native.Nat.{ℕ, _*_}
+use Prim.Native.Nat.{ℕ, zero, suc, _+_, _*_}
 use mathlib.Core.Path.{_≡_}
 use mathlib.Core.Bool.{Bool, true, _&&_}
 use mathlib.Core.List.{List, [], _∷_, _++_}
@@ -62,6 +62,14 @@ tableOf p x v = Claim p x ∷ replicate TABLE (Write p v)
 
 abbrev pub publication : ℕ → ℕ → ℤ → List Call
 publication p x v = tableOf p x v ++ (Swap p ∷ [])
+
+-- A whole table of 32 different pitches by publisher p into slot x: v, v + 1 and so on.
+abbrev pub writesFrom : ℕ → ℕ → ℕ → List Call
+writesFrom p v zero = []
+writesFrom p v (suc n) = Write p (pos v) ∷ writesFrom p (v + 1) n
+
+abbrev pub tableFrom : ℕ → ℕ → ℕ → List Call
+tableFrom p x v = Claim p x ∷ writesFrom p v TABLE
 
 -- Examples that name no kind.
 -- P9: pitches -500, 9500 accepted; -501, 9501 get 14.
