@@ -33,10 +33,18 @@ repliesAfter M ok s (d ∷ ds) cs = let o = M .step s d in repliesAfter M (ok &&
 abbrev pub played : Machine → Given → List Call → List Call → List Reply
 played M g ds cs = let o = M .making g (lentFor g) in o .reply ∷ repliesAfter M true (o .after) ds cs
 
--- An example: calls that lead there, the calls shown, and the replies due; or a call, its reply, and that it leaves the whole state unchanged.
+-- The reply to each of some calls on one and the same state.
+abbrev pub answers : Machine → State → List Call → List Reply
+answers M s [] = []
+answers M s (c ∷ cs) = M .step s c .reply ∷ answers M s cs
+
+-- An example: calls that lead there, the calls shown, and the replies due; or a call, its reply, and that it leaves the whole state unchanged;
+-- or a making on what is lent to it, and its reply; or a state put together by hand, calls that are each made on it, and their replies.
 pub data Example : Type 0 where
   shows : Machine → Given → List Call → List Call → List Reply → Example
   unchanged : Machine → Given → List Call → Call → Reply → Example
+  makes : Machine → Given → State → Reply → Example
+  each : Machine → State → List Call → List Reply → Example
 
 abbrev pub leadTo : Machine → Given → List Call → State
 leadTo M g ds = afterAll M (M .making g (lentFor g) .after) ds
@@ -44,6 +52,8 @@ leadTo M g ds = afterAll M (M .making g (lentFor g) .after) ds
 abbrev pub Holds : Example → Type 0
 Holds (shows M g ds cs due) = played M g ds cs ≡ due
 Holds (unchanged M g ds c a) = (played M g ds (c ∷ []) ≡ Made ∷ a ∷ []) × (M .step (leadTo M g ds) c .after ≡ leadTo M g ds)
+Holds (makes M g s a) = M .making g s .reply ≡ a
+Holds (each M s cs due) = answers M s cs ≡ due
 
 abbrev pub AllHold : List Example → Type 0
 AllHold [] = Unit {0}

@@ -3,5 +3,6 @@ pub mod Demand3
 pub mod Companions
 pub mod Kept
 pub mod Examples
+pub mod Precedence
 pub mod Alike
 pub mod Refute
