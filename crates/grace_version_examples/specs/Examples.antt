@@ -9,7 +9,7 @@ use Rattle.calls.specs.declared.WalkReply.the-variants.{Waiting, Spent, Returne
 use Rattle.calls.specs.Rows.{anyBelow}
 use Rattle.layout.specs.Layout.{readerAt, publisherAt, withReader, withPublisher, withReaders, fresh}
 use Rattle.statement.specs.Machine.{given}
-use Rattle.statement.specs.Examples.{Example, AllHold, leadTo, enters, tableOf, publication, P9, P10}
+use Rattle.statement.specs.Examples.{Example, AllHold, leadTo, enters, publication, tableFrom, P9, P10}
 use Rattle.statement.specs.Examples.Example.{shows, unchanged}
 use Rattle.publication_law.specs.Rules.{damaged, step, making}
 use Rattle.grace_version_law.specs.Steps.{rules, GraceVersion, onward, looksFrom}
@@ -69,11 +69,13 @@ P11 = shows GraceVersion (given 1 2 3 0) (enters 4 0 ++ publication 0 1 (pos 100
 abbrev pub P12 : Example
 P12 = shows GraceVersion (given 1 1 2 0) (enters 3 0) (Leave 0 ∷ Enter 0 ∷ Leave 0 ∷ []) (Made ∷ Refused 20 ∷ At 4 ∷ Left ∷ [])
 
--- One whole publication, with every reply from SWAP on: SWAP and RELEASE reply with the former slot.
+-- One whole publication of 32 different pitches, with every reply from SWAP on: SWAP and RELEASE reply with the former slot.
+-- What was picked before the SWAP has the first table after it; what is picked after the RELEASE has each entry of the new one.
 abbrev pub whole : Example
-whole = shows GraceVersion (given 1 1 2 0) (tableOf 0 1 (pos 100))
-    (Swap 0 ∷ Sync 0 ∷ Raise 0 ∷ Walk 0 1 ∷ Release 0 ∷ [])
-    (Made ∷ Swapped 0 ∷ Synced 1 ∷ Raised ∷ Walked (Returned 1 0) ∷ Freed 0 1 ∷ [])
+whole = shows GraceVersion (given 1 1 2 0) (enters 5 0 ++ tableFrom 0 1 100)
+    (Swap 0 ∷ Look 0 1 ∷ Leave 0 ∷ Sync 0 ∷ Raise 0 ∷ Walk 0 1 ∷ Release 0 ∷ enters 5 0 ++ (Look 0 0 ∷ Look 0 1 ∷ Look 0 30 ∷ Look 0 31 ∷ []))
+    (Made ∷ Swapped 0 ∷ Pitch (pos 9000) ∷ Left ∷ Synced 1 ∷ Raised ∷ Walked (Returned 1 0) ∷ Freed 0 1 ∷ At 1 ∷ At 2 ∷ At 3 ∷ At 4 ∷ At 5
+    ∷ Pitch (pos 100) ∷ Pitch (pos 101) ∷ Pitch (pos 130) ∷ Pitch (pos 131) ∷ [])
 
 -- The examples of document 01 that are about the new store or name no kind; and one whole publication.
 unfoldable pub examples : List Example

@@ -1,6 +1,6 @@
 -- Two machines are alike if they have the same making, and the same steps on every state that the first reaches from a fresh one.
 -- What is promised of the first after every list of calls is then true of the second: its events and states are the same ones; and so is every example
--- that begins with an accepted making. Assumes nothing.
+-- that is a making, begins with an accepted one, or is of a state on which their steps are the same. Assumes nothing.
 use mathlib.Core.Path.{_≡_, refl, sym, ap, _∙_}
 use mathlib.Core.Bool.{Bool, true, _&&_}
 use mathlib.Core.List.{List, [], _∷_}
@@ -16,8 +16,8 @@ use Rattle.calls.specs.Tally.{Tally}
 use Rattle.statement.specs.Machine.{State, outcome, Given, Machine, Fresh, events, afterAll}
 use Rattle.statement.specs.Demand3.{Demand3}
 use Rattle.statement.specs.Companions.{Traits, MakingAccepts, MakesFresh, StateCompanions, Companions}
-use Rattle.statement.specs.Examples.{lentFor, replies, repliesAfter, played, leadTo, Example, Holds, AllHold}
-use Rattle.statement.specs.Examples.Example.{shows, unchanged}
+use Rattle.statement.specs.Examples.{lentFor, replies, repliesAfter, played, answers, leadTo, Example, Holds, AllHold}
+use Rattle.statement.specs.Examples.Example.{shows, unchanged, makes, each}
 
 pub record Alike (M N : Machine) : Type 0 where
   pub makings : (g : Given) (s : State) → N .making g s ≡ M .making g s
@@ -27,6 +27,8 @@ pub record Alike (M N : Machine) : Type 0 where
 abbrev pub by : Machine → Example → Example
 by N (shows M g ds cs due) = shows N g ds cs due
 by N (unchanged M g ds c a) = unchanged N g ds c a
+by N (makes M g s a) = makes N g s a
+by N (each M s cs due) = each N s cs due
 
 abbrev pub allBy : Machine → List Example → List Example
 allBy N [] = []
@@ -36,14 +38,20 @@ abbrev firstReply : List Reply → Reply
 firstReply [] = Left
 firstReply (a ∷ rest) = a
 
--- An example of M that begins with an accepted making.
-abbrev Begins : Machine → Example → Type 0
-Begins M (shows L g ds cs due) = (L ≡ M) × (firstReply due ≡ Made)
-Begins M (unchanged L g ds c a) = L ≡ M
+-- The steps of M and N are the same on one state.
+abbrev pub SameAt : Machine → Machine → State → Type 0
+SameAt M N s = (c : Call) → N .step s c ≡ M .step s c
 
-abbrev pub AllBegin : Machine → List Example → Type 0
-AllBegin M [] = Unit {0}
-AllBegin M (x ∷ xs) = Begins M x × AllBegin M xs
+-- What makes an example of M one of N: it begins with an accepted making, it is a making, or their steps are the same on its state.
+abbrev Carries : Machine → Machine → Example → Type 0
+Carries M N (shows L g ds cs due) = (L ≡ M) × (firstReply due ≡ Made)
+Carries M N (unchanged L g ds c a) = L ≡ M
+Carries M N (makes L g s a) = L ≡ M
+Carries M N (each L s cs due) = (L ≡ M) × SameAt M N s
+
+abbrev pub AllCarry : Machine → Machine → List Example → Type 0
+AllCarry M N [] = Unit {0}
+AllCarry M N (x ∷ xs) = Carries M N x × AllCarry M N xs
 
 module _ (M N : Machine) where
   -- From one state on: the steps are the same on every state that the first reaches from there.
@@ -61,6 +69,10 @@ module _ (M N : Machine) where
   replies-same : (s : State) → Agree s → (cs : List Call) → replies N s cs ≡ replies M s cs
   replies-same s e [] = refl
   replies-same s e (c ∷ cs) = rw (e [] c, replies-same (M .step s c .after) (λ ds d. e (c ∷ ds) d) cs) refl
+
+  answers-same : (s : State) → SameAt M N s → (cs : List Call) → answers N s cs ≡ answers M s cs
+  answers-same s e [] = refl
+  answers-same s e (c ∷ cs) = rw (e c, answers-same s e cs) refl
 
   led-same : (ok : Bool) (s : State) → Agree s → (ds cs : List Call) → repliesAfter N ok s ds cs ≡ repliesAfter M ok s ds cs
   led-same ok s e [] cs = rw (replies-same s e cs) refl
@@ -144,10 +156,12 @@ module _ (M N : Machine) where
           rw (lead-alike g ds e, A .steps _ (made-fresh g (lentFor g) e) ds c) (h .1),
         )
 
-    holds-alike : (x : Example) → Begins M x → Holds x → Holds (by N x)
+    holds-alike : (x : Example) → Carries M N x → Holds x → Holds (by N x)
     holds-alike (shows L g ds cs due) b h = shows-alike g ds cs due (b .1) (rw (b .0) at h)
     holds-alike (unchanged L g ds c a) b h = unchanged-alike g ds c a (rw b at h)
+    holds-alike (makes L g s a) b h = rw (A .makings g s) (rw b at h)
+    holds-alike (each L s cs due) b h = answers-same s (b .1) cs ∙ (rw (b .0) at h)
 
-    pub all-hold-alike : (xs : List Example) → AllBegin M xs → AllHold xs → AllHold (allBy N xs)
+    pub all-hold-alike : (xs : List Example) → AllCarry M N xs → AllHold xs → AllHold (allBy N xs)
     all-hold-alike [] b h = tt
     all-hold-alike (x ∷ xs) b h = (holds-alike x (b .0) (h .0), all-hold-alike xs (b .1) (h .1))

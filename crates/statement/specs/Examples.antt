@@ -1,5 +1,5 @@
 -- Examples as data: calls played from a making, and the replies that are due.
-use Prim.Native.Nat.{ℕ, _*_}
+use Prim.Native.Nat.{ℕ, zero, suc, _+_, _*_}
 use mathlib.Core.Path.{_≡_}
 use mathlib.Core.Bool.{Bool, true, _&&_}
 use mathlib.Core.List.{List, [], _∷_, _++_}
@@ -33,10 +33,18 @@ repliesAfter M ok s (d ∷ ds) cs = let o = M .step s d in repliesAfter M (ok &&
 abbrev pub played : Machine → Given → List Call → List Call → List Reply
 played M g ds cs = let o = M .making g (lentFor g) in o .reply ∷ repliesAfter M true (o .after) ds cs
 
--- An example: calls that lead there, the calls shown, and the replies due; or a call, its reply, and that it leaves the whole state unchanged.
+-- The reply to each of some calls on one and the same state.
+abbrev pub answers : Machine → State → List Call → List Reply
+answers M s [] = []
+answers M s (c ∷ cs) = M .step s c .reply ∷ answers M s cs
+
+-- An example: calls that lead there, the calls shown, and the replies due; or a call, its reply, and that it leaves the whole state unchanged;
+-- or a making on what is lent to it, and its reply; or a state put together by hand, calls that are each made on it, and their replies.
 pub data Example : Type 0 where
   shows : Machine → Given → List Call → List Call → List Reply → Example
   unchanged : Machine → Given → List Call → Call → Reply → Example
+  makes : Machine → Given → State → Reply → Example
+  each : Machine → State → List Call → List Reply → Example
 
 abbrev pub leadTo : Machine → Given → List Call → State
 leadTo M g ds = afterAll M (M .making g (lentFor g) .after) ds
@@ -44,6 +52,8 @@ leadTo M g ds = afterAll M (M .making g (lentFor g) .after) ds
 abbrev pub Holds : Example → Type 0
 Holds (shows M g ds cs due) = played M g ds cs ≡ due
 Holds (unchanged M g ds c a) = (played M g ds (c ∷ []) ≡ Made ∷ a ∷ []) × (M .step (leadTo M g ds) c .after ≡ leadTo M g ds)
+Holds (makes M g s a) = M .making g s .reply ≡ a
+Holds (each M s cs due) = answers M s cs ≡ due
 
 abbrev pub AllHold : List Example → Type 0
 AllHold [] = Unit {0}
@@ -62,6 +72,14 @@ tableOf p x v = Claim p x ∷ replicate TABLE (Write p v)
 
 abbrev pub publication : ℕ → ℕ → ℤ → List Call
 publication p x v = tableOf p x v ++ (Swap p ∷ [])
+
+-- A whole table of 32 different pitches by publisher p into slot x: v, v + 1 and so on.
+abbrev pub writesFrom : ℕ → ℕ → ℕ → List Call
+writesFrom p v zero = []
+writesFrom p v (suc n) = Write p (pos v) ∷ writesFrom p (v + 1) n
+
+abbrev pub tableFrom : ℕ → ℕ → ℕ → List Call
+tableFrom p x v = Claim p x ∷ writesFrom p v TABLE
 
 -- Examples that name no kind.
 -- P9: pitches -500, 9500 accepted; -501, 9501 get 14.

@@ -4,5 +4,6 @@ pub mod Frame
 pub mod Companions
 pub mod Kept
 pub mod Examples
+pub mod Precedence
 pub mod Alike
 pub mod Refute

@@ -3,13 +3,13 @@ use mathlib.Core.Path.{_≡_, refl}
 use mathlib.Core.List.{List, [], _∷_, _++_}
 use lib.IntN.{pos}
 use Rattle.calls.specs.declared.Call.{Call}
-use Rattle.calls.specs.declared.Call.the-variants.{Enter, Claim, Swap, Sync, Raise, Walk, Release}
-use Rattle.calls.specs.declared.Reply.the-variants.{Made, Swapped, Synced, Raised, Walked, Freed, Refused}
+use Rattle.calls.specs.declared.Call.the-variants.{Enter, Look, Leave, Claim, Swap, Sync, Raise, Walk, Release}
+use Rattle.calls.specs.declared.Reply.the-variants.{Made, At, Pitch, Left, Swapped, Synced, Raised, Walked, Freed, Refused}
 use Rattle.calls.specs.declared.WalkReply.the-variants.{Waiting, Spent, Quiet, Returned}
 use Rattle.calls.specs.Rows.{anyBelow, countBelow}
 use Rattle.layout.specs.Layout.{indicator, readerAt, publisherAt, withReader, withPublisher, withReaders, fresh}
 use Rattle.statement.specs.Machine.{given}
-use Rattle.statement.specs.Examples.{Example, AllHold, leadTo, enters, tableOf, publication, P9, P10}
+use Rattle.statement.specs.Examples.{Example, AllHold, leadTo, enters, publication, tableFrom, P9, P10}
 use Rattle.statement.specs.Examples.Example.{shows, unchanged}
 use Rattle.publication_law.specs.Rules.{damaged, step, making}
 use Rattle.two_phase_law.specs.Steps.{rules, TwoPhase, onward, lookAt}
@@ -35,11 +35,13 @@ P11 = shows TwoPhase (given 1 2 3 0) (enters 2 0 ++ publication 0 1 (pos 100))
     (Sync 0 ∷ Walk 0 9 ∷ Raise 0 ∷ Walk 0 9 ∷ Claim 1 2 ∷ [])
     (Made ∷ Synced 1 ∷ Walked Quiet ∷ Raised ∷ Walked (Waiting 0) ∷ Refused 31 ∷ [])
 
--- One whole publication, with every reply from SWAP on: SWAP and RELEASE reply with the former slot.
+-- One whole publication of 32 different pitches, with every reply from SWAP on: SWAP and RELEASE reply with the former slot.
+-- What was picked before the SWAP has the first table after it; what is picked after the RELEASE has each entry of the new one.
 abbrev pub whole : Example
-whole = shows TwoPhase (given 1 1 2 0) (tableOf 0 1 (pos 100))
-    (Swap 0 ∷ Sync 0 ∷ Walk 0 1 ∷ Raise 0 ∷ Walk 0 1 ∷ Release 0 ∷ [])
-    (Made ∷ Swapped 0 ∷ Synced 1 ∷ Walked Quiet ∷ Raised ∷ Walked (Returned 2 0) ∷ Freed 0 1 ∷ [])
+whole = shows TwoPhase (given 1 1 2 0) (enters 3 0 ++ tableFrom 0 1 100)
+    (Swap 0 ∷ Look 0 1 ∷ Leave 0 ∷ Sync 0 ∷ Walk 0 1 ∷ Raise 0 ∷ Walk 0 1 ∷ Release 0 ∷ enters 3 0 ++ (Look 0 0 ∷ Look 0 1 ∷ Look 0 30 ∷ Look 0 31 ∷ []))
+    (Made ∷ Swapped 0 ∷ Pitch (pos 9000) ∷ Left ∷ Synced 1 ∷ Walked Quiet ∷ Raised ∷ Walked (Returned 2 0) ∷ Freed 0 1 ∷ At 1 ∷ At 4 ∷ At 5
+    ∷ Pitch (pos 100) ∷ Pitch (pos 101) ∷ Pitch (pos 130) ∷ Pitch (pos 131) ∷ [])
 
 -- The examples of document 01 that are about the old store or name no kind; and one whole publication.
 unfoldable pub examples : List Example

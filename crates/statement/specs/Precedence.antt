@@ -1,0 +1,82 @@
+-- The order of the refusals, by examples that name no kind. Where a call or making gets a number, the next row of document 01's table applies to it too:
+-- the one after it differs in one thing, so that the first row no longer applies, and gets the number of the next.
+use Prim.Native.Nat.{ℕ, _+_}
+use mathlib.Core.List.{List, [], _∷_, _++_}
+use lib.IntN.{pos}
+use lib.ListN.{replicate}
+use Rattle.calls.specs.declared.Call.the-variants.{Enter, Look, Claim, Write, Swap, Sync, Walk, Release}
+use Rattle.calls.specs.declared.Reply.the-variants.{Made, Swapped, Walked, Freed, Refused}
+use Rattle.calls.specs.declared.WalkReply.the-variants.{Spent}
+use Rattle.layout.specs.declared.Publisher.{Publisher}
+use Rattle.layout.specs.Layout.{WORDS, withCurrent, withPublisher}
+use Rattle.statement.specs.Machine.{State, state, Given, given, Machine}
+use Rattle.statement.specs.Examples.{Example, lentFor, tableOf}
+use Rattle.statement.specs.Examples.Example.{shows, makes, each}
+
+-- Words and entries lent to a making, all 0.
+abbrev lent : ℕ → ℕ → State
+lent words entries = state (replicate words 0) (replicate entries (pos 0))
+
+-- Making: 1 before 2, 2 before 3, 3 before 4, 4 before 5, 5 before 6. At first nothing is as it must be: words, readers, publishers, slots, entries, version.
+abbrev pub makingRows : Machine → ℕ → List Example
+makingRows M last =
+    makes M (given 0 0 1 (last + 1)) (lent 424 31) (Refused 1)
+    ∷ makes M (given 0 0 1 (last + 1)) (lent WORDS 31) (Refused 2)
+    ∷ makes M (given 1 0 1 (last + 1)) (lent WORDS 31) (Refused 3)
+    ∷ makes M (given 1 1 1 (last + 1)) (lent WORDS 31) (Refused 4)
+    ∷ makes M (given 1 1 2 (last + 1)) (lent WORDS 31) (Refused 5)
+    ∷ makes M (given 1 1 2 (last + 1)) (lent WORDS 64) (Refused 6)
+    ∷ makes M (given 1 1 2 last) (lent WORDS 64) Made
+    ∷ []
+
+-- LOOK at place 0: 10 before 13, 13 before 20.
+abbrev pub lookRows : Machine → Example
+lookRows M = shows M (given 1 1 2 0) [] (Look 1 32 ∷ Look 0 32 ∷ Look 0 31 ∷ []) (Made ∷ Refused 10 ∷ Refused 13 ∷ Refused 20 ∷ [])
+
+-- CLAIM when publisher 0 holds slot 1: 11 before 12, 12 before 21.
+abbrev pub claimRows : Machine → Example
+claimRows M = shows M (given 1 2 3 0) (Claim 0 1 ∷ []) (Claim 2 3 ∷ Claim 0 3 ∷ Claim 0 2 ∷ []) (Made ∷ Refused 11 ∷ Refused 12 ∷ Refused 21 ∷ [])
+
+-- WRITE at place 0: 11 before 14, 14 before 21.
+abbrev pub writeRows : Machine → Example
+writeRows M = shows M (given 1 1 2 0) []
+    (Write 1 (pos 9501) ∷ Write 0 (pos 9501) ∷ Write 0 (pos 9500) ∷ [])
+    (Made ∷ Refused 11 ∷ Refused 14 ∷ Refused 21 ∷ [])
+
+-- SYNC at the last version, at place 33 and at 34: 21 before 32.
+abbrev pub syncRows : Machine → ℕ → Example
+syncRows M last = shows M (given 1 1 2 last) (tableOf 0 1 (pos 100)) (Sync 0 ∷ Swap 0 ∷ Sync 0 ∷ []) (Made ∷ Refused 21 ∷ Swapped 0 ∷ Refused 32 ∷ [])
+
+-- States put together by hand: a fresh store, and what is changed in it.
+abbrev pub freshOf : Machine → Given → State
+freshOf M g = M .making g (lentFor g) .after
+
+abbrev pub withPublisherAs : State → ℕ → Publisher → State
+withPublisherAs s p y = state (withPublisher (s .words) p y) (s .entries)
+
+abbrev pub withCurrentAs : State → ℕ → State
+withCurrentAs s x = state (withCurrent (s .words) x) (s .entries)
+
+abbrev pub small : Given
+small = given 1 1 2 0
+
+-- A current slot that there is not, of a store with two, and then slot 0: 1 before 10, 1 before 11.
+abbrev pub spoiledRows : Machine → List Example
+spoiledRows M =
+    each M (withCurrentAs (freshOf M small) 2) (Enter 1 ∷ Swap 1 ∷ []) (Refused 1 ∷ Refused 1 ∷ [])
+    ∷ shows M small [] (Enter 1 ∷ Swap 1 ∷ []) (Made ∷ Refused 10 ∷ Refused 11 ∷ [])
+    ∷ []
+
+-- WALK of a publisher that has made 2^64 - 1 looks, at place 38 and at 37: 21 before 33. Neither store is damaged: a RELEASE and a WALK 0 are accepted.
+abbrev pub looked : ℕ → Publisher
+looked place = record { place = place; held = 1; walk = record { mark = 1; next = 0; looks = 18446744073709551615; waits = 0 } }
+
+abbrev pub walkRows : Machine → List Example
+walkRows M =
+    each M (withPublisherAs (freshOf M small) 0 (looked 38)) (Walk 0 1 ∷ Release 0 ∷ []) (Refused 21 ∷ Freed 1 1 ∷ [])
+    ∷ each M (withPublisherAs (freshOf M small) 0 (looked 37)) (Walk 0 1 ∷ Walk 0 0 ∷ []) (Refused 33 ∷ Walked Spent ∷ [])
+    ∷ []
+
+-- All of them, of a kind with this last version.
+abbrev pub sharedRows : Machine → ℕ → List Example
+sharedRows M last = makingRows M last ++ (spoiledRows M ++ (walkRows M ++ (lookRows M ∷ claimRows M ∷ writeRows M ∷ syncRows M last ∷ [])))
