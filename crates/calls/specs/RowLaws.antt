@@ -213,3 +213,47 @@ count-upd f g (suc n) r lt h = go (eqb n r) refl (λ l. count-upd f g n r l h)
         rw (one (g n) (countBelow g n), one (f n) (countBelow f n), e, alike r (omega arith)) (omega arith)
     go false d rec = let q = eqb-false n r d in let z = rec (omega arith) in
         rw (one (g n) (countBelow g n), one (f n) (countBelow f n), h n d) (omega arith)
+
+-- One or the other of two tests holds of at most as many numbers as each by itself, taken together.
+count-or : (f g : ℕ → Bool) (n : ℕ) → countBelow (λ i. f i || g i) n ≤ countBelow f n + countBelow g n
+unfolding countBelow
+count-or f g zero = omega arith
+count-or f g (suc n) = go (f n) (g n) (count-or f g n)
+  where
+    go : (a b : Bool) → countBelow (λ i. f i || g i) n ≤ countBelow f n + countBelow g n
+        → pick (a || b) (suc (countBelow (λ i. f i || g i) n)) (countBelow (λ i. f i || g i) n) ≤ pick a (suc (countBelow f n)) (countBelow f n) + pick b (suc (countBelow g n)) (countBelow g n)
+    go true true l = omega arith
+    go true false l = omega arith
+    go false true l = omega arith
+    go false false l = l
+
+-- At most one number is a.
+count-one : (a n : ℕ) → countBelow (λ i. eqb a i) n ≤ 1
+unfolding countBelow
+count-one a zero = omega arith
+count-one a (suc n) = go (eqb a n) refl (count-one a n)
+  where
+    go : (b : Bool) → eqb a n ≡ b → countBelow (λ i. eqb a i) n ≤ 1 → pick b (suc (countBelow (λ i. eqb a i) n)) (countBelow (λ i. eqb a i) n) ≤ 1
+    go true d l = omega (arith, count-none (λ i. eqb a i) n (λ i lt. by-test (eqb a i) (λ e. omega (arith, eqb-true a n d, eqb-true a i e))))
+    go false d l = l
+
+-- A test that holds of fewer than n numbers below n fails at one of them.
+count-short : (f : ℕ → Bool) (n : ℕ) → countBelow f n < n → (i : ℕ) × (i < n) × (f i ≡ false)
+unfolding countBelow
+count-short f zero l = absurd (omega arith)
+count-short f (suc n) l = go (f n) refl (λ m. count-short f n m)
+  where
+    go : (b : Bool) → f n ≡ b → (countBelow f n < n → (i : ℕ) × (i < n) × (f i ≡ false)) → (i : ℕ) × (i < suc n) × (f i ≡ false)
+    go true d rec = let m : suc (countBelow f n) < suc n = rw d at l in let z = rec (omega arith) in (z .0, omega (arith, z .1), z .2)
+    go false d rec = (n, omega arith, d)
+
+-- m numbers hit at most m of those below n; if m is less than n, they miss one.
+count-hit : (c : ℕ → ℕ) (m n : ℕ) → countBelow (λ x. anyBelow (λ q. eqb (c q) x) m) n ≤ m
+unfolding anyBelow
+count-hit c zero n = omega (arith, count-none (λ x. false) n (λ i l. refl))
+count-hit c (suc m) n = omega (arith, count-or (λ x. anyBelow (λ q. eqb (c q) x) m) (λ x. eqb (c m) x) n, count-hit c m n, count-one (c m) n)
+
+pub missed : (c : ℕ → ℕ) (m n : ℕ) → m < n → (x : ℕ) × (x < n) × ((q : ℕ) → q < m → eqb (c q) x ≡ false)
+missed c m n l =
+    let z = count-short (λ x. anyBelow (λ q. eqb (c q) x) m) n (omega (arith, count-hit c m n)) in
+    (z .0, z .1, λ q lt. none-below (λ q. eqb (c q) (z .0)) m q (z .2) lt)

@@ -24,6 +24,7 @@ use Rattle.layout.specs.Layout.{readers, publishers, slots, current, readerAt}
 use Rattle.statement.specs.Machine.{State, Given, Fresh, events, afterAll, heldSlot}
 use Rattle.statement.specs.Demand3.{Demand3}
 use Rattle.statement.specs.Kept.{Ghost, ghost₀, all-tally}
+use Rattle.statement.specs.FreeSlot.{FindsFreeSlot}
 use Rattle.publication_law.specs.Steps.{reader, publisher, inUse}
 use Rattle.publication_law.specs.Rules.{damaged, act, rows, step}
 use Rattle.publication_law.specs.DamageLaws.{Fine}
@@ -32,6 +33,7 @@ use Rattle.publication_law.specs.Decide.{decide-why}
 use Rattle.publication_law.specs.Lawful.{Good}
 use Rattle.publication_law.specs.Detector.{OwnOf}
 use Rattle.publication_law.specs.Promises.{Promises, promises-of, WalkFacts, walk-facts}
+use Rattle.publication_law.specs.FreeSlot.{finds-free-slot-of}
 use Rattle.grace_version_law.specs.Steps.{LAST, kind, lookedAt, looksOf, rules, GraceVersion}
 use Rattle.grace_version_law.specs.Traits.{traits}
 use Rattle.grace_version_law.specs.Walks.{Ends, Looked, looked, spent-if}
@@ -127,3 +129,7 @@ waits-published z g s i p b r e =
 pub new-waits-for : (s : State) (f : Fresh GraceVersion s) (cs : List Call) (p b r : ℕ)
     → step rules (afterAll GraceVersion s cs) (Walk p b) .reply ≡ Walked (Waiting r) → 2 ≤ tallyOf (events GraceVersion s cs) .place r
 new-waits-for s f cs p b r e = rw (← all-tally (ghost₀ (traits .first (f .arguments))) (events GraceVersion s cs)) (waits-published _ _ _ (new-reached s f cs) p b r e)
+
+-- With more slots than publishers, a publisher that holds nothing always finds a free slot, and its claim of that slot is accepted.
+pub new-finds-free-slot : FindsFreeSlot GraceVersion
+new-finds-free-slot = finds-free-slot-of rules traits lawful refl

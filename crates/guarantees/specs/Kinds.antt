@@ -19,6 +19,7 @@ use Rattle.statement.specs.Machine.{State, state, Given, Fresh, events, afterAl
 use Rattle.statement.specs.Demand3.{Demand3}
 use Rattle.statement.specs.Frame.{Frame}
 use Rattle.statement.specs.Companions.{MakingAccepts, MakesFresh, RefusedLeaves, Companions}
+use Rattle.statement.specs.FreeSlot.{FindsFreeSlot, finds-free-slot-alike}
 use Rattle.statement.specs.Alike.{fresh-alike, after-alike, events-alike, demand3-alike, companions-alike, making-accepts-alike, makes-fresh-alike}
 use Rattle.publication_law.specs.DamageLaws.{zero-damaged}
 use Rattle.publication_law.specs.Steps.{publisher}
@@ -89,6 +90,10 @@ zero-store-damaged k es = zero-damaged (rulesOf k) es
 -- The new store may not refuse another publisher as busy: a claim on an undamaged one, reached or not, is refused only for a wrong name, a wrong turn or a slot in use.
 pub claim-refusals : (s : State) (p x n : ℕ) → damaged (rulesOf new) s ≡ false → anyStep s (Claim p x) .reply ≡ Refused n → new-promises.ClaimRefusal s p x n
 claim-refusals s p x n fine e = new-promises.new-claim-refusals s p x n fine (rw (step-named new s (Claim p x) (undamaged-fine (rulesOf new) s fine .head .kind-is)) at e)
+
+-- With more slots than publishers, a publisher of the new store that holds nothing always finds a free slot, and its claim of that slot is accepted.
+pub finds-free-slot : FindsFreeSlot (store (number new))
+finds-free-slot = finds-free-slot-alike (storeOf new) (store (number new)) (alike new) new-promises.new-finds-free-slot
 
 -- What a WALK says, on words of each kind: reply and record are those of the looks made; waiting names the one that did not pass, spent says that all b looks passed.
 pub walk-facts-new : (s : State) (p b : ℕ) → kind (s .words) ≡ number new → accepted (anyStep s (Walk p b) .reply) ≡ true

@@ -20,3 +20,4 @@ pub mod Detector
 pub mod Promises
 pub mod Varied
 pub mod Looks
+pub mod FreeSlot

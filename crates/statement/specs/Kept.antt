@@ -78,7 +78,7 @@ all-part part f along g ((c ⇒ a) ∷ es) = all-part part f along (next g (c �
 all-model : (g : Ghost) (es : List Event) → nextAll g es .model ≡ foldEvents shelve (g .model) es
 all-model = all-part (λ g. g .model) shelve (λ g c a. refl)
 
-all-told : (g : Ghost) (es : List Event) → nextAll g es .told ≡ foldEvents tell (g .told) es
+pub all-told : (g : Ghost) (es : List Event) → nextAll g es .told ≡ foldEvents tell (g .told) es
 all-told = all-part (λ g. g .told) tell (λ g c a. refl)
 
 pub all-tally : (g : Ghost) (es : List Event) → nextAll g es .tally ≡ foldEvents tally (g .tally) es

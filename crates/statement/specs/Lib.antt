@@ -7,3 +7,4 @@ pub mod Examples
 pub mod Precedence
 pub mod Alike
 pub mod Refute
+pub mod FreeSlot
