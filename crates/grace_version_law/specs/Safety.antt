@@ -21,7 +21,7 @@ use Rattle.layout.specs.declared.Reader.{Reader}
 use Rattle.layout.specs.declared.Publisher.{Publisher}
 use Rattle.layout.specs.declared.Walk.{Walk as WalkNumbers}
 use Rattle.layout.specs.Layout.{READERS-AT, readers, publishers, slots, current, version, readerAt, withReader}
-use Rattle.layout.specs.Laws.{fresh-head, fresh-reader}
+use Rattle.layout.specs.Laws.{head-reader, fresh-head, fresh-reader}
 use Rattle.statement.specs.Machine.{State, state, Given, Fresh, events, afterAll}
 use Rattle.statement.specs.Frame.{PlaceAndOne}
 use Rattle.statement.specs.Kept.{Ghost, Back}
@@ -284,6 +284,8 @@ lawful = record {
   left = λ s r. leaving (reader s r);
   leave-moves = λ s f r l. reader-moves f r (leaving (reader s r)) l;
   enter-place = λ s f r l low. onward-place (version (s .words)) (current (s .words)) (reader s r .place) (reader s r .first) (reader s r .second) (reader s r .published) (reader s r .picked) low;
+  enter-head = λ _ s r k l. head-reader (s .words) r (entered s r) k l;
+  leave-head = λ _ s r k l. head-reader (s .words) r (leaving (reader s r)) k l;
   enter-stays = λ s r low. onward-stays (version (s .words)) (current (s .words)) (reader s r .place) (reader s r .first) (reader s r .second) (reader s r .published) (reader s r .picked) low;
   leave-stays = λ s r. record { first = refl; second = refl; published = λ e. clash e; picked = refl };
   enter-kept = enter-kept;

@@ -5,14 +5,13 @@ use Rattle.calls.specs.Model.{firstTable}
 use Rattle.calls.specs.Tally.{inPhase}
 use Rattle.calls.specs.Tally.Phase.{synchronising, raised}
 use Rattle.statement.specs.Companions.{Traits}
-use Rattle.grace_version_law.specs.Steps.{LAST}
 
--- No version is above LAST; a return passes each reader once; a mark is one above the version; RAISE follows SYNC and WALK follows RAISE;
+-- The last version is 2^64 - 2; a return passes each reader once; a mark is one above the version; RAISE follows SYNC and WALK follows RAISE;
 -- ENTER goes 1, 2, 3, 4, 5; readers publish versions; a claim may stand beside others.
 abbrev pub traits : Traits
 traits = record {
   first = λ z. firstTable;
-  last = LAST;
+  last = 18446744073709551614;
   passes = λ z. z .readers;
   successor = λ v. v + 1;
   raisesIn = inPhase synchronising;

@@ -7,7 +7,7 @@ use mathlib.Core.List.{List}
 use lib.IntN.{ℤ, pos}
 use lib.ListN.{getD, replicate}
 use Rattle.calls.specs.declared.Call.{Call}
-use Rattle.calls.specs.declared.Call.the-variants.{Claim, Sync, Raise, Walk}
+use Rattle.calls.specs.declared.Call.the-variants.{Enter, Leave, Claim, Sync, Raise, Walk}
 use Rattle.calls.specs.declared.Reply.the-variants.{Walked, Refused}
 use Rattle.calls.specs.declared.WalkReply.the-variants.{Waiting, Spent}
 use Rattle.calls.specs.AnswerLaws.{NarrowPitch, Proper}
@@ -28,9 +28,11 @@ use Rattle.publication_law.specs.Calls.{undamaged-fine}
 use Rattle.publication_law.specs.Promises.{SyncFacts, RaiseFacts, WalkFacts}
 use Rattle.grace_version_law.specs.Steps as new-store
 use Rattle.grace_version_law.specs.Promises as new-promises
+use Rattle.grace_version_law.specs.Readers as new-readers
 use Rattle.two_phase_law.specs.Steps as old-store
 use Rattle.two_phase_law.specs.Counts.{Looked}
 use Rattle.two_phase_law.specs.Promises as old-promises
+use Rattle.two_phase_law.specs.Readers as old-readers
 use Rattle.kinds_law.specs.Kinds.{Name, rulesOf, number, named, anyStep, anyMaking, store}
 use Rattle.kinds_law.specs.Kinds.Name.{new, old}
 use Rattle.kinds_law.specs.Calls.{step-named}
@@ -103,6 +105,19 @@ walk-facts-new s p b is = rw (step-named new s (Walk p b) is) (new-promises.new-
 pub walk-facts-old : (s : State) (p b : ℕ) → kind (s .words) ≡ number old → accepted (anyStep s (Walk p b) .reply) ≡ true
     → let k = old-store.looksOf s (publisher s p) b in WalkFacts s p k (Looked (indicator (s .words) (old-store.watched (publisher s p))) (publisher s p) b k) (anyStep s (Walk p b))
 walk-facts-old s p b is = rw (step-named old s (Walk p b) is) (old-promises.old-walk-facts s p b)
+
+-- What an accepted ENTER and an accepted LEAVE leave of the reader and, old, of the indicators, on words of each kind.
+pub enter-facts-new : (s : State) (r : ℕ) → kind (s .words) ≡ number new → accepted (anyStep s (Enter r) .reply) ≡ true → new-readers.EnterFacts s r (anyStep s (Enter r))
+enter-facts-new s r is = rw (step-named new s (Enter r) is) (new-readers.new-enter-facts s r)
+
+pub leave-facts-new : (s : State) (r : ℕ) → kind (s .words) ≡ number new → accepted (anyStep s (Leave r) .reply) ≡ true → new-readers.LeaveFacts s r (anyStep s (Leave r))
+leave-facts-new s r is = rw (step-named new s (Leave r) is) (new-readers.new-leave-facts s r)
+
+pub enter-facts-old : (s : State) (r : ℕ) → kind (s .words) ≡ number old → accepted (anyStep s (Enter r) .reply) ≡ true → old-readers.EnterFacts s r (anyStep s (Enter r))
+enter-facts-old s r is = rw (step-named old s (Enter r) is) (old-readers.old-enter-facts s r)
+
+pub leave-facts-old : (s : State) (r : ℕ) → kind (s .words) ≡ number old → accepted (anyStep s (Leave r) .reply) ≡ true → old-readers.LeaveFacts s r (anyStep s (Leave r))
+leave-facts-old s r is = rw (step-named old s (Leave r) is) (old-readers.old-leave-facts s r)
 
 -- What an accepted SYNC and an accepted RAISE reply and store, on words of each kind.
 pub sync-facts : (k : Name) (s : State) (p : ℕ) → kind (s .words) ≡ number k → accepted (anyStep s (Sync p) .reply) ≡ true → SyncFacts (traits k .successor) s p (anyStep s (Sync p))

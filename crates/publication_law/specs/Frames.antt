@@ -3,7 +3,7 @@ use Prim.Native.Nat.{ℕ, zero, suc, _<_, _≤_}
 use native.Mathlib.Omega.{arith}
 use mathlib.Core.Path.{_≡_, refl, sym, ap, _∙_}
 use mathlib.Core.Logic.{_≢_}
-use mathlib.Core.Bool.{Bool, false}
+use mathlib.Core.Bool.{Bool, true, false, not, _&&_}
 use mathlib.Core.List.{List}
 use mathlib.Core.Option.{some}
 use lib.IntN.{ℤ}
@@ -60,7 +60,7 @@ upd-other : {A : Type 0} (f : ℕ → A) (i : ℕ) (a : A) (j : ℕ) → i ≢ j
 upd-other f i a j ne = rw (ne-eqb j i (λ z. ne (sym z))) refl
 
 publisher-framed : (b : Bool) (c : Call) (w w′ : List ℕ) (p : ℕ) (y : Publisher) (cur ver rel : ℕ) → MovesPublisher w w′ p y cur ver rel → publisherNamed c ≡ some p
-    → (publisherAt w′ p ≡ y → OwnStays b c w w′) → ((k : ℕ) → k < HEAD → headNamed c k ≡ false → getD w′ k 0 ≡ getD w k 0) → One w w′ → Framed b c w w′
+    → (publisherAt w′ p ≡ y → OwnStays b c w w′) → ((k : ℕ) → k < HEAD → headNamed b c k ≡ false → getD w′ k 0 ≡ getD w k 0) → One w w′ → Framed b c w w′
 publisher-framed b c w w′ p y cur ver rel m e own stays one = record {
   long = m .long;
   readers = λ r ne. ap (λ (f : ℕ → Reader). f r) (m .readers-stay);
@@ -71,16 +71,20 @@ publisher-framed b c w w′ p y cur ver rel m e own stays one = record {
 }
 
 -- ENTER and LEAVE, of whichever kind.
-pub reader-framed : (b : Bool) (c : Call) (w w′ : List ℕ) (r : ℕ) (x : Reader) → MovesReader w w′ r x → readerNamed c ≡ some r → headNamed c ≡ (λ k. ltb RELEASES-AT k)
-    → (readerAt w′ r ≡ x → OwnStays b c w w′) → Framed b c w w′
-reader-framed b c w w′ r x m e named own = record {
+pub reader-framed : (b : Bool) (c : Call) (w w′ : List ℕ) (r : ℕ) (x : Reader) → MovesReader w w′ r x → readerNamed c ≡ some r → headNamed b c ≡ (λ k. not b && ltb RELEASES-AT k)
+    → (b ≡ true → (k : ℕ) → k < HEAD → getD w′ k 0 ≡ getD w k 0) → (readerAt w′ r ≡ x → OwnStays b c w w′) → Framed b c w w′
+reader-framed b c w w′ r x m e named stays own = record {
   long = m .long;
   readers = λ q ne. ap (λ (f : ℕ → Reader). f q) (m .readers-are) ∙ upd-other (readerAt w) r x q (λ z. ne (e ∙ ap some z));
   publishers = λ p ne. ap (λ (f : ℕ → Publisher). f p) (m .publishers-stay);
   own = own (ap (λ (f : ℕ → Reader). f r) (m .readers-are) ∙ rw (same r) refl);
-  head = λ k l n. m .head k (ltb-false RELEASES-AT k (sym (ap (λ (f : ℕ → Bool). f k) named) ∙ n));
+  head = λ k l n. at-head b refl k l (sym (ap (λ (f : ℕ → Bool). f k) named) ∙ n);
   one = m .one;
 }
+  where
+    at-head : (a : Bool) → b ≡ a → (k : ℕ) → k < HEAD → (not a && ltb RELEASES-AT k) ≡ false → getD w′ k 0 ≡ getD w k 0
+    at-head true d k l n = stays d k l
+    at-head false d k l n = m .head k (ltb-false RELEASES-AT k n)
 
 -- A publisher of which only the place is new.
 place-only : (y y′ : Publisher) (n : ℕ) → y′ ≡ atPlace y n → HeldAndWalkStay y y′
@@ -94,7 +98,7 @@ module _ (b : Bool) (K : Kind) (s : State) (f : Fine K s) where
       (none-moved (s .words) (withPublisher (s .words) p y) (head-publisher (s .words) p y))
 
   -- .. and one that moves number j of the head besides.
-  head-framed : (c : Call) (p : ℕ) (y : Publisher) (j v : ℕ) → p < publishers (s .words) → CURRENT-AT ≤ j → j ≤ RELEASES-AT → publisherNamed c ≡ some p → headNamed c ≡ (λ k. eqb k j)
+  head-framed : (c : Call) (p : ℕ) (y : Publisher) (j v : ℕ) → p < publishers (s .words) → CURRENT-AT ≤ j → j ≤ RELEASES-AT → publisherNamed c ≡ some p → headNamed b c ≡ (λ k. eqb k j)
       → (publisherAt (set (withPublisher (s .words) p y) j v) p ≡ y → OwnStays b c (s .words) (set (withPublisher (s .words) p y) j v)) → Framed b c (s .words) (set (withPublisher (s .words) p y) j v)
   head-framed c p y j v lt low high e named own = publisher-framed b c _ _ p _ _ _ _ (publisher-moves-head f p y lt j v low high) e own
       (λ k l n. getD-set-other (withPublisher (s .words) p y) j k v 0 (eqb-false k j (sym (ap (λ (g : ℕ → Bool). g k) named) ∙ n)) ∙ head-publisher (s .words) p y k l) (one-moved (s .words) (withPublisher (s .words) p y) j v (head-publisher (s .words) p y))

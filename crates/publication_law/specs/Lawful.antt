@@ -30,7 +30,7 @@ use Rattle.calls.specs.Tally.{Phase, firstPlace}
 use Rattle.calls.specs.Tally.Phase.{idle, writing, swapped, returned}
 use Rattle.layout.specs.declared.Reader.{Reader}
 use Rattle.layout.specs.declared.Publisher.{Publisher}
-use Rattle.layout.specs.Layout.{READERS-AT, PUBLISHERS-AT, SLOTS-AT, CURRENT-AT, VERSION-AT, RELEASES-AT, readers, publishers, slots, current, version, blankReader, noPublisher}
+use Rattle.layout.specs.Layout.{HEAD, READERS-AT, PUBLISHERS-AT, SLOTS-AT, CURRENT-AT, VERSION-AT, RELEASES-AT, readers, publishers, slots, current, version, blankReader, noPublisher}
 use Rattle.layout.specs.Laws.{publisher-back, fresh-head, fresh-long, fresh-indicator, fresh-reader, fresh-publisher}
 use Rattle.statement.specs.Machine.{State, state, Outcome, outcome, Given, Fresh, events, afterAll}
 use Rattle.statement.specs.Demand3.{Demand3}
@@ -79,7 +79,9 @@ pub record Lawful (R : Rules) (T : Traits) : Type 1 where
   pub left : State → ℕ → Reader
   pub leave-moves : (s : State) → Fine (R .kind) s → (r : ℕ) → r < readers (s .words) → MovesReader (s .words) (R .leaveWords s r) r (left s r)
   pub enter-place : (s : State) → Fine (R .kind) s → (r : ℕ) → r < readers (s .words) → reader s r .place ≤ 4 → R .entered s r .place ≡ T .onward (reader s r .place)
-  -- which numbers of a reader ENTER and LEAVE move
+  -- which numbers ENTER and LEAVE move of the head, in a kind that publishes readers' versions, and of a reader
+  pub enter-head : T .publishes ≡ true → (s : State) (r k : ℕ) → k < HEAD → getD (R .enterWords s r) k 0 ≡ getD (s .words) k 0
+  pub leave-head : T .publishes ≡ true → (s : State) (r k : ℕ) → k < HEAD → getD (R .leaveWords s r) k 0 ≡ getD (s .words) k 0
   pub enter-stays : (s : State) (r : ℕ) → reader s r .place ≤ 4 → PlaceAndOne (reader s r) (R .entered s r)
   pub leave-stays : (s : State) (r : ℕ) → LeaveStays (T .publishes) (reader s r) (left s r)
   pub enter-kept : (z : Given) (g : Ghost) (s : State) → Good (R .kind) Own z g s → (r : ℕ) → AllClear (enterTests s r)
@@ -443,10 +445,10 @@ module _ (R : Rules) (T : Traits) (L : Lawful R T) where
 
   -- A call moves the record that it names, and no other.
   framed : (s : State) (c : Call) → AllClear (rows R s c) → Framed (T .publishes) c (s .words) (act R s c .after .words)
-  framed s (Enter r) f = reader-framed (T .publishes) (Enter r) _ _ r _ (L .enter-moves s (undamaged-fine R s (f .0)) r (leb-false _ _ (f .1 .0))) refl refl
+  framed s (Enter r) f = reader-framed (T .publishes) (Enter r) _ _ r _ (L .enter-moves s (undamaged-fine R s (f .0)) r (leb-false _ _ (f .1 .0))) refl refl (λ b. L .enter-head b s r)
       (λ e. subst (λ (x : Reader). PlaceAndOne (reader s r) x) (sym e) (L .enter-stays s r (let q = leb-false 5 (reader s r .place) (f .1 .1 .0) in omega arith)))
   framed s (Look r k) f = same-framed (T .publishes) (Look r k) (s .words)
-  framed s (Leave r) f = reader-framed (T .publishes) (Leave r) _ _ r _ (L .leave-moves s (undamaged-fine R s (f .0)) r (leb-false _ _ (f .1 .0))) refl refl
+  framed s (Leave r) f = reader-framed (T .publishes) (Leave r) _ _ r _ (L .leave-moves s (undamaged-fine R s (f .0)) r (leb-false _ _ (f .1 .0))) refl refl (λ b. L .leave-head b s r)
       (λ e. subst (λ (x : Reader). LeaveStays (T .publishes) (reader s r) x) (sym e) (L .leave-stays s r))
   framed s (Claim p x) f = claim-framed (T .publishes) (R .kind) s (undamaged-fine R s (f .0)) (R .exclusive) p x (f .1)
   framed s (Write p v) f = write-framed (T .publishes) (R .kind) s (undamaged-fine R s (f .0)) p v (f .1)

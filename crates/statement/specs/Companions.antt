@@ -5,7 +5,7 @@ use mathlib.Core.Logic.{_≢_}
 use mathlib.Core.Bool.{Bool, true, false}
 use mathlib.Core.List.{List, _∷_, _++_}
 use mathlib.Core.Option.{some}
-use lib.IntN.{ℤ}
+use lib.IntN.{ℤ, pos}
 use lib.Signed.{ltZ}
 use lib.ListN.{length, replicate}
 use Rattle.calls.specs.declared.Call.{Call}
@@ -13,7 +13,7 @@ use Rattle.calls.specs.declared.Call.the-variants.{Enter, Look, Leave, Claim, W
 use Rattle.calls.specs.declared.Reply.{Reply}
 use Rattle.calls.specs.declared.Reply.the-variants.{Made, At, Left, Claimed, Written, Swapped, Walked, Freed, Refused}
 use Rattle.calls.specs.declared.WalkReply.the-variants.{Returned}
-use Rattle.calls.specs.Numbers.{READERS-MAX, PUBLISHERS-MAX, SLOTS-MIN, SLOTS-MAX, TABLE, PITCH-LOW, PITCH-HIGH, FEATHERED, NUMBER-MAX, NOT-READING, MODULUS, DAMAGED, BUSY}
+use Rattle.calls.specs.Numbers.{READERS-MAX, PUBLISHERS-MAX, SLOTS-MIN, SLOTS-MAX, TABLE, PITCH-LOW, PITCH-HIGH, NUMBER-MAX, MODULUS, DAMAGED, BUSY}
 use Rattle.calls.specs.Events.{Event, accepted}
 use Rattle.calls.specs.Events.Event.{_⇒_}
 use Rattle.calls.specs.Model.{Model, modelOf}
@@ -60,9 +60,9 @@ pub record IsFresh (z : Given) (s : State) : Type 0 where
   pub current-is : current (s .words) ≡ 0
   pub releases-are : releases (s .words) ≡ 0
   pub indicators-are : (i : ℕ) → indicator (s .words) i ≡ 0
-  pub readers-are : (r : ℕ) → r < READERS-MAX → readerAt (s .words) r ≡ blankReader NOT-READING
+  pub readers-are : (r : ℕ) → r < 64 → readerAt (s .words) r ≡ blankReader 18446744073709551615
   pub publishers-are : (p : ℕ) → publisherAt (s .words) p ≡ noPublisher
-  pub entries-are : s .entries ≡ replicate (z .slots * TABLE) FEATHERED
+  pub entries-are : s .entries ≡ replicate (z .slots * 32) (pos 9000)
 
 abbrev pub MakesFresh : Machine → Type 0
 MakesFresh M = (s : State) (f : Fresh M s) → IsFresh (f .arguments) s

@@ -1,8 +1,8 @@
 -- What a call may move, for every state: document 01's 'A step leaves every number that it doesn't name'.
-use Prim.Native.Nat.{ℕ, _-_, _<_}
+use Prim.Native.Nat.{ℕ, _+_, _-_, _*_, _<_}
 use mathlib.Core.Path.{_≡_}
 use mathlib.Core.Logic.{_≢_}
-use mathlib.Core.Bool.{Bool, true, false}
+use mathlib.Core.Bool.{Bool, true, false, not, _&&_}
 use mathlib.Core.List.{List}
 use mathlib.Core.Option.{Option, none, some}
 use lib.IntN.{ℤ, pos}
@@ -13,7 +13,7 @@ use Rattle.calls.specs.declared.Call.the-variants.{Enter, Look, Leave, Claim, W
 use Rattle.calls.specs.Events.{accepted}
 use Rattle.layout.specs.declared.Reader.{Reader}
 use Rattle.layout.specs.declared.Publisher.{Publisher}
-use Rattle.layout.specs.Layout.{HEAD, CURRENT-AT, VERSION-AT, RELEASES-AT, readerWords, readerAt, publisherAt, entryAt}
+use Rattle.layout.specs.Layout.{HEAD, CURRENT-AT, VERSION-AT, RELEASES-AT, readerWords, readerAt, publisherAt}
 use Rattle.statement.specs.Machine.{State, Outcome, Machine}
 
 -- The reader or the publisher that a call names.
@@ -41,18 +41,19 @@ publisherNamed (Raise p) = some p
 publisherNamed (Walk p b) = some p
 publisherNamed (Release p) = some p
 
--- The words of the head that a call may move: SWAP the current slot, RAISE the version, RELEASE the releases; ENTER and LEAVE an indicator, in a kind that has them.
-abbrev pub headNamed : Call → ℕ → Bool
-headNamed (Enter r) k = ltb RELEASES-AT k
-headNamed (Look r j) k = false
-headNamed (Leave r) k = ltb RELEASES-AT k
-headNamed (Claim p x) k = false
-headNamed (Write p v) k = false
-headNamed (Swap p) k = eqb k CURRENT-AT
-headNamed (Sync p) k = false
-headNamed (Raise p) k = eqb k VERSION-AT
-headNamed (Walk p b) k = false
-headNamed (Release p) k = eqb k RELEASES-AT
+-- The words of the head that a call may move: SWAP the current slot, RAISE the version, RELEASE the releases;
+-- ENTER and LEAVE an indicator, in a kind that does not publish readers' versions but counts readers there.
+abbrev pub headNamed : Bool → Call → ℕ → Bool
+headNamed publishes (Enter r) k = not publishes && ltb RELEASES-AT k
+headNamed publishes (Look r j) k = false
+headNamed publishes (Leave r) k = not publishes && ltb RELEASES-AT k
+headNamed publishes (Claim p x) k = false
+headNamed publishes (Write p v) k = false
+headNamed publishes (Swap p) k = eqb k CURRENT-AT
+headNamed publishes (Sync p) k = false
+headNamed publishes (Raise p) k = eqb k VERSION-AT
+headNamed publishes (Walk p b) k = false
+headNamed publishes (Release p) k = eqb k RELEASES-AT
 
 -- Of the head at most one word moved.
 abbrev pub One : List ℕ → List ℕ → Type 0
@@ -95,12 +96,12 @@ pub record Framed (publishes : Bool) (c : Call) (w w′ : List ℕ) : Type 0 whe
   pub readers : (r : ℕ) → readerNamed c ≢ some r → readerAt w′ r ≡ readerAt w r
   pub publishers : (p : ℕ) → publisherNamed c ≢ some p → publisherAt w′ p ≡ publisherAt w p
   pub own : OwnStays publishes c w w′
-  pub head : (k : ℕ) → k < HEAD → headNamed c k ≡ false → getD w′ k 0 ≡ getD w k 0
+  pub head : (k : ℕ) → k < HEAD → headNamed publishes c k ≡ false → getD w′ k 0 ≡ getD w k 0
   pub one : One w w′
 
--- The entry that a WRITE of publisher p stores: the next one of the slot held.
+-- The entry that a WRITE of publisher p stores: the next one of the slot held. Entry k of slot s is at s × 32 + k.
 abbrev pub nextEntry : State → ℕ → ℕ
-nextEntry s p = entryAt (publisherAt (s .words) p .held) (publisherAt (s .words) p .place - 1)
+nextEntry s p = publisherAt (s .words) p .held * 32 + (publisherAt (s .words) p .place - 1)
 
 -- Of the entries an accepted WRITE stores that one, and no other moves.
 pub record Writes (s : State) (p : ℕ) (v : ℤ) (o : Outcome) : Type 0 where

@@ -62,6 +62,7 @@ passedAt place = pick (eqb place 35) 0 (pick (eqb place 38) 2 1)
 -- What one look comes to.
 pub record Looked (count : ℕ) (y : Publisher) (b : ℕ) (k : Progress) : Type 0 where
   pub mark-same : k .walk .mark ≡ y .walk .mark
+  pub next-same : k .walk .next ≡ y .walk .next
   -- each look passed or waited
   pub counted : k .walk .looks + passedAt (y .place) + y .walk .waits ≡ y .walk .looks + passedAt (placeAfter (y .place) (k .reply)) + k .walk .waits
   pub waits-are : k .walk .waits ≡ waitsAfter (y .walk .waits) (k .reply)
@@ -100,12 +101,12 @@ turn-high place (inr e) = omega arith
 module _ (count : ℕ) (y : Publisher) (b : ℕ) where
   passing : count ≡ 0 → b ≢ 0 → (y .place ≡ 35) ⊎ (y .place ≡ 37)
       → Looked count y b (progress y (y .walk .looks + 1) (y .walk .waits) (pick (eqb (y .place) 35) Quiet (Returned (y .walk .looks + 1) (y .walk .waits))))
-  passing z s (inl e) = rw (eq-eqb (y .place) 35 e) (record { mark-same = refl; counted = rw (eq-eqb (y .place) 35 e) (omega arith); waits-are = refl; quiet-zero = λ _ _. z; returned-zero = λ q. absurd (omega arith); quiets = λ _. e; waiting-is = λ w q. absurd (let d : _≡_ {A = ℕ} 0 1 = cc in omega arith); spent-only = λ q. absurd (let d : _≡_ {A = ℕ} 0 1 = cc in omega arith); spent-if = λ q. absurd (s q); returns = λ l w q. absurd (let d : _≡_ {A = ℕ} 0 1 = cc in omega arith); high = omega arith })
-  passing z s (inr e) = rw (ne-eqb (y .place) 35 (λ q. omega arith)) (record { mark-same = refl; counted = rw e (omega arith); waits-are = refl; quiet-zero = λ q. absurd (omega arith); returned-zero = λ _ _. z; quiets = λ q. absurd (let d : _≡_ {A = ℕ} 0 1 = cc in omega arith); waiting-is = λ w q. absurd (let d : _≡_ {A = ℕ} 0 1 = cc in omega arith); spent-only = λ q. absurd (let d : _≡_ {A = ℕ} 0 1 = cc in omega arith); spent-if = λ q. absurd (s q); returns = λ l w q. (λ f. omega arith, (let c : y .walk .looks + 1 ≡ l = cc in sym c), (let d : y .walk .waits ≡ w = cc in sym d)); high = omega arith })
+  passing z s (inl e) = rw (eq-eqb (y .place) 35 e) (record { mark-same = refl; next-same = refl; counted = rw (eq-eqb (y .place) 35 e) (omega arith); waits-are = refl; quiet-zero = λ _ _. z; returned-zero = λ q. absurd (omega arith); quiets = λ _. e; waiting-is = λ w q. absurd (let d : _≡_ {A = ℕ} 0 1 = cc in omega arith); spent-only = λ q. absurd (let d : _≡_ {A = ℕ} 0 1 = cc in omega arith); spent-if = λ q. absurd (s q); returns = λ l w q. absurd (let d : _≡_ {A = ℕ} 0 1 = cc in omega arith); high = omega arith })
+  passing z s (inr e) = rw (ne-eqb (y .place) 35 (λ q. omega arith)) (record { mark-same = refl; next-same = refl; counted = rw e (omega arith); waits-are = refl; quiet-zero = λ q. absurd (omega arith); returned-zero = λ _ _. z; quiets = λ q. absurd (let d : _≡_ {A = ℕ} 0 1 = cc in omega arith); waiting-is = λ w q. absurd (let d : _≡_ {A = ℕ} 0 1 = cc in omega arith); spent-only = λ q. absurd (let d : _≡_ {A = ℕ} 0 1 = cc in omega arith); spent-if = λ q. absurd (s q); returns = λ l w q. (λ f. omega arith, (let c : y .walk .looks + 1 ≡ l = cc in sym c), (let d : y .walk .waits ≡ w = cc in sym d)); high = omega arith })
 
   pub looked : (y .place ≡ 35) ⊎ (y .place ≡ 37) → Looked count y b (lookAt count y b)
   unfolding lookAt
   looked turn = pick-split (Looked count y b) (eqb b 0)
-      (λ s. record { mark-same = refl; counted = refl; waits-are = refl; quiet-zero = λ e n. absurd (n e); returned-zero = λ e n. absurd (n e); quiets = λ q. absurd (let d : _≡_ {A = ℕ} 0 1 = cc in omega arith); waiting-is = λ w q. absurd (let d : _≡_ {A = ℕ} 0 1 = cc in omega arith); spent-only = λ _. eqb-true b 0 s; spent-if = λ _. refl; returns = λ l w q. absurd (let d : _≡_ {A = ℕ} 0 1 = cc in omega arith); high = omega (arith, turn-high (y .place) turn) })
+      (λ s. record { mark-same = refl; next-same = refl; counted = refl; waits-are = refl; quiet-zero = λ e n. absurd (n e); returned-zero = λ e n. absurd (n e); quiets = λ q. absurd (let d : _≡_ {A = ℕ} 0 1 = cc in omega arith); waiting-is = λ w q. absurd (let d : _≡_ {A = ℕ} 0 1 = cc in omega arith); spent-only = λ _. eqb-true b 0 s; spent-if = λ _. refl; returns = λ l w q. absurd (let d : _≡_ {A = ℕ} 0 1 = cc in omega arith); high = omega (arith, turn-high (y .place) turn) })
       (λ s. pick-split (Looked count y b) (eqb count 0) (λ z. passing (eqb-true count 0 z) (eqb-false b 0 s) turn)
-      (λ z. record { mark-same = refl; counted = omega arith; waits-are = refl; quiet-zero = λ e n. absurd (n e); returned-zero = λ e n. absurd (n e); quiets = λ q. absurd (let d : _≡_ {A = ℕ} 0 1 = cc in omega arith); waiting-is = λ w q. ((let c : watched y ≡ w = cc in sym c), eqb-false count 0 z); spent-only = λ q. absurd (let d : _≡_ {A = ℕ} 0 1 = cc in omega arith); spent-if = λ q. absurd (eqb-false b 0 s q); returns = λ l w q. absurd (let d : _≡_ {A = ℕ} 0 1 = cc in omega arith); high = omega (arith, turn-high (y .place) turn) }))
+      (λ z. record { mark-same = refl; next-same = refl; counted = omega arith; waits-are = refl; quiet-zero = λ e n. absurd (n e); returned-zero = λ e n. absurd (n e); quiets = λ q. absurd (let d : _≡_ {A = ℕ} 0 1 = cc in omega arith); waiting-is = λ w q. ((let c : watched y ≡ w = cc in sym c), eqb-false count 0 z); spent-only = λ q. absurd (let d : _≡_ {A = ℕ} 0 1 = cc in omega arith); spent-if = λ q. absurd (eqb-false b 0 s q); returns = λ l w q. absurd (let d : _≡_ {A = ℕ} 0 1 = cc in omega arith); high = omega (arith, turn-high (y .place) turn) }))

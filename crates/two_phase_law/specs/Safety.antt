@@ -16,7 +16,7 @@ use Rattle.calls.specs.declared.WalkReply.{WalkReply}
 use Rattle.calls.specs.declared.WalkReply.the-variants.{Waiting, Spent, Quiet, Returned}
 use Rattle.calls.specs.Base.{pick, upd}
 use Rattle.calls.specs.Numbers.{READERS-MAX, KIND-OLD}
-use Rattle.calls.specs.RowLaws.{by-test, neither, or-none, all-false, none-true, count-none, pick-split, AllClear, AllFalse}
+use Rattle.calls.specs.RowLaws.{clash, by-test, neither, or-none, all-false, none-true, count-none, pick-split, AllClear, AllFalse}
 use Rattle.layout.specs.declared.Reader.{Reader}
 use Rattle.layout.specs.declared.Publisher.{Publisher}
 use Rattle.layout.specs.Layout.{HEAD, INDICATORS, INDICATORS-AT, readers, publishers, slots, current, version, indicator, readerAt, withReader, withIndicator}
@@ -97,16 +97,16 @@ onward-stays ver cur x = pick-split (PlaceAndOne x) (eqb (x .place) 0) (λ _. pl
     (λ _. place-and-one _ _ 4 (λ _. refl) (λ _. refl) (λ _. refl) (λ n. absurd (n refl))))
 
 -- The words after an ENTER and a LEAVE.
-enter-moves : (s : State) → Fine kind s → (r : ℕ) → r < readers (s .words) → MovesReader (s .words) (enterWords s r) r (entered s r)
+pub enter-moves : (s : State) → Fine kind s → (r : ℕ) → r < readers (s .words) → MovesReader (s .words) (enterWords s r) r (entered s r)
 enter-moves s f r l =
     pick-split (λ (w : List ℕ). MovesReader (s .words) w r (entered s r)) (eqb (reader s r .place) 1)
     (λ _. reader-moves-indicator f r (entered s r) l (INDICATORS-AT + parity (reader s r .first)) _ (omega arith) (omega arith)) (λ _. reader-moves f r (entered s r) l)
 
-leave-moves : (s : State) → Fine kind s → (r : ℕ) → r < readers (s .words) → MovesReader (s .words) (leaveWords s r) r (leaving (reader s r))
+pub leave-moves : (s : State) → Fine kind s → (r : ℕ) → r < readers (s .words) → MovesReader (s .words) (leaveWords s r) r (leaving (reader s r))
 leave-moves s f r l = reader-moves-indicator f r (leaving (reader s r)) l (INDICATORS-AT + parity (reader s r .first)) _ (omega arith) (omega arith)
 
 -- The indicators after a reader is written, with one of them anew.
-changed-indicator : (w : List ℕ) → HEAD ≤ length w → (r : ℕ) (x : Reader) (k : ℕ) → k < INDICATORS → (d : ℕ → ℕ) (i : ℕ)
+pub changed-indicator : (w : List ℕ) → HEAD ≤ length w → (r : ℕ) (x : Reader) (k : ℕ) → k < INDICATORS → (d : ℕ → ℕ) (i : ℕ)
     → indicator (withIndicator (withReader w r x) k (d (indicator w k))) i ≡ pick (eqb k i) (d (indicator w i)) (indicator w i)
 changed-indicator w len r x k low d i = indicator-put (withReader w r x) k (d (indicator w k)) low (rw (length-reader w r x) len) i ∙ rw (indicator-reader w r x) (go (eqb k i) refl)
   where
@@ -267,6 +267,8 @@ lawful = record {
   left = λ s r. leaving (reader s r);
   leave-moves = leave-moves;
   enter-place = λ s f r l low. onward-place (version (s .words)) (current (s .words)) (reader s r);
+  enter-head = λ e. clash (sym e);
+  leave-head = λ e. clash (sym e);
   enter-stays = λ s r low. onward-stays (version (s .words)) (current (s .words)) (reader s r);
   leave-stays = λ s r. record { first = refl; second = refl; published = λ _. refl; picked = refl };
   enter-kept = enter-kept;

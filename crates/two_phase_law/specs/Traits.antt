@@ -1,23 +1,24 @@
 -- In what the old store differs for the companions of demand 3.
 use Prim.Native.Nat.{_+_}
 use mathlib.Core.Bool.{true, false, _||_}
+use lib.Dec.{eqb}
+use Rattle.calls.specs.Base.{pick}
 use Rattle.calls.specs.Model.{firstTable}
 use Rattle.calls.specs.Tally.{inPhase}
 use Rattle.calls.specs.Tally.Phase.{synchronising, quiet, raised}
 use Rattle.statement.specs.Companions.{Traits}
-use Rattle.two_phase_law.specs.Steps.{LAST, placeOn}
 
--- No version is above LAST; a return passes two looks; a mark is one above the version; WALK follows SYNC, RAISE follows a quiet and WALK follows RAISE;
+-- The last version is 2^63 - 1; a return passes two looks; a mark is one above the version; WALK follows SYNC, RAISE follows a quiet and WALK follows RAISE;
 -- ENTER goes 1, 4, 5; readers publish no version; a claim needs that nobody else holds a slot.
 abbrev pub traits : Traits
 traits = record {
   first = λ z. firstTable;
-  last = LAST;
+  last = 9223372036854775807;
   passes = λ z. 2;
   successor = λ v. v + 1;
   raisesIn = inPhase quiet;
   walksIn = λ x. inPhase synchronising x || inPhase raised x;
-  onward = placeOn;
+  onward = λ place. pick (eqb place 0) 1 (pick (eqb place 1) 4 5);
   publishes = false;
   exclusive = true;
 }

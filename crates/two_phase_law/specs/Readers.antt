@@ -1,0 +1,101 @@
+-- What an accepted ENTER and an accepted LEAVE of the old store leave of the reader and of the indicators, for every state and number by number. Assumes nothing.
+use Prim.Native.Nat.{ℕ, _+_, _-_, _%_, _≤_}
+use native.Mathlib.Omega.{arith}
+use mathlib.Core.Path.{_≡_, refl, sym, ap, _∙_}
+use mathlib.Core.Bool.{Bool, true, false, _&&_}
+use mathlib.Core.List.{List}
+use lib.ListN.{length}
+use lib.Dec.{eqb}
+use borrow.Author.Tests.{leb-false}
+use Rattle.calls.specs.declared.Call.the-variants.{Enter, Leave}
+use Rattle.calls.specs.declared.Reply.the-variants.{At, Left}
+use Rattle.calls.specs.Base.{pick, upd}
+use Rattle.calls.specs.RowLaws.{clash, same}
+use Rattle.calls.specs.Events.{accepted}
+use Rattle.layout.specs.declared.Reader.{Reader}
+use Rattle.layout.specs.Layout.{HEAD, readers, current, version, indicator, readerAt, withReader, withIndicator}
+use Rattle.layout.specs.Laws.{indicator-reader}
+use Rattle.statement.specs.Machine.{State, Outcome}
+use Rattle.publication_law.specs.Steps.{reader}
+use Rattle.publication_law.specs.DamageLaws.{Fine}
+use Rattle.publication_law.specs.Rules.{act, rows, step}
+use Rattle.publication_law.specs.Calls.{undamaged-fine}
+use Rattle.publication_law.specs.Decide.{decided}
+use Rattle.two_phase_law.specs.Steps.{kind, onward, entered, enterWords, leaving, leaveWords, rules}
+use Rattle.two_phase_law.specs.Safety.{enter-moves, leave-moves, changed-indicator}
+
+-- ENTER: 0 to 1 loads the version; 1 to 4 adds one to the indicator of its parity (0 or 1); 4 to 5 picks.
+pub record EnterFacts (s : State) (r : ℕ) (o : Outcome) : Type 0 where
+  pub reply-is : o .reply ≡ At (reader (o .after) r .place)
+  pub from-0 : reader s r .place ≡ 0
+      → reader (o .after) r ≡ record { place = 1; first = version (s .words); second = reader s r .second; published = reader s r .published; picked = reader s r .picked }
+  pub from-1 : reader s r .place ≡ 1
+      → reader (o .after) r ≡ record { place = 4; first = reader s r .first; second = reader s r .second; published = reader s r .published; picked = reader s r .picked }
+  pub from-4 : reader s r .place ≡ 4
+      → reader (o .after) r ≡ record { place = 5; first = reader s r .first; second = reader s r .second; published = reader s r .published; picked = current (s .words) }
+  pub counts : (i : ℕ) → indicator (o .after .words) i ≡ pick (eqb (reader s r .place) 1 && eqb (reader s r .first % 2) i) (indicator (s .words) i + 1) (indicator (s .words) i)
+
+-- LEAVE goes to 0 and takes one from the indicator that r added to.
+pub record LeaveFacts (s : State) (r : ℕ) (o : Outcome) : Type 0 where
+  pub reply-is : o .reply ≡ Left
+  pub record-is : reader (o .after) r ≡ record { place = 0; first = reader s r .first; second = reader s r .second; published = reader s r .published; picked = reader s r .picked }
+  pub counts : (i : ℕ) → indicator (o .after .words) i ≡ pick (eqb (reader s r .first % 2) i) (indicator (s .words) i - 1) (indicator (s .words) i)
+
+module _ (ver cur : ℕ) (x : Reader) where
+  onward-0 : x .place ≡ 0 → onward ver cur x ≡ record { place = 1; first = ver; second = x .second; published = x .published; picked = x .picked }
+  unfolding onward
+  onward-0 e = rw e refl
+
+  onward-1 : x .place ≡ 1 → onward ver cur x ≡ record { place = 4; first = x .first; second = x .second; published = x .published; picked = x .picked }
+  unfolding onward
+  onward-1 e = rw e refl
+
+  onward-4 : x .place ≡ 4 → onward ver cur x ≡ record { place = 5; first = x .first; second = x .second; published = x .published; picked = cur }
+  unfolding onward
+  onward-4 e = rw e refl
+
+module _ (s : State) (fine : Fine kind s) (r : ℕ) where
+  long : HEAD ≤ length (s .words)
+  long = omega (arith, fine .head .long)
+
+  enter-counts : (i : ℕ) → indicator (enterWords s r) i ≡ pick (eqb (reader s r .place) 1 && eqb (reader s r .first % 2) i) (indicator (s .words) i + 1) (indicator (s .words) i)
+  enter-counts i = go (eqb (reader s r .place) 1)
+    where
+      go : (b : Bool) → indicator (pick b (withIndicator (withReader (s .words) r (entered s r)) (reader s r .first % 2) (indicator (s .words) (reader s r .first % 2) + 1)) (withReader (s .words) r (entered s r))) i
+          ≡ pick (b && eqb (reader s r .first % 2) i) (indicator (s .words) i + 1) (indicator (s .words) i)
+      go true = changed-indicator (s .words) long r (entered s r) (reader s r .first % 2) (omega arith) (λ n. n + 1) i
+      go false = ap (λ (f : ℕ → ℕ). f i) (indicator-reader (s .words) r (entered s r))
+
+  leave-counts : (i : ℕ) → indicator (leaveWords s r) i ≡ pick (eqb (reader s r .first % 2) i) (indicator (s .words) i - 1) (indicator (s .words) i)
+  leave-counts i = changed-indicator (s .words) long r (leaving (reader s r)) (reader s r .first % 2) (omega arith) (λ n. n - 1) i
+
+pub old-enter-facts : (s : State) (r : ℕ) → accepted (step rules s (Enter r) .reply) ≡ true → EnterFacts s r (step rules s (Enter r))
+unfolding step
+old-enter-facts s r = decided (λ (o : Outcome). accepted (o .reply) ≡ true → EnterFacts s r o) (rows rules s (Enter r)) (act rules s (Enter r)) s refl
+    (λ f _.
+    let fine = undamaged-fine rules s (f .0) in
+    let is = ap (λ (g : ℕ → Reader). g r) (enter-moves s fine r (leb-false (readers (s .words)) r (f .1 .0)) .readers-are) ∙ mine in record {
+      reply-is = ap (λ (x : Reader). At (x .place)) (sym is);
+      from-0 = λ e. is ∙ onward-0 _ _ _ e;
+      from-1 = λ e. is ∙ onward-1 _ _ _ e;
+      from-4 = λ e. is ∙ onward-4 _ _ _ e;
+      counts = enter-counts s fine r;
+    })
+    (λ ok. clash (sym ok))
+  where
+    mine : upd (readerAt (s .words)) r (entered s r) r ≡ entered s r
+    mine = rw (same r) refl
+
+pub old-leave-facts : (s : State) (r : ℕ) → accepted (step rules s (Leave r) .reply) ≡ true → LeaveFacts s r (step rules s (Leave r))
+unfolding step
+old-leave-facts s r = decided (λ (o : Outcome). accepted (o .reply) ≡ true → LeaveFacts s r o) (rows rules s (Leave r)) (act rules s (Leave r)) s refl
+    (λ f _.
+    let fine = undamaged-fine rules s (f .0) in record {
+      reply-is = refl;
+      record-is = ap (λ (g : ℕ → Reader). g r) (leave-moves s fine r (leb-false (readers (s .words)) r (f .1 .0)) .readers-are) ∙ mine;
+      counts = leave-counts s fine r;
+    })
+    (λ ok. clash (sym ok))
+  where
+    mine : upd (readerAt (s .words)) r (leaving (reader s r)) r ≡ leaving (reader s r)
+    mine = rw (same r) refl
