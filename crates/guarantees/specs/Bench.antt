@@ -26,17 +26,17 @@ use Rattle.sheet_law.specs.Sheet.{sheet}
 use Rattle.sheet_law.specs.Example.{P1, P1-printed, p1-bytes}
 use Rattle.guarantees.specs.Named.{storeOf, alike}
 
--- P1 to P4, P6 to P12 of the new store; P5, P6 and P9 to P11 of the old; and one whole publication of each.
+-- P1 to P4, P6 to P12 of the new store; P5, P6 and P9 to P11 of the old; of each one whole publication and what ENTER loads; and the order of a new walk's readers.
 abbrev pub examples : List Example
 examples = allBy (store KIND-NEW) new-store.examples ++ allBy (store KIND-OLD) old-store.examples
 
 new-begin : AllCarry (storeOf new) (store KIND-NEW) new-store.examples
 unfolding new-store.examples
-new-begin = ((refl, refl), ((refl, refl), ((refl, refl), ((refl, refl), (refl, ((refl, refl), ((refl, refl), ((refl, refl), ((refl, refl), ((refl, refl), ((refl, refl), ((refl, refl), ((refl, refl), tt)))))))))))))
+new-begin = ((refl, refl), ((refl, refl), ((refl, refl), ((refl, refl), (refl, ((refl, refl), ((refl, refl), ((refl, refl), ((refl, refl), ((refl, refl), ((refl, refl), ((refl, refl), ((refl, refl), ((refl, refl), ((refl, refl), tt)))))))))))))))
 
 old-begin : AllCarry (storeOf old) (store KIND-OLD) old-store.examples
 unfolding old-store.examples
-old-begin = ((refl, refl), (refl, ((refl, refl), ((refl, refl), ((refl, refl), ((refl, refl), tt))))))
+old-begin = ((refl, refl), (refl, ((refl, refl), ((refl, refl), ((refl, refl), ((refl, refl), ((refl, refl), tt)))))))
 
 replies : AllHold examples
 replies = all-hold-append (allBy (store KIND-NEW) new-store.examples) (allBy (store KIND-OLD) old-store.examples)
@@ -75,13 +75,13 @@ new-in-order : AllCarry (storeOf new) (store KIND-NEW) new-order.inOrder
 unfolding new-order.inOrder
 new-in-order =
     let s = freshOf (storeOf new) small in
-    ((refl, refl), (refl, (refl, (refl, (refl, (refl, (refl, (refl, ((refl, put-current new s new-kind 2), ((refl, refl), ((refl, put-publisher new s new-kind 0 (looked 38)), ((refl, put-publisher new s new-kind 0 (looked 37)), ((refl, refl), ((refl, refl), ((refl, refl), ((refl, refl), tt))))))))))))))))
+    ((refl, refl), (refl, (refl, (refl, (refl, (refl, (refl, (refl, (refl, (refl, (refl, (refl, (refl, ((refl, put-current new s new-kind 2), ((refl, refl), ((refl, put-publisher new s new-kind 0 (looked 38 18446744073709551615)), ((refl, put-publisher new s new-kind 0 (looked 37 18446744073709551615)), ((refl, put-publisher new s new-kind 0 (looked 37 18446744073709551614)), ((refl, refl), ((refl, refl), ((refl, refl), ((refl, refl), ((refl, refl), ((refl, refl), tt))))))))))))))))))))))))
 
 old-in-order : AllCarry (storeOf old) (store KIND-OLD) old-order.inOrder
 unfolding old-order.inOrder
 old-in-order =
     let s = freshOf (storeOf old) small in
-    ((refl, refl), ((refl, put-publisher old old-order.oneClaimed one-claimed-kind 1 (old-order.claimed 2)), (refl, (refl, (refl, (refl, (refl, (refl, (refl, ((refl, put-current old s old-kind 2), ((refl, refl), ((refl, put-publisher old s old-kind 0 (looked 38)), ((refl, put-publisher old s old-kind 0 (looked 37)), ((refl, refl), ((refl, refl), ((refl, refl), ((refl, refl), tt)))))))))))))))))
+    ((refl, refl), ((refl, put-publisher old old-order.oneClaimed one-claimed-kind 1 (old-order.claimed 2)), (refl, (refl, (refl, (refl, (refl, (refl, (refl, (refl, (refl, (refl, (refl, (refl, ((refl, put-current old s old-kind 2), ((refl, refl), ((refl, put-publisher old s old-kind 0 (looked 38 18446744073709551615)), ((refl, put-publisher old s old-kind 0 (looked 37 18446744073709551615)), ((refl, put-publisher old s old-kind 0 (looked 37 18446744073709551614)), ((refl, refl), ((refl, refl), ((refl, refl), ((refl, refl), ((refl, refl), ((refl, refl), tt)))))))))))))))))))))))))
 
 pub precedence : AllHold inOrder
 precedence = all-hold-append (allBy (store KIND-NEW) new-order.inOrder) (allBy (store KIND-OLD) old-order.inOrder)
