@@ -48,7 +48,7 @@ changed (d ∷ ds) s = changed ds (change d s)
 pub data Case : Type 0 where
   on : List Change → Call → Reply → Case
 
--- The same on any one state in its place.
+-- Cases as examples: of changes to one state, and to the fresh one.
 abbrev pub casesOn : Machine → State → List Case → List Example
 casesOn M s [] = []
 casesOn M s (on ds c a ∷ xs) = each M (changed ds s) (c ∷ []) (a ∷ []) ∷ casesOn M s xs
@@ -56,7 +56,7 @@ casesOn M s (on ds c a ∷ xs) = each M (changed ds s) (c ∷ []) (a ∷ []) ∷
 abbrev pub cases : Machine → List Case → List Example
 cases M xs = casesOn M (freshOf M small) xs
 
--- That fresh store, with this kind word, written out: the head, 64 readers, 16 publishers; and its entries. It is quicker to compute with.
+-- That fresh store, with its kind word, written out: the head, 64 readers, 16 publishers; and its entries. It is quicker to compute with.
 abbrev times : ℕ → List ℕ → List ℕ
 times zero l = []
 times (suc n) l = l ++ times n l
