@@ -77,9 +77,21 @@ whole = shows GraceVersion (given 1 1 2 0) (enters 5 0 ++ tableFrom 0 1 100)
     (Made ∷ Swapped 0 ∷ Pitch (pos 9000) ∷ Left ∷ Synced 1 ∷ Raised ∷ Walked (Returned 1 0) ∷ Freed 0 1 ∷ At 1 ∷ At 2 ∷ At 3 ∷ At 4 ∷ At 5
     ∷ Pitch (pos 100) ∷ Pitch (pos 101) ∷ Pitch (pos 130) ∷ Pitch (pos 131) ∷ [])
 
--- The examples of document 01 that are about the new store or name no kind; and one whole publication.
+-- A reader that enters after the RAISE loads and publishes the version raised: the walk does not wait for it.
+abbrev pub loadsRaised : Example
+loadsRaised = shows GraceVersion (given 1 1 2 0) (publication 0 1 (pos 100))
+    (Sync 0 ∷ Raise 0 ∷ Enter 0 ∷ Enter 0 ∷ Walk 0 1 ∷ [])
+    (Made ∷ Synced 1 ∷ Raised ∷ At 1 ∷ At 2 ∷ Walked (Returned 1 0) ∷ [])
+
+-- A walk looks at reader 0 first: of two readers open at 0 it waits for 0, and after LEAVE 0 for 1.
+abbrev pub readersInOrder : Example
+readersInOrder = shows GraceVersion (given 2 1 2 0) (enters 4 0 ++ enters 4 1 ++ publication 0 1 (pos 100))
+    (Sync 0 ∷ Raise 0 ∷ Walk 0 10 ∷ Leave 0 ∷ Walk 0 10 ∷ Leave 1 ∷ Walk 0 10 ∷ [])
+    (Made ∷ Synced 1 ∷ Raised ∷ Walked (Waiting 0) ∷ Left ∷ Walked (Waiting 1) ∷ Left ∷ Walked (Returned 4 2) ∷ [])
+
+-- The examples of document 01 that are about the new store or name no kind; one whole publication; what ENTER loads; and the order of a walk's readers.
 unfoldable pub examples : List Example
-examples = P1 ∷ P2 ∷ P3 ∷ P4 ∷ P6 ∷ P7 ∷ P8 ∷ P8-below ∷ P9 GraceVersion ∷ P10 GraceVersion ∷ P11 ∷ P12 ∷ whole ∷ []
+examples = P1 ∷ P2 ∷ P3 ∷ P4 ∷ P6 ∷ P7 ∷ P8 ∷ P8-below ∷ P9 GraceVersion ∷ P10 GraceVersion ∷ P11 ∷ P12 ∷ whole ∷ loadsRaised ∷ readersInOrder ∷ []
 
 -- The reply of P6's call, at the state that it starts from.
 p6-spent : step rules (leadTo GraceVersion (given 1 1 2 0) to37) (Walk 0 0) .reply ≡ Walked Spent
@@ -92,4 +104,4 @@ p6-same = new-walk-zero _ 0 p6-spent
 -- Each by computation, and that P6's call changes nothing by what is promised of every such call.
 pub bench : AllHold examples
 unfolding examples readerAt publisherAt withReader withPublisher withReaders fresh anyBelow damaged onward looksFrom step making
-bench = (refl, (refl, (refl, (refl, ((refl, p6-same), (refl, (refl, (refl, (refl, (refl, (refl, (refl, (refl, tt)))))))))))))
+bench = (refl, (refl, (refl, (refl, ((refl, p6-same), (refl, (refl, (refl, (refl, (refl, (refl, (refl, (refl, (refl, (refl, tt)))))))))))))))

@@ -17,8 +17,8 @@ abbrev pub freeRows : Example
 freeRows = shows GraceVersion (given 1 2 3 0) (Claim 0 1 ∷ []) (Claim 0 1 ∷ Claim 1 1 ∷ Claim 1 2 ∷ []) (Made ∷ Refused 21 ∷ Refused 30 ∷ Claimed 2 ∷ [])
 
 unfoldable pub inOrder : List Example
-inOrder = freeRows ∷ sharedRows GraceVersion 18446744073709551614
+inOrder = freeRows ∷ sharedRows GraceVersion 18446744073709551614 5
 
 pub precedence : AllHold inOrder
 unfolding inOrder readerAt publisherAt withReader withPublisher withReaders fresh anyBelow damaged onward looksFrom step making
-precedence = (refl, (refl, (refl, (refl, (refl, (refl, (refl, (refl, (refl, (refl, (refl, (refl, (refl, (refl, (refl, (refl, tt))))))))))))))))
+precedence = (refl, (refl, (refl, (refl, (refl, (refl, (refl, (refl, (refl, (refl, (refl, (refl, (refl, (refl, (refl, (refl, (refl, (refl, (refl, (refl, (refl, (refl, (refl, (refl, tt))))))))))))))))))))))))

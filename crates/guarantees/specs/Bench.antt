@@ -1,24 +1,29 @@
 -- P1 to P12 as one list of words of any kind, with one proof that all hold, and P1 as a run sheet's bytes beside them; each starts at its making. They are proved of each kind's own steps;
--- each begins with an accepted making, so that the store of the kind's number gives the same replies. The order of the refusals is shown likewise, as a list of
--- its own; where such an example is of a state put together by hand, that state has the kind's number as kind word. Assumes nothing.
-use Prim.Native.Nat.{ℕ}
+-- each begins with an accepted making, so that the store of the kind's number gives the same replies. The order of the refusals and what spoils a store are shown
+-- likewise, as lists of their own; where such an example is of a state put together by hand, that state has the kind's number as kind word. Assumes nothing.
+use Prim.Native.Nat.{ℕ, _+_}
 use native.Mathlib.Omega.{arith}
 use mathlib.Core.Path.{_≡_, refl, _∙_}
-use mathlib.Core.List.{List, _++_}
+use mathlib.Core.List.{List, [], _∷_, _++_}
 use lib.Seq.{getD-set-other}
 use Rattle.calls.specs.Numbers.{KIND-NEW, KIND-OLD}
 use Rattle.layout.specs.declared.Publisher.{Publisher}
-use Rattle.layout.specs.Layout.{CURRENT-AT, kind}
-use Rattle.layout.specs.Laws.{head-publisher, fresh-head}
+use Rattle.layout.specs.Layout.{READERS-AT, PUBLISHERS-AT, SLOTS-AT, CURRENT-AT, VERSION-AT, INDICATORS-AT, kind}
+use Rattle.layout.specs.Laws.{head-reader, head-publisher, fresh-head}
 use Rattle.statement.specs.Machine.{State}
 use Rattle.statement.specs.Examples.{Example, AllHold, all-hold-append}
 use Rattle.statement.specs.Precedence.{freshOf, withPublisherAs, withCurrentAs, small, looked}
+use Rattle.statement.specs.Spoiled.{Change, change, changed, Case, casesOn, cases}
+use Rattle.statement.specs.Spoiled.Change.{readersTo, publishersTo, slotsTo, currentTo, versionTo, indicatorTo, entriesTo, readerTo, publisherTo}
+use Rattle.statement.specs.Spoiled.Case.{on}
 use Rattle.statement.specs.Alike.{SameAt, allBy, AllCarry, all-hold-alike}
 use Rattle.publication_law.specs.Rules.{making}
 use Rattle.grace_version_examples.specs.Examples as new-store
 use Rattle.grace_version_examples.specs.Precedence as new-order
+use Rattle.grace_version_examples.specs.Spoiled as new-spoiled
 use Rattle.two_phase_examples.specs.Examples as old-store
 use Rattle.two_phase_examples.specs.Precedence as old-order
+use Rattle.two_phase_examples.specs.Spoiled as old-spoiled
 use Rattle.kinds_law.specs.Kinds.{Name, rulesOf, number, store}
 use Rattle.kinds_law.specs.Kinds.Name.{new, old}
 use Rattle.kinds_law.specs.Calls.{step-named}
@@ -26,17 +31,17 @@ use Rattle.sheet_law.specs.Sheet.{sheet}
 use Rattle.sheet_law.specs.Example.{P1, P1-printed, p1-bytes}
 use Rattle.guarantees.specs.Named.{storeOf, alike}
 
--- P1 to P4, P6 to P12 of the new store; P5, P6 and P9 to P11 of the old; and one whole publication of each.
+-- P1 to P4, P6 to P12 of the new store; P5, P6 and P9 to P11 of the old; of each one whole publication and what ENTER loads; and the order of a new walk's readers.
 abbrev pub examples : List Example
 examples = allBy (store KIND-NEW) new-store.examples ++ allBy (store KIND-OLD) old-store.examples
 
 new-begin : AllCarry (storeOf new) (store KIND-NEW) new-store.examples
 unfolding new-store.examples
-new-begin = ((refl, refl), ((refl, refl), ((refl, refl), ((refl, refl), (refl, ((refl, refl), ((refl, refl), ((refl, refl), ((refl, refl), ((refl, refl), ((refl, refl), ((refl, refl), ((refl, refl), tt)))))))))))))
+new-begin = ((refl, refl), ((refl, refl), ((refl, refl), ((refl, refl), (refl, ((refl, refl), ((refl, refl), ((refl, refl), ((refl, refl), ((refl, refl), ((refl, refl), ((refl, refl), ((refl, refl), ((refl, refl), ((refl, refl), tt)))))))))))))))
 
 old-begin : AllCarry (storeOf old) (store KIND-OLD) old-store.examples
 unfolding old-store.examples
-old-begin = ((refl, refl), (refl, ((refl, refl), ((refl, refl), ((refl, refl), ((refl, refl), tt))))))
+old-begin = ((refl, refl), (refl, ((refl, refl), ((refl, refl), ((refl, refl), ((refl, refl), ((refl, refl), tt)))))))
 
 replies : AllHold examples
 replies = all-hold-append (allBy (store KIND-NEW) new-store.examples) (allBy (store KIND-OLD) old-store.examples)
@@ -75,15 +80,44 @@ new-in-order : AllCarry (storeOf new) (store KIND-NEW) new-order.inOrder
 unfolding new-order.inOrder
 new-in-order =
     let s = freshOf (storeOf new) small in
-    ((refl, refl), (refl, (refl, (refl, (refl, (refl, (refl, (refl, ((refl, put-current new s new-kind 2), ((refl, refl), ((refl, put-publisher new s new-kind 0 (looked 38)), ((refl, put-publisher new s new-kind 0 (looked 37)), ((refl, refl), ((refl, refl), ((refl, refl), ((refl, refl), tt))))))))))))))))
+    ((refl, refl), (refl, (refl, (refl, (refl, (refl, (refl, (refl, (refl, (refl, (refl, (refl, (refl, ((refl, put-current new s new-kind 2), ((refl, refl), ((refl, put-publisher new s new-kind 0 (looked 38 18446744073709551615)), ((refl, put-publisher new s new-kind 0 (looked 37 18446744073709551615)), ((refl, put-publisher new s new-kind 0 (looked 37 18446744073709551614)), ((refl, refl), ((refl, refl), ((refl, refl), ((refl, refl), ((refl, refl), ((refl, refl), tt))))))))))))))))))))))))
 
 old-in-order : AllCarry (storeOf old) (store KIND-OLD) old-order.inOrder
 unfolding old-order.inOrder
 old-in-order =
     let s = freshOf (storeOf old) small in
-    ((refl, refl), ((refl, put-publisher old old-order.oneClaimed one-claimed-kind 1 (old-order.claimed 2)), (refl, (refl, (refl, (refl, (refl, (refl, (refl, ((refl, put-current old s old-kind 2), ((refl, refl), ((refl, put-publisher old s old-kind 0 (looked 38)), ((refl, put-publisher old s old-kind 0 (looked 37)), ((refl, refl), ((refl, refl), ((refl, refl), ((refl, refl), tt)))))))))))))))))
+    ((refl, refl), ((refl, put-publisher old old-order.oneClaimed one-claimed-kind 1 (old-order.claimed 2)), (refl, (refl, (refl, (refl, (refl, (refl, (refl, (refl, (refl, (refl, (refl, (refl, ((refl, put-current old s old-kind 2), ((refl, refl), ((refl, put-publisher old s old-kind 0 (looked 38 18446744073709551615)), ((refl, put-publisher old s old-kind 0 (looked 37 18446744073709551615)), ((refl, put-publisher old s old-kind 0 (looked 37 18446744073709551614)), ((refl, refl), ((refl, refl), ((refl, refl), ((refl, refl), ((refl, refl), ((refl, refl), tt)))))))))))))))))))))))))
 
 pub precedence : AllHold inOrder
 precedence = all-hold-append (allBy (store KIND-NEW) new-order.inOrder) (allBy (store KIND-OLD) old-order.inOrder)
     (all-hold-alike (storeOf new) (store KIND-NEW) (alike new) new-order.inOrder new-in-order new-order.precedence)
     (all-hold-alike (storeOf old) (store KIND-OLD) (alike old) old-order.inOrder old-in-order old-order.precedence)
+
+-- What spoils a store, clause by clause.
+abbrev pub clauses : List Example
+clauses = allBy (store KIND-NEW) (cases (storeOf new) new-spoiled.clauses) ++ allBy (store KIND-OLD) (cases (storeOf old) old-spoiled.clauses)
+
+-- No change by hand is one of the kind word.
+change-kind : (d : Change) (s : State) → kind (change d s .words) ≡ kind (s .words)
+change-kind (readersTo n) s = getD-set-other (s .words) READERS-AT 0 n 0 (λ z. omega arith)
+change-kind (publishersTo n) s = getD-set-other (s .words) PUBLISHERS-AT 0 n 0 (λ z. omega arith)
+change-kind (slotsTo n) s = getD-set-other (s .words) SLOTS-AT 0 n 0 (λ z. omega arith)
+change-kind (currentTo n) s = getD-set-other (s .words) CURRENT-AT 0 n 0 (λ z. omega arith)
+change-kind (versionTo n) s = getD-set-other (s .words) VERSION-AT 0 n 0 (λ z. omega arith)
+change-kind (indicatorTo i n) s = getD-set-other (s .words) (INDICATORS-AT + i) 0 n 0 (λ z. omega arith)
+change-kind (entriesTo n) s = refl
+change-kind (readerTo r x) s = head-reader (s .words) r x 0 (omega arith)
+change-kind (publisherTo p y) s = head-publisher (s .words) p y 0 (omega arith)
+
+changed-kind : (ds : List Change) (s : State) → kind (changed ds s .words) ≡ kind (s .words)
+changed-kind [] s = refl
+changed-kind (d ∷ ds) s = changed-kind ds (change d s) ∙ change-kind d s
+
+cases-carry : (k : Name) (s : State) → kind (s .words) ≡ number k → (xs : List Case) → AllCarry (storeOf k) (store (number k)) (casesOn (storeOf k) s xs)
+cases-carry k s e [] = tt
+cases-carry k s e (on ds c a ∷ xs) = ((refl, λ d. step-named k (changed ds s) d (changed-kind ds s ∙ e)), cases-carry k s e xs)
+
+pub spoiled : AllHold clauses
+spoiled = all-hold-append (allBy (store KIND-NEW) (cases (storeOf new) new-spoiled.clauses)) (allBy (store KIND-OLD) (cases (storeOf old) old-spoiled.clauses))
+    (all-hold-alike (storeOf new) (store KIND-NEW) (alike new) (cases (storeOf new) new-spoiled.clauses) (cases-carry new (freshOf (storeOf new) small) new-kind new-spoiled.clauses) new-spoiled.spoiled)
+    (all-hold-alike (storeOf old) (store KIND-OLD) (alike old) (cases (storeOf old) old-spoiled.clauses) (cases-carry old (freshOf (storeOf old) small) old-kind old-spoiled.clauses) old-spoiled.spoiled)

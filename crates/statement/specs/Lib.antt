@@ -5,6 +5,7 @@ pub mod Companions
 pub mod Kept
 pub mod Examples
 pub mod Precedence
+pub mod Spoiled
 pub mod Alike
 pub mod Refute
 pub mod FreeSlot

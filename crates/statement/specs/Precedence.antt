@@ -1,16 +1,17 @@
--- The order of the refusals, by examples that name no kind. Where a call or making gets a number, the next row of document 01's table applies to it too:
+-- The order of the refusals, by examples that name no kind. Where a call or making but the last gets a number, the next row of document 01's table applies to it too:
 -- the one after it differs in one thing, so that the first row no longer applies, and gets the number of the next.
+-- `makingEnds`, `enterRows` and the last of `walkRows` are not about the order: they show where a number begins.
 use Prim.Native.Nat.{ℕ, _+_}
 use mathlib.Core.List.{List, [], _∷_, _++_}
 use lib.IntN.{pos}
 use lib.ListN.{replicate}
-use Rattle.calls.specs.declared.Call.the-variants.{Enter, Look, Claim, Write, Swap, Sync, Walk, Release}
+use Rattle.calls.specs.declared.Call.the-variants.{Enter, Look, Leave, Claim, Write, Swap, Sync, Raise, Walk, Release}
 use Rattle.calls.specs.declared.Reply.the-variants.{Made, Swapped, Walked, Freed, Refused}
-use Rattle.calls.specs.declared.WalkReply.the-variants.{Spent}
+use Rattle.calls.specs.declared.WalkReply.the-variants.{Spent, Returned}
 use Rattle.layout.specs.declared.Publisher.{Publisher}
 use Rattle.layout.specs.Layout.{WORDS, withCurrent, withPublisher}
 use Rattle.statement.specs.Machine.{State, state, Given, given, Machine}
-use Rattle.statement.specs.Examples.{Example, lentFor, tableOf}
+use Rattle.statement.specs.Examples.{Example, lentFor, enters, tableOf}
 use Rattle.statement.specs.Examples.Example.{shows, makes, each}
 
 -- Words and entries lent to a making, all 0.
@@ -28,6 +29,26 @@ makingRows M last =
     ∷ makes M (given 1 1 2 (last + 1)) (lent WORDS 64) (Refused 6)
     ∷ makes M (given 1 1 2 last) (lent WORDS 64) Made
     ∷ []
+
+-- The ends of making: 64 readers, 16 publishers and 32 slots on 425 words and 1024 entries are made; one more of each gets 2, 3, 4 and 1.
+abbrev pub makingEnds : Machine → List Example
+makingEnds M =
+    makes M (given 64 16 32 0) (lent 425 1024) Made
+    ∷ makes M (given 65 16 32 0) (lent 425 1024) (Refused 2)
+    ∷ makes M (given 64 17 32 0) (lent 425 1024) (Refused 3)
+    ∷ makes M (given 64 16 33 0) (lent 425 1056) (Refused 4)
+    ∷ makes M (given 64 16 32 0) (lent 426 1024) (Refused 1)
+    ∷ []
+
+-- The calls that are not allowed at place 0 and have no second argument to test, on a fresh store: 10 before 20, 11 before 21, a pair for each call.
+abbrev pub nameRows : Machine → Example
+nameRows M = shows M (given 1 1 2 0) []
+    (Leave 1 ∷ Leave 0 ∷ Swap 1 ∷ Swap 0 ∷ Sync 1 ∷ Sync 0 ∷ Raise 1 ∷ Raise 0 ∷ Walk 1 1 ∷ Walk 0 1 ∷ Release 1 ∷ Release 0 ∷ [])
+    (Made ∷ Refused 10 ∷ Refused 20 ∷ Refused 11 ∷ Refused 21 ∷ Refused 11 ∷ Refused 21 ∷ Refused 11 ∷ Refused 21 ∷ Refused 11 ∷ Refused 21 ∷ Refused 11 ∷ Refused 21 ∷ [])
+
+-- ENTER of a reader that there is not: 10; and at place 5, to which n ENTERs lead: 20.
+abbrev pub enterRows : Machine → ℕ → Example
+enterRows M n = shows M (given 1 1 2 0) (enters n 0) (Enter 1 ∷ Enter 0 ∷ []) (Made ∷ Refused 10 ∷ Refused 20 ∷ [])
 
 -- LOOK at place 0: 10 before 13, 13 before 20.
 abbrev pub lookRows : Machine → Example
@@ -68,15 +89,18 @@ spoiledRows M =
     ∷ []
 
 -- WALK of a publisher that has made 2^64 - 1 looks, at place 38 and at 37: 21 before 33. Neither store is damaged: a RELEASE and a WALK 0 are accepted.
-abbrev pub looked : ℕ → Publisher
-looked place = record { place = place; held = 1; walk = record { mark = 1; next = 0; looks = 18446744073709551615; waits = 0 } }
+-- With 2^64 - 2 looks made a WALK 2 gets 33, and a WALK 1 is accepted.
+abbrev pub looked : ℕ → ℕ → Publisher
+looked place looks = record { place = place; held = 1; walk = record { mark = 1; next = 0; looks = looks; waits = 0 } }
 
 abbrev pub walkRows : Machine → List Example
 walkRows M =
-    each M (withPublisherAs (freshOf M small) 0 (looked 38)) (Walk 0 1 ∷ Release 0 ∷ []) (Refused 21 ∷ Freed 1 1 ∷ [])
-    ∷ each M (withPublisherAs (freshOf M small) 0 (looked 37)) (Walk 0 1 ∷ Walk 0 0 ∷ []) (Refused 33 ∷ Walked Spent ∷ [])
+    each M (withPublisherAs (freshOf M small) 0 (looked 38 18446744073709551615)) (Walk 0 1 ∷ Release 0 ∷ []) (Refused 21 ∷ Freed 1 1 ∷ [])
+    ∷ each M (withPublisherAs (freshOf M small) 0 (looked 37 18446744073709551615)) (Walk 0 1 ∷ Walk 0 0 ∷ []) (Refused 33 ∷ Walked Spent ∷ [])
+    ∷ each M (withPublisherAs (freshOf M small) 0 (looked 37 18446744073709551614)) (Walk 0 2 ∷ Walk 0 1 ∷ []) (Refused 33 ∷ Walked (Returned 18446744073709551615 0) ∷ [])
     ∷ []
 
--- All of them, of a kind with this last version.
-abbrev pub sharedRows : Machine → ℕ → List Example
-sharedRows M last = makingRows M last ++ (spoiledRows M ++ (walkRows M ++ (lookRows M ∷ claimRows M ∷ writeRows M ∷ syncRows M last ∷ [])))
+-- All of them, of a kind with this last version and so many ENTERs to place 5.
+abbrev pub sharedRows : Machine → ℕ → ℕ → List Example
+sharedRows M last n =
+    makingRows M last ++ (makingEnds M ++ (spoiledRows M ++ (walkRows M ++ (lookRows M ∷ claimRows M ∷ writeRows M ∷ syncRows M last ∷ nameRows M ∷ enterRows M n ∷ []))))

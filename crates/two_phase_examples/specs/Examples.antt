@@ -43,9 +43,15 @@ whole = shows TwoPhase (given 1 1 2 0) (enters 3 0 ++ tableFrom 0 1 100)
     (Made ∷ Swapped 0 ∷ Pitch (pos 9000) ∷ Left ∷ Synced 1 ∷ Walked Quiet ∷ Raised ∷ Walked (Returned 2 0) ∷ Freed 0 1 ∷ At 1 ∷ At 4 ∷ At 5
     ∷ Pitch (pos 100) ∷ Pitch (pos 101) ∷ Pitch (pos 130) ∷ Pitch (pos 131) ∷ [])
 
--- The examples of document 01 that are about the old store or name no kind; and one whole publication.
+-- A reader that enters after the RAISE loads the version raised and adds to its indicator: the walk does not wait for it.
+abbrev pub loadsRaised : Example
+loadsRaised = shows TwoPhase (given 1 1 2 0) (publication 0 1 (pos 100))
+    (Sync 0 ∷ Walk 0 1 ∷ Raise 0 ∷ Enter 0 ∷ Enter 0 ∷ Walk 0 1 ∷ [])
+    (Made ∷ Synced 1 ∷ Walked Quiet ∷ Raised ∷ At 1 ∷ At 4 ∷ Walked (Returned 2 0) ∷ [])
+
+-- The examples of document 01 that are about the old store or name no kind; one whole publication; and what ENTER loads.
 unfoldable pub examples : List Example
-examples = P5 ∷ P6 ∷ P9 TwoPhase ∷ P10 TwoPhase ∷ P11 ∷ whole ∷ []
+examples = P5 ∷ P6 ∷ P9 TwoPhase ∷ P10 TwoPhase ∷ P11 ∷ whole ∷ loadsRaised ∷ []
 
 -- The reply of P6's call, at the state that it starts from.
 p6-spent : step rules (leadTo TwoPhase (given 1 1 2 0) to37) (Walk 0 0) .reply ≡ Walked Spent
@@ -58,4 +64,4 @@ p6-same = old-walk-zero _ 0 p6-spent
 -- Each by computation, and that P6's call changes nothing by what is promised of every such call.
 pub bench : AllHold examples
 unfolding examples indicator readerAt publisherAt withReader withPublisher withReaders fresh anyBelow countBelow damaged onward lookAt step making
-bench = (refl, ((refl, p6-same), (refl, (refl, (refl, (refl, tt))))))
+bench = (refl, ((refl, p6-same), (refl, (refl, (refl, (refl, (refl, tt)))))))

@@ -40,8 +40,8 @@ abbrev pub turnRows : Example
 turnRows = each TwoPhase bothClaimed (Claim 0 3 ∷ Claim 2 3 ∷ []) (Refused 21 ∷ Refused 31 ∷ [])
 
 unfoldable pub inOrder : List Example
-inOrder = busyRows ∷ turnRows ∷ sharedRows TwoPhase 9223372036854775807
+inOrder = busyRows ∷ turnRows ∷ sharedRows TwoPhase 9223372036854775807 3
 
 pub precedence : AllHold inOrder
 unfolding inOrder indicator readerAt publisherAt withReader withPublisher withReaders fresh anyBelow countBelow damaged onward lookAt step making
-precedence = (refl, (refl, (refl, (refl, (refl, (refl, (refl, (refl, (refl, (refl, (refl, (refl, (refl, (refl, (refl, (refl, (refl, tt)))))))))))))))))
+precedence = (refl, (refl, (refl, (refl, (refl, (refl, (refl, (refl, (refl, (refl, (refl, (refl, (refl, (refl, (refl, (refl, (refl, (refl, (refl, (refl, (refl, (refl, (refl, (refl, (refl, tt)))))))))))))))))))))))))
