@@ -1,23 +1,23 @@
 -- What an accepted ENTER and an accepted LEAVE of the new store leave of the reader, for every state and number by number. Assumes nothing.
 use Prim.Native.Nat.{ℕ}
 use mathlib.Core.Path.{_≡_, refl, sym, ap, _∙_}
-use mathlib.Core.Bool.{Bool, true, false, not, _&&_, _||_}
-use lib.Dec.{eqb}
-use borrow.Author.Tests.{eqb-true, leb-false, not-false}
+use mathlib.Core.Bool.{true}
+use borrow.Author.Tests.{leb-false}
 use Rattle.calls.specs.declared.Call.the-variants.{Enter, Leave}
 use Rattle.calls.specs.declared.Reply.the-variants.{At, Left}
-use Rattle.calls.specs.Base.{pick, upd}
-use Rattle.calls.specs.RowLaws.{clash, same, and-false, all-false}
+use Rattle.calls.specs.Base.{upd}
+use Rattle.calls.specs.RowLaws.{clash, same}
 use Rattle.calls.specs.Events.{accepted}
 use Rattle.layout.specs.declared.Reader.{Reader}
-use Rattle.layout.specs.Layout.{readers, slots, current, version, readerAt}
+use Rattle.layout.specs.Layout.{readers, current, version, readerAt}
 use Rattle.statement.specs.Machine.{State, Outcome}
 use Rattle.publication_law.specs.Steps.{reader}
 use Rattle.publication_law.specs.Rules.{act, rows, step}
 use Rattle.publication_law.specs.Calls.{undamaged-fine}
 use Rattle.publication_law.specs.Moves.{reader-moves}
 use Rattle.publication_law.specs.Decide.{decided}
-use Rattle.grace_version_law.specs.Steps.{readerRows, onward, entered, leaving, rules}
+use Rattle.grace_version_law.specs.Steps.{entered, leaving, rules}
+use Rattle.grace_version_law.specs.Calls.{published-of, onward-loads, onward-publishes, onward-loads-again, onward-publishes-second, onward-picks}
 
 -- ENTER: 0 to 1 loads the version; 1 to 2 publishes it; 2 to 3 loads the version again; 3 to 4 publishes the second if the two differ:
 -- where they are equal it is published already; 4 to 5 picks the current slot.
@@ -39,46 +39,18 @@ pub record LeaveFacts (s : State) (r : ℕ) (o : Outcome) : Type 0 where
   pub reply-is : o .reply ≡ Left
   pub record-is : reader (o .after) r ≡ record { place = 0; first = reader s r .first; second = reader s r .second; published = 18446744073709551615; picked = reader s r .picked }
 
-module _ (ver cur : ℕ) (x : Reader) where
-  onward-0 : x .place ≡ 0 → onward ver cur x ≡ record { place = 1; first = ver; second = x .second; published = x .published; picked = x .picked }
-  unfolding onward
-  onward-0 e = rw e refl
-
-  onward-1 : x .place ≡ 1 → onward ver cur x ≡ record { place = 2; first = x .first; second = x .second; published = x .first; picked = x .picked }
-  unfolding onward
-  onward-1 e = rw e refl
-
-  onward-2 : x .place ≡ 2 → onward ver cur x ≡ record { place = 3; first = x .first; second = ver; published = x .published; picked = x .picked }
-  unfolding onward
-  onward-2 e = rw e refl
-
-  -- The second version is published, as where the two are equal it is published already.
-  onward-3 : x .place ≡ 3 → x .published ≡ x .first → onward ver cur x ≡ record { place = 4; first = x .first; second = x .second; published = x .second; picked = x .picked }
-  unfolding onward
-  onward-3 e shown = rw (e, either (eqb (x .first) (x .second)) refl) refl
-    where
-      either : (b : Bool) → eqb (x .first) (x .second) ≡ b → pick b (x .published) (x .second) ≡ x .second
-      either true d = shown ∙ eqb-true _ _ d
-      either false d = refl
-
-  onward-4 : x .place ≡ 4 → onward ver cur x ≡ record { place = 5; first = x .first; second = x .second; published = x .published; picked = cur }
-  unfolding onward
-  onward-4 e = rw e refl
-
 pub new-enter-facts : (s : State) (r : ℕ) → accepted (step rules s (Enter r) .reply) ≡ true → EnterFacts s r (step rules s (Enter r))
 unfolding step
 new-enter-facts s r = decided (λ (o : Outcome). accepted (o .reply) ≡ true → EnterFacts s r o) (rows rules s (Enter r)) (act rules s (Enter r)) s refl
     (λ f _.
-    let fine = undamaged-fine rules s (f .0) in
     let lt = leb-false (readers (s .words)) r (f .1 .0) in
-    let is = ap (λ (g : ℕ → Reader). g r) (reader-moves fine r (entered s r) lt .readers-are) ∙ mine in
-    let shown = all-false (readerRows (slots (s .words)) (reader s r)) (fine .readers-fine r lt) .1 .1 .0 in record {
+    let is = ap (λ (g : ℕ → Reader). g r) (reader-moves (undamaged-fine rules s (f .0)) r (entered s r) lt .readers-are) ∙ mine in record {
       reply-is = ap (λ (x : Reader). At (x .place)) (sym is);
-      from-0 = λ e. is ∙ onward-0 _ _ _ e;
-      from-1 = λ e. is ∙ onward-1 _ _ _ e;
-      from-2 = λ e. is ∙ onward-2 _ _ _ e;
-      from-3 = λ e. is ∙ onward-3 _ _ _ e (eqb-true _ _ (not-false _ (and-false (eqb (reader s r .place) 2 || eqb (reader s r .place) 3) (not (eqb (reader s r .published) (reader s r .first))) shown (rw e refl))));
-      from-4 = λ e. is ∙ onward-4 _ _ _ e;
+      from-0 = λ e. is ∙ sym (onward-loads _ (current (s .words)) (reader s r) _ refl e);
+      from-1 = λ e. is ∙ sym (onward-publishes (version (s .words)) (current (s .words)) (reader s r) e);
+      from-2 = λ e. is ∙ sym (onward-loads-again _ (current (s .words)) (reader s r) _ refl e);
+      from-3 = λ e. is ∙ sym (onward-publishes-second (version (s .words)) (current (s .words)) (reader s r) e (published-of s (f .0) r lt e));
+      from-4 = λ e. is ∙ sym (onward-picks (version (s .words)) _ (reader s r) _ refl e);
     })
     (λ ok. clash (sym ok))
   where

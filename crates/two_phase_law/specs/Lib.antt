@@ -3,5 +3,5 @@ pub mod Traits
 pub mod Counts
 pub mod Safety
 pub mod Promises
-pub mod Readers
 pub mod Calls
+pub mod Readers

@@ -21,8 +21,9 @@ use Rattle.publication_law.specs.DamageLaws.{Fine}
 use Rattle.publication_law.specs.Rules.{act, rows, step}
 use Rattle.publication_law.specs.Calls.{undamaged-fine}
 use Rattle.publication_law.specs.Decide.{decided}
-use Rattle.two_phase_law.specs.Steps.{kind, onward, entered, enterWords, leaving, leaveWords, rules}
+use Rattle.two_phase_law.specs.Steps.{kind, entered, enterWords, leaving, leaveWords, rules}
 use Rattle.two_phase_law.specs.Safety.{enter-moves, leave-moves, changed-indicator}
+use Rattle.two_phase_law.specs.Calls.{onward-loads, onward-arrives, onward-picks}
 
 -- ENTER: 0 to 1 loads the version; 1 to 4 adds one to the indicator of its parity (0 or 1); 4 to 5 picks.
 pub record EnterFacts (s : State) (r : ℕ) (o : Outcome) : Type 0 where
@@ -40,19 +41,6 @@ pub record LeaveFacts (s : State) (r : ℕ) (o : Outcome) : Type 0 where
   pub reply-is : o .reply ≡ Left
   pub record-is : reader (o .after) r ≡ record { place = 0; first = reader s r .first; second = reader s r .second; published = reader s r .published; picked = reader s r .picked }
   pub counts : (i : ℕ) → indicator (o .after .words) i ≡ pick (eqb (reader s r .first % 2) i) (indicator (s .words) i - 1) (indicator (s .words) i)
-
-module _ (ver cur : ℕ) (x : Reader) where
-  onward-0 : x .place ≡ 0 → onward ver cur x ≡ record { place = 1; first = ver; second = x .second; published = x .published; picked = x .picked }
-  unfolding onward
-  onward-0 e = rw e refl
-
-  onward-1 : x .place ≡ 1 → onward ver cur x ≡ record { place = 4; first = x .first; second = x .second; published = x .published; picked = x .picked }
-  unfolding onward
-  onward-1 e = rw e refl
-
-  onward-4 : x .place ≡ 4 → onward ver cur x ≡ record { place = 5; first = x .first; second = x .second; published = x .published; picked = cur }
-  unfolding onward
-  onward-4 e = rw e refl
 
 module _ (s : State) (fine : Fine kind s) (r : ℕ) where
   long : HEAD ≤ length (s .words)
@@ -76,9 +64,9 @@ old-enter-facts s r = decided (λ (o : Outcome). accepted (o .reply) ≡ true �
     let fine = undamaged-fine rules s (f .0) in
     let is = ap (λ (g : ℕ → Reader). g r) (enter-moves s fine r (leb-false (readers (s .words)) r (f .1 .0)) .readers-are) ∙ mine in record {
       reply-is = ap (λ (x : Reader). At (x .place)) (sym is);
-      from-0 = λ e. is ∙ onward-0 _ _ _ e;
-      from-1 = λ e. is ∙ onward-1 _ _ _ e;
-      from-4 = λ e. is ∙ onward-4 _ _ _ e;
+      from-0 = λ e. is ∙ sym (onward-loads _ (current (s .words)) (reader s r) e);
+      from-1 = λ e. is ∙ sym (onward-arrives (version (s .words)) (current (s .words)) (reader s r) e);
+      from-4 = λ e. is ∙ sym (onward-picks (version (s .words)) _ (reader s r) (λ z. omega arith) (λ z. omega arith));
       counts = enter-counts s fine r;
     })
     (λ ok. clash (sym ok))
