@@ -11,7 +11,7 @@ use Rattle.layout.specs.Layout.{readerAt, publisherAt, withReader, withPublishe
 use Rattle.statement.specs.Machine.{given}
 use Rattle.statement.specs.Examples.{Example, AllHold, leadTo, enters, publication, tableFrom, P9, P10}
 use Rattle.statement.specs.Examples.Example.{shows, unchanged}
-use Rattle.publication_law.specs.Rules.{damaged, step, making}
+use Rattle.publication_law.specs.Table.{damaged, step, making}
 use Rattle.grace_version_law.specs.Steps.{rules, GraceVersion, onward, looksFrom}
 use Rattle.grace_version_law.specs.Promises.{new-walk-zero}
 

@@ -9,7 +9,7 @@ use Rattle.statement.specs.Machine.{given}
 use Rattle.statement.specs.Examples.{Example, AllHold}
 use Rattle.statement.specs.Examples.Example.{shows}
 use Rattle.statement.specs.Precedence.{sharedRows}
-use Rattle.publication_law.specs.Rules.{damaged, step, making}
+use Rattle.publication_law.specs.Table.{damaged, step, making}
 use Rattle.grace_version_law.specs.Steps.{GraceVersion, onward, looksFrom}
 
 -- CLAIM when publisher 0 holds slot 1, new: 21 before 30.

@@ -19,9 +19,10 @@ use Rattle.statement.specs.Demand3.{Demand3}
 use Rattle.statement.specs.Examples.{lentFor, enters, publication}
 use Rattle.statement.specs.Refute.{someLeave, not-left, ReturnsFrom, returns-from-4}
 use Rattle.publication_law.specs.Steps.{publisher, made}
-use Rattle.publication_law.specs.Rules.{Rules, damaged, step, making, machine}
+use Rattle.publication_law.specs.Table.{damaged, step, making, machine}
+use Rattle.publication_law.specs.Rules.{Rules, tableBy}
 use Rattle.publication_law.specs.Varied.{varied}
-use Rattle.grace_version_law.specs.Steps.{onward, progress, looksFrom, rules, GraceVersion}
+use Rattle.grace_version_law.specs.Steps.{onward, progress, looksFrom, fixed, rules, GraceVersion}
 use Rattle.grace_version_law.specs.Promises.{new-demand3}
 
 -- One reader, one publisher, two slots, version 0.
@@ -64,14 +65,14 @@ always-9000-refuted d =
 
 -- A walk that passes every reader: it tests against 0 in place of its mark.
 passesAllRules : Rules
-passesAllRules = varied rules (rules .exclusive) (λ s p b.
+passesAllRules = varied fixed (fixed .exclusive) (λ s p b.
     let k = publisher s p .walk in
     let q = looksFrom (s .words) (readers (s .words)) 0 (k .waits) b (k .next) (k .looks) in
     progress (k .mark) (q .walk .next) (q .walk .looks) (q .walk .waits) (q .reply))
 
 pub PassesAll : Machine
 unfolding passesAllRules
-PassesAll = machine passesAllRules
+PassesAll = machine (tableBy passesAllRules)
 
 pub passes-all-refuted : Demand3 PassesAll (λ z. firstTable) → ⊥
 unfolding PassesAll passesAllRules start small someLeave readerAt publisherAt withReader withPublisher withReaders fresh anyBelow damaged onward looksFrom step making

@@ -11,7 +11,7 @@ use Rattle.statement.specs.Precedence.{freshOf, small}
 use Rattle.statement.specs.Spoiled.{Case, casesOn, cases, spelled, readerAs, publisherAs, sharedCases}
 use Rattle.statement.specs.Spoiled.Case.{on}
 use Rattle.statement.specs.Spoiled.Change.{readerTo, publisherTo}
-use Rattle.publication_law.specs.Rules.{damaged, step, making}
+use Rattle.publication_law.specs.Table.{damaged, step, making}
 use Rattle.grace_version_law.specs.Steps.{GraceVersion, onward, looksFrom}
 
 -- A place that the kind does not have: 36. At 35 or 37 next not below readers; at 38 it is not tested.

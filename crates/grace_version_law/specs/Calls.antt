@@ -22,9 +22,9 @@ use Rattle.layout.specs.Layout.{readers, publishers, slots, current, version, r
 use Rattle.statement.specs.Machine.{State, state, outcome}
 use Rattle.publication_law.specs.Steps.{reader, publisher}
 use Rattle.publication_law.specs.Looks.{withLook}
-use Rattle.publication_law.specs.Rules.{damaged, step}
+use Rattle.publication_law.specs.Table.{damaged, step}
 use Rattle.publication_law.specs.Calls.{undamaged-fine, enter-accepted, leave-accepted}
-use Rattle.grace_version_law.specs.Steps.{readerRows, ownRows, onward, leaving, lookedAt, looksFrom, rules}
+use Rattle.grace_version_law.specs.Steps.{readerRows, ownRows, onward, leaving, lookedAt, looksFrom, fixed, rules}
 use Rattle.grace_version_law.specs.Safety.{next-below}
 
 -- The damage test of a reader, by its place.
@@ -80,12 +80,12 @@ module _ (s : State) (clean : damaged rules s ≡ false) where
   pub enter-is : (v : List ℕ) (r : ℕ) (x y : Reader) → r < readers (s .words) → x ≡ reader s r → x .place < 5 → y ≡ onward (version (s .words)) (current (s .words)) x → v ≡ withReader (s .words) r y
       → outcome (At (y .place)) (state v (s .entries)) ≡ step rules s (Enter r)
   enter-is v r x y named is turn moved put =
-      rw (put, moved, is) (enter-accepted rules s clean r x named is turn)
+      rw (put, moved, is) (enter-accepted fixed s clean r x named is turn)
 
   pub leave-is : (v : List ℕ) (r : ℕ) (x : Reader) → r < readers (s .words) → x ≡ reader s r → 4 ≤ x .place → v ≡ withReader (s .words) r (leaving x)
       → outcome Left (state v (s .entries)) ≡ step rules s (Leave r)
   leave-is v r x named is turn put =
-      rw (put, is) (leave-accepted rules s clean r x named is turn)
+      rw (put, is) (leave-accepted fixed s clean r x named is turn)
 
 -- No place of ENTER's: 5 or beyond.
 pub past-enter : (n : ℕ) → n ≢ 0 → n ≢ 1 → n ≢ 2 → n ≢ 3 → n ≢ 4 → 5 ≤ n

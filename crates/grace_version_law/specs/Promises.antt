@@ -26,7 +26,7 @@ use Rattle.statement.specs.Demand3.{Demand3}
 use Rattle.statement.specs.Kept.{Ghost, ghost₀, all-tally}
 use Rattle.statement.specs.FreeSlot.{FindsFreeSlot}
 use Rattle.publication_law.specs.Steps.{reader, publisher, inUse}
-use Rattle.publication_law.specs.Rules.{damaged, act, rows, step}
+use Rattle.publication_law.specs.Table.{damaged, rows, step}
 use Rattle.publication_law.specs.DamageLaws.{Fine}
 use Rattle.publication_law.specs.KindLaw.{fine-publisher}
 use Rattle.publication_law.specs.Decide.{decide-why}
@@ -34,13 +34,13 @@ use Rattle.publication_law.specs.Lawful.{Good}
 use Rattle.publication_law.specs.Detector.{OwnOf}
 use Rattle.publication_law.specs.Promises.{Promises, promises-of, WalkFacts, walk-facts}
 use Rattle.publication_law.specs.FreeSlot.{finds-free-slot-of}
-use Rattle.grace_version_law.specs.Steps.{LAST, kind, lookedAt, looksOf, rules, GraceVersion}
+use Rattle.grace_version_law.specs.Steps.{LAST, kind, lookedAt, looksOf, fixed, rules, GraceVersion}
 use Rattle.grace_version_law.specs.Traits.{traits}
 use Rattle.grace_version_law.specs.Walks.{Ends, Looked, looked, spent-if}
 use Rattle.grace_version_law.specs.Safety.{law, detector, next-below, lawful, new-reached}
 
 pub new-promises : Promises rules traits
-new-promises = promises-of rules traits lawful
+new-promises = promises-of fixed traits lawful
 
 pub new-demand3 : Demand3 GraceVersion (λ z. firstTable)
 new-demand3 = new-promises .demand3
@@ -56,7 +56,7 @@ pub record WalkLooks (s : State) (p b : ℕ) (k : Progress) : Type 0 where
 
 pub new-walk-facts : (s : State) (p b : ℕ) → accepted (step rules s (Walk p b) .reply) ≡ true
     → let k = looksOf s (publisher s p .walk) b in WalkFacts s p k (WalkLooks s p b k) (step rules s (Walk p b))
-new-walk-facts s p b = walk-facts rules s p b (WalkLooks s p b (looksOf s (publisher s p .walk) b)) (λ fine lt turn.
+new-walk-facts s p b = walk-facts fixed s p b (WalkLooks s p b (looksOf s (publisher s p .walk) b)) (λ fine lt turn.
     let low = next-below _ _ (publisher s p) (fine .publishers-fine p lt) (rw (eqb-true (publisher s p .place) 37 turn) refl) in record {
       looks-are = looked (s .words) (readers (s .words)) (publisher s p .walk .mark) (publisher s p .walk .waits) b (publisher s p .walk .next) (publisher s p .walk .looks) low;
       spent-exactly = λ l all. spent-if (s .words) (readers (s .words)) (publisher s p .walk .mark) (publisher s p .walk .waits) b (publisher s p .walk .next) (publisher s p .walk .looks) l all;
@@ -95,7 +95,7 @@ module _ (s : State) (p x n : ℕ) (ne : n ≢ 0) where
 pub new-claim-refusals : (s : State) (p x n : ℕ) → damaged rules s ≡ false → step rules s (Claim p x) .reply ≡ Refused n → ClaimRefusal s p x n
 unfolding step
 new-claim-refusals s p x n fine e =
-    let q = decide-why (rows rules s (Claim p x)) (act rules s (Claim p x)) s n refl e in
+    let q = decide-why (rows rules s (Claim p x)) (rules .act s (Claim p x)) s n refl e in
     claim-first s p x n (q .1) (leb (publishers (s .words)) p) (leb (slots (s .words)) x) (not (eqb (publisher s p .place) 0)) (inUse s x) refl refl refl refl (rw fine at (q .0))
 
 -- A WALK waits only for a reader that has published a version and not left since: never for one that never entered.
@@ -108,7 +108,7 @@ waiting-below w n mark start b nx lk wt r (Returned l u) e d = absurd (let y : _
 waits-published : (z : Given) (g : Ghost) (s : State) → Good kind (OwnOf detector) z g s → (p b r : ℕ) → step rules s (Walk p b) .reply ≡ Walked (Waiting r) → 2 ≤ g .tally .place r
 waits-published z g s i p b r e =
     let k = looksOf s (publisher s p .walk) b in
-    let facts = walk-facts rules s p b (k .reply ≡ Waiting r → 2 ≤ g .tally .place r) looks (rw e refl) in
+    let facts = walk-facts fixed s p b (k .reply ≡ Waiting r → 2 ≤ g .tally .place r) looks (rw e refl) in
     facts .looks-are (let q : Walked (k .reply) ≡ Walked (Waiting r) = sym (facts .reply-is) ∙ e in cc)
   where
     looks : Fine kind s → p < publishers (s .words) → eqb (publisher s p .place) 37 ≡ true → looksOf s (publisher s p .walk) b .reply ≡ Waiting r → 2 ≤ g .tally .place r
@@ -132,4 +132,4 @@ new-waits-for s f cs p b r e = rw (← all-tally (ghost₀ (traits .first (f .ar
 
 -- With more slots than publishers, a publisher that holds nothing always finds a free slot, and its claim of that slot is accepted.
 pub new-finds-free-slot : FindsFreeSlot GraceVersion
-new-finds-free-slot = finds-free-slot-of rules traits lawful refl
+new-finds-free-slot = finds-free-slot-of fixed traits lawful refl

@@ -12,7 +12,7 @@ use Rattle.layout.specs.declared.Reader.{Reader}
 use Rattle.layout.specs.Layout.{readers, current, version, readerAt}
 use Rattle.statement.specs.Machine.{State, Outcome}
 use Rattle.publication_law.specs.Steps.{reader}
-use Rattle.publication_law.specs.Rules.{act, rows, step}
+use Rattle.publication_law.specs.Table.{rows, step}
 use Rattle.publication_law.specs.Calls.{undamaged-fine}
 use Rattle.publication_law.specs.Moves.{reader-moves}
 use Rattle.publication_law.specs.Decide.{decided}
@@ -41,7 +41,7 @@ pub record LeaveFacts (s : State) (r : ℕ) (o : Outcome) : Type 0 where
 
 pub new-enter-facts : (s : State) (r : ℕ) → accepted (step rules s (Enter r) .reply) ≡ true → EnterFacts s r (step rules s (Enter r))
 unfolding step
-new-enter-facts s r = decided (λ (o : Outcome). accepted (o .reply) ≡ true → EnterFacts s r o) (rows rules s (Enter r)) (act rules s (Enter r)) s refl
+new-enter-facts s r = decided (λ (o : Outcome). accepted (o .reply) ≡ true → EnterFacts s r o) (rows rules s (Enter r)) (rules .act s (Enter r)) s refl
     (λ f _.
     let lt = leb-false (readers (s .words)) r (f .1 .0) in
     let is = ap (λ (g : ℕ → Reader). g r) (reader-moves (undamaged-fine rules s (f .0)) r (entered s r) lt .readers-are) ∙ mine in record {
@@ -59,7 +59,7 @@ new-enter-facts s r = decided (λ (o : Outcome). accepted (o .reply) ≡ true �
 
 pub new-leave-facts : (s : State) (r : ℕ) → accepted (step rules s (Leave r) .reply) ≡ true → LeaveFacts s r (step rules s (Leave r))
 unfolding step
-new-leave-facts s r = decided (λ (o : Outcome). accepted (o .reply) ≡ true → LeaveFacts s r o) (rows rules s (Leave r)) (act rules s (Leave r)) s refl
+new-leave-facts s r = decided (λ (o : Outcome). accepted (o .reply) ≡ true → LeaveFacts s r o) (rows rules s (Leave r)) (rules .act s (Leave r)) s refl
     (λ f _. record {
       reply-is = refl;
       record-is = ap (λ (g : ℕ → Reader). g r) (reader-moves (undamaged-fine rules s (f .0)) r (leaving (reader s r)) (leb-false (readers (s .words)) r (f .1 .0)) .readers-are) ∙ mine;

@@ -35,7 +35,7 @@ use Rattle.publication_law.specs.KindLaw.{KindLaw, up-to-law}
 use Rattle.publication_law.specs.Frames.{place-and-one}
 use Rattle.publication_law.specs.Lawful.{Good, Lawful, reached}
 use Rattle.publication_law.specs.Detector.{Detector, OwnOf, start-own, early-own, enter-good, leave-good, sync-good, raise-good, walk-good, return-good}
-use Rattle.grace_version_law.specs.Steps.{LAST, versions, kind, readerRows, ownRows, onward, entered, leaving, lookedAt, looksOf, looksFrom, freshReader, rules, GraceVersion}
+use Rattle.grace_version_law.specs.Steps.{LAST, versions, kind, readerRows, ownRows, onward, entered, leaving, lookedAt, looksOf, looksFrom, freshReader, fixed, GraceVersion}
 use Rattle.grace_version_law.specs.Traits.{traits}
 use Rattle.grace_version_law.specs.Walks.{lookedAt-all, Ends, Looked, looks-mark, looked}
 
@@ -260,7 +260,7 @@ unfolding looksFrom
 no-looks s p = refl
 
 -- All that only the new store can show: a walk passes each reader, ENTER goes 1, 2, 3, 4, 5.
-pub lawful : Lawful rules traits
+pub lawful : Lawful fixed traits
 lawful = record {
   kind-law = law;
   first-is = refl;
@@ -300,4 +300,4 @@ lawful = record {
 pub new-reached : (s : State) (f : Fresh GraceVersion s) (cs : List Call)
     → Good kind (OwnOf detector) (f .arguments) (kept.nextAll (kept.ghost₀ (traits .first (f .arguments))) (events GraceVersion s cs)) (afterAll GraceVersion s cs)
 unfolding lawful
-new-reached s f cs = reached rules traits lawful s f cs
+new-reached s f cs = reached fixed traits lawful s f cs

@@ -1,4 +1,4 @@
--- The new store (GraceVersion): what it fixes of the damage test and of the ten calls. `rules` gathers it; publication_law has the rest.
+-- The new store (GraceVersion): what it fixes of the damage test and of the ten calls. `fixed` gathers it, and `rules` is the table that this gives.
 -- The two indicators have no use here: they are 0 from the making on and not tested.
 use Prim.Native.Nat.{ℕ, zero, suc, _+_}
 use mathlib.Core.Bool.{Bool, false, not, _&&_, _||_}
@@ -17,7 +17,8 @@ use Rattle.layout.specs.Layout.{readers, current, version, readerAt, withReader
 use Rattle.statement.specs.Machine.{State, Machine}
 use Rattle.publication_law.specs.Steps.{Versions, upTo, reader, publisher}
 use Rattle.publication_law.specs.Damage.{Kind, wrongPick, publisherRows}
-use Rattle.publication_law.specs.Rules.{Rules, machine}
+use Rattle.publication_law.specs.Table.{Table, machine}
+use Rattle.publication_law.specs.Rules.{Rules, tableBy}
 
 -- The last version: 2^64 - 2.
 abbrev pub LAST : ℕ
@@ -94,8 +95,8 @@ abbrev pub freshReader : Reader
 freshReader = blankReader NOT-READING
 
 -- Nothing else spoils it; no 31; RAISE p at 35; WALK p b at 37.
-abbrev pub rules : Rules
-rules = record {
+abbrev pub fixed : Rules
+fixed = record {
   kind = kind;
   further = λ s. false;
   freshReader = freshReader;
@@ -107,6 +108,9 @@ rules = record {
   walksAt = λ place. eqb place 37;
   looks = λ s p b. looksOf s (publisher s p .walk) b;
 }
+
+abbrev pub rules : Table
+rules = tableBy fixed
 
 abbrev pub GraceVersion : Machine
 GraceVersion = machine rules

@@ -10,7 +10,7 @@ ghost use Rattle.calls.specs.Numbers.{READERS-MAX};
 ghost use Rattle.calls.specs.declared.Call.the-variants.{Enter, Look, Leave};
 ghost use Rattle.layout.specs.Layout.{WORDS, readers};
 ghost use Rattle.statement.specs.Machine.{state, outcome};
-ghost use Rattle.publication_law.specs.Rules.{damaged, step};
+ghost use Rattle.publication_law.specs.Table.{damaged, step};
 ghost use Rattle.grace_version_law.specs.Steps.{rules};
 use calls::DAMAGED;
 use calls::NO_SUCH_READER;

@@ -7,7 +7,7 @@ ghost use Rattle.calls.specs.declared.Call.the-variants.{Walk as WALK};
 ghost use Rattle.calls.specs.Numbers.{READERS-MAX, NUMBER-MAX};
 ghost use Rattle.layout.specs.Layout.{WORDS};
 ghost use Rattle.statement.specs.Machine.{state, outcome};
-ghost use Rattle.publication_law.specs.Rules.{step};
+ghost use Rattle.publication_law.specs.Table.{step};
 ghost use Rattle.grace_version_law.specs.Steps.{lookedAt, looksFrom, rules};
 use calls::DAMAGED;
 use calls::NO_SUCH_PUBLISHER;

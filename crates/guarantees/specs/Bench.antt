@@ -17,14 +17,14 @@ use Rattle.statement.specs.Spoiled.{Change, change, changed, Case, casesOn, cas
 use Rattle.statement.specs.Spoiled.Change.{readersTo, publishersTo, slotsTo, currentTo, versionTo, indicatorTo, entriesTo, readerTo, publisherTo}
 use Rattle.statement.specs.Spoiled.Case.{on}
 use Rattle.statement.specs.Alike.{SameAt, allBy, AllCarry, all-hold-alike}
-use Rattle.publication_law.specs.Rules.{making}
+use Rattle.publication_law.specs.Table.{making}
 use Rattle.grace_version_examples.specs.Examples as new-store
 use Rattle.grace_version_examples.specs.Precedence as new-order
 use Rattle.grace_version_examples.specs.Spoiled as new-spoiled
 use Rattle.two_phase_examples.specs.Examples as old-store
 use Rattle.two_phase_examples.specs.Precedence as old-order
 use Rattle.two_phase_examples.specs.Spoiled as old-spoiled
-use Rattle.kinds_law.specs.Kinds.{Name, rulesOf, number, store}
+use Rattle.kinds_law.specs.Kinds.{Name, number, store}
 use Rattle.kinds_law.specs.Kinds.Name.{new, old}
 use Rattle.kinds_law.specs.Calls.{step-named}
 use Rattle.sheet_law.specs.Sheet.{sheet}
@@ -59,15 +59,15 @@ inOrder = allBy (store KIND-NEW) new-order.inOrder ++ allBy (store KIND-OLD) old
 -- The kind word of a fresh store; a state put together from one by hand has it too, and so its kind's own steps.
 new-kind : kind (freshOf (storeOf new) small .words) ≡ number new
 unfolding making
-new-kind = fresh-head KIND-NEW 1 1 2 0 (rulesOf new .freshReader) 0 (omega arith)
+new-kind = fresh-head KIND-NEW 1 1 2 0 _ 0 (omega arith)
 
 old-kind : kind (freshOf (storeOf old) small .words) ≡ number old
 unfolding making
-old-kind = fresh-head KIND-OLD 1 1 2 0 (rulesOf old .freshReader) 0 (omega arith)
+old-kind = fresh-head KIND-OLD 1 1 2 0 _ 0 (omega arith)
 
 one-claimed-kind : kind (old-order.oneClaimed .words) ≡ number old
 unfolding making
-one-claimed-kind = head-publisher _ 0 (old-order.claimed 1) 0 (omega arith) ∙ fresh-head KIND-OLD 1 3 4 0 (rulesOf old .freshReader) 0 (omega arith)
+one-claimed-kind = head-publisher _ 0 (old-order.claimed 1) 0 (omega arith) ∙ fresh-head KIND-OLD 1 3 4 0 _ 0 (omega arith)
 
 module _ (k : Name) (s : State) (e : kind (s .words) ≡ number k) where
   put-publisher : (p : ℕ) (y : Publisher) → SameAt (storeOf k) (store (number k)) (withPublisherAs s p y)

@@ -23,7 +23,7 @@ use Rattle.statement.specs.FreeSlot.{FindsFreeSlot, finds-free-slot-alike}
 use Rattle.statement.specs.Alike.{fresh-alike, after-alike, events-alike, demand3-alike, companions-alike, making-accepts-alike, makes-fresh-alike}
 use Rattle.publication_law.specs.DamageLaws.{zero-damaged}
 use Rattle.publication_law.specs.Steps.{publisher}
-use Rattle.publication_law.specs.Rules.{damaged}
+use Rattle.publication_law.specs.Table.{damaged}
 use Rattle.publication_law.specs.Calls.{undamaged-fine}
 use Rattle.publication_law.specs.Promises.{SyncFacts, RaiseFacts, WalkFacts}
 use Rattle.grace_version_law.specs.Steps as new-store

@@ -20,7 +20,7 @@ use Rattle.statement.specs.Demand3.{Demand3}
 use Rattle.statement.specs.Frame.{Frame}
 use Rattle.statement.specs.Companions.{Traits, RefusedLeaves}
 use Rattle.statement.specs.Alike.{Alike}
-use Rattle.publication_law.specs.Rules.{step, making, machine}
+use Rattle.publication_law.specs.Table.{step, making, machine}
 use Rattle.publication_law.specs.Calls.{undamaged-fine}
 use Rattle.publication_law.specs.Frames.{same-framed}
 use Rattle.publication_law.specs.Promises.{Promises}

@@ -11,7 +11,7 @@ use Rattle.calls.specs.declared.Reply.the-variants.{Refused}
 use Rattle.calls.specs.Numbers.{KIND-NEW, KIND-OLD, DAMAGED}
 use Rattle.layout.specs.Layout.{WORDS, kind}
 use Rattle.statement.specs.Machine.{State, outcome, Given}
-use Rattle.publication_law.specs.Rules.{step, making}
+use Rattle.publication_law.specs.Table.{step, making}
 use Rattle.publication_law.specs.Calls.{step-damaged, damaged-head}
 use Rattle.grace_version_law.specs.Steps as new-store
 use Rattle.two_phase_law.specs.Steps as old-store

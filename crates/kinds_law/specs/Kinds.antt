@@ -8,7 +8,7 @@ use Rattle.calls.specs.Base.{pick}
 use Rattle.calls.specs.Numbers.{KIND-NEW, KIND-OLD, DAMAGED}
 use Rattle.layout.specs.Layout.{kind}
 use Rattle.statement.specs.Machine.{State, Outcome, outcome, Given, Machine}
-use Rattle.publication_law.specs.Rules.{Rules, step, making}
+use Rattle.publication_law.specs.Table.{Table, step, making}
 use Rattle.grace_version_law.specs.Steps as new-store
 use Rattle.two_phase_law.specs.Steps as old-store
 
@@ -17,8 +17,8 @@ pub data Name : Type 0 where
   new : Name
   old : Name
 
--- What each of them fixes of making and of the ten calls.
-abbrev pub rulesOf : Name → Rules
+-- The table of each.
+abbrev pub rulesOf : Name → Table
 rulesOf new = new-store.rules
 rulesOf old = old-store.rules
 

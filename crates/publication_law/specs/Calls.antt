@@ -5,7 +5,7 @@ use Prim.Native.Nat.{ℕ, _+_, _*_, _-_, _%_, _<_, _≤_}
 use mathlib.Core.Path.{_≡_, refl, sym, _∙_}
 use mathlib.Core.Logic.{_≢_}
 use mathlib.Core.Bool.{Bool, true, false, not, _&&_, _||_}
-use mathlib.Core.List.{List}
+use mathlib.Core.List.{List, _∷_}
 use lib.IntN.{ℤ, pos}
 use lib.Signed.{ltZ}
 use lib.ListN.{getD, set, length, replicate}
@@ -16,7 +16,8 @@ use Rattle.calls.specs.declared.Call.the-variants.{Enter, Leave, Raise, Walk}
 use Rattle.calls.specs.declared.Reply.the-variants.{Made, Pitch, Claimed, Written, Swapped, Synced, Raised, Shared, Walked, Freed, Refused}
 use Rattle.calls.specs.Numbers.{TABLE, FEATHERED, PITCH-LOW, PITCH-HIGH, MODULUS, NUMBER-MAX, DAMAGED}
 use Rattle.calls.specs.Rows.{firstOf, anyTrue}
-use Rattle.calls.specs.RowLaws.{not-both, or-false, neither, negated, not-outside, clear}
+use Rattle.calls.specs.Rows.Test.{_gives_}
+use Rattle.calls.specs.RowLaws.{not-both, or-false, or-right, or-none, neither, negated, not-outside, clear}
 use Rattle.layout.specs.declared.Reader.{Reader}
 use Rattle.layout.specs.declared.Publisher.{Publisher}
 use Rattle.layout.specs.declared.Progress.{Progress}
@@ -26,69 +27,70 @@ use Rattle.publication_law.specs.Steps.{Versions, upTo, decide, reader, 
 use Rattle.publication_law.specs.Damage.{headRows, sharedDamage, readersTest, publishersTest}
 use Rattle.publication_law.specs.DamageLaws.{Fine, fine-of, tests-shared, readers-test-fine, publishers-test-fine}
 use Rattle.publication_law.specs.Decide.{decide-accepts}
-use Rattle.publication_law.specs.Rules.{Rules, damaged, tests, act, step}
+use Rattle.publication_law.specs.Table.{Table, damaged, step}
+use Rattle.publication_law.specs.Rules.{Rules, tableBy}
 
--- A call of a damaged store, and of one that is not.
-pub step-damaged : (R : Rules) (s : State) (c : Call) → damaged R s ≡ true → outcome (Refused DAMAGED) s ≡ step R s c
+-- A call of a damaged store; and of one that is not, where 1 tells that the kind lacks it.
+pub step-damaged : (T : Table) (s : State) (c : Call) → damaged T s ≡ true → outcome (Refused DAMAGED) s ≡ step T s c
 unfolding step
-step-damaged R s c e = rw e refl
+step-damaged T s c e = rw (or-right (T .lacks c) (damaged T s) e) refl
 
-pub step-undamaged : (R : Rules) (s : State) (c : Call) → damaged R s ≡ false → decide (tests R s c) (act R s c) s ≡ step R s c
+pub step-undamaged : (T : Table) (s : State) (c : Call) → damaged T s ≡ false → decide ((T .lacks c gives DAMAGED) ∷ T .tests s c) (T .act s c) s ≡ step T s c
 unfolding step
-step-undamaged R s c e = rw e refl
+step-undamaged T s c e = rw (e, or-none (T .lacks c)) refl
 
 -- The damage test is that of the head, of the readers, of the publishers, each by itself, and what a kind adds.
-module _ (R : Rules) (s : State) where
-  pub undamaged-fine : damaged R s ≡ false → Fine (R .kind) s
+module _ (T : Table) (s : State) where
+  pub undamaged-fine : damaged T s ≡ false → Fine (T .kind) s
   unfolding damaged
-  undamaged-fine e = fine-of (R .kind) s (or-false (sharedDamage (R .kind) s) (R .further s) e .0)
+  undamaged-fine e = fine-of (T .kind) s (or-false (sharedDamage (T .kind) s) (T .further s) e .0)
 
-  pub undamaged-further : damaged R s ≡ false → R .further s ≡ false
+  pub undamaged-further : damaged T s ≡ false → T .further s ≡ false
   unfolding damaged
-  undamaged-further e = or-false (sharedDamage (R .kind) s) (R .further s) e .1
+  undamaged-further e = or-false (sharedDamage (T .kind) s) (T .further s) e .1
 
-  pub undamaged : anyTrue (headRows (R .kind) s) ≡ false → readersTest (R .kind) s ≡ false → R .further s ≡ false → publishersTest (R .kind) s ≡ false → damaged R s ≡ false
+  pub undamaged : anyTrue (headRows (T .kind) s) ≡ false → readersTest (T .kind) s ≡ false → T .further s ≡ false → publishersTest (T .kind) s ≡ false → damaged T s ≡ false
   unfolding damaged
-  undamaged h r f p = neither (sharedDamage (R .kind) s) (R .further s) (tests-shared (R .kind) s h r p) f
+  undamaged h r f p = neither (sharedDamage (T .kind) s) (T .further s) (tests-shared (T .kind) s h r p) f
 
   -- A test that no undamaged store fails damages the store that fails it.
-  unless : (b : Bool) → (damaged R s ≡ false → b ≡ false) → b ≡ true → damaged R s ≡ true
-  unless b f e = go (damaged R s) refl
+  unless : (b : Bool) → (damaged T s ≡ false → b ≡ false) → b ≡ true → damaged T s ≡ true
+  unless b f e = go (damaged T s) refl
     where
-      go : (d : Bool) → damaged R s ≡ d → damaged R s ≡ true
+      go : (d : Bool) → damaged T s ≡ d → damaged T s ≡ true
       go true d = d
       go false d = absurd (not-both b e (f d))
 
-  pub damaged-head : anyTrue (headRows (R .kind) s) ≡ true → damaged R s ≡ true
+  pub damaged-head : anyTrue (headRows (T .kind) s) ≡ true → damaged T s ≡ true
   unfolding damaged
   damaged-head e = rw e refl
 
-  pub damaged-readers : readersTest (R .kind) s ≡ true → damaged R s ≡ true
-  damaged-readers = unless (readersTest (R .kind) s) (λ d. readers-test-fine (R .kind) s (undamaged-fine d))
+  pub damaged-readers : readersTest (T .kind) s ≡ true → damaged T s ≡ true
+  damaged-readers = unless (readersTest (T .kind) s) (λ d. readers-test-fine (T .kind) s (undamaged-fine d))
 
-  pub damaged-publishers : publishersTest (R .kind) s ≡ true → damaged R s ≡ true
-  damaged-publishers = unless (publishersTest (R .kind) s) (λ d. publishers-test-fine (R .kind) s (undamaged-fine d))
+  pub damaged-publishers : publishersTest (T .kind) s ≡ true → damaged T s ≡ true
+  damaged-publishers = unless (publishersTest (T .kind) s) (λ d. publishers-test-fine (T .kind) s (undamaged-fine d))
 
-  pub damaged-further : R .further s ≡ true → damaged R s ≡ true
-  damaged-further = unless (R .further s) undamaged-further
+  pub damaged-further : T .further s ≡ true → damaged T s ≡ true
+  damaged-further = unless (T .further s) undamaged-further
 
 -- ENTER below 5 and LEAVE at 4 and 5.
-module _ (R : Rules) (s : State) (clean : damaged R s ≡ false) (r : ℕ) (x : Reader) (named : r < readers (s .words)) (is : x ≡ reader s r) where
-  pub enter-accepted : x .place < 5 → act R s (Enter r) ≡ step R s (Enter r)
-  enter-accepted turn = sym (decide-accepts (tests R s (Enter r)) (act R s (Enter r)) s (lt-leb _ _ named, (lt-leb 5 _ (rw is at turn), tt))) ∙ step-undamaged R s (Enter r) clean
+module _ (R : Rules) (s : State) (clean : damaged (tableBy R) s ≡ false) (r : ℕ) (x : Reader) (named : r < readers (s .words)) (is : x ≡ reader s r) where
+  pub enter-accepted : x .place < 5 → tableBy R .act s (Enter r) ≡ step (tableBy R) s (Enter r)
+  enter-accepted turn = sym (decide-accepts (tableBy R .tests s (Enter r)) (tableBy R .act s (Enter r)) s (lt-leb _ _ named, (lt-leb 5 _ (rw is at turn), tt))) ∙ step-undamaged (tableBy R) s (Enter r) clean
 
-  pub leave-accepted : 4 ≤ x .place → act R s (Leave r) ≡ step R s (Leave r)
-  leave-accepted turn = sym (decide-accepts (tests R s (Leave r)) (act R s (Leave r)) s (lt-leb _ _ named, (le-ltb _ 4 (rw is at turn), tt))) ∙ step-undamaged R s (Leave r) clean
+  pub leave-accepted : 4 ≤ x .place → tableBy R .act s (Leave r) ≡ step (tableBy R) s (Leave r)
+  leave-accepted turn = sym (decide-accepts (tableBy R .tests s (Leave r)) (tableBy R .act s (Leave r)) s (lt-leb _ _ named, (le-ltb _ 4 (rw is at turn), tt))) ∙ step-undamaged (tableBy R) s (Leave r) clean
 
 -- RAISE and WALK, at a place that the kind allows.
-module _ (R : Rules) (s : State) (clean : damaged R s ≡ false) (o : Outcome) (p : ℕ) (y : Publisher) (named : p < publishers (s .words)) (is : y ≡ publisher s p) where
-  pub raise-is : R .raisesAt (y .place) ≡ true → o ≡ raise (R .kind .versions) s p → o ≡ step R s (Raise p)
+module _ (R : Rules) (s : State) (clean : damaged (tableBy R) s ≡ false) (o : Outcome) (p : ℕ) (y : Publisher) (named : p < publishers (s .words)) (is : y ≡ publisher s p) where
+  pub raise-is : R .raisesAt (y .place) ≡ true → o ≡ raise (R .kind .versions) s p → o ≡ step (tableBy R) s (Raise p)
   raise-is turn e =
-      e ∙ sym (decide-accepts (tests R s (Raise p)) (act R s (Raise p)) s (lt-leb _ _ named, (negated _ (rw is at turn), tt))) ∙ step-undamaged R s (Raise p) clean
+      e ∙ sym (decide-accepts (tableBy R .tests s (Raise p)) (tableBy R .act s (Raise p)) s (lt-leb _ _ named, (negated _ (rw is at turn), tt))) ∙ step-undamaged (tableBy R) s (Raise p) clean
 
-  pub walk-is : (b : ℕ) (k : Progress) → R .walksAt (y .place) ≡ true → y .walk .looks + b ≤ NUMBER-MAX → k ≡ R .looks s p b → o ≡ walk s p k → o ≡ step R s (Walk p b)
+  pub walk-is : (b : ℕ) (k : Progress) → R .walksAt (y .place) ≡ true → y .walk .looks + b ≤ NUMBER-MAX → k ≡ R .looks s p b → o ≡ walk s p k → o ≡ step (tableBy R) s (Walk p b)
   walk-is b k turn room looks e =
-      e ∙ rw looks (sym (decide-accepts (tests R s (Walk p b)) (act R s (Walk p b)) s (lt-leb _ _ named, (negated _ (rw is at turn), (le-ltb _ _ (rw is at room), tt)))) ∙ step-undamaged R s (Walk p b) clean)
+      e ∙ rw looks (sym (decide-accepts (tableBy R .tests s (Walk p b)) (tableBy R .act s (Walk p b)) s (lt-leb _ _ named, (negated _ (rw is at turn), (le-ltb _ _ (rw is at room), tt)))) ∙ step-undamaged (tableBy R) s (Walk p b) clean)
 
 -- Up to the version before the last a SYNC is allowed, and its mark does not run over.
 pub last-is : (last v : ℕ) → 1 ≤ last → v ≤ last → upTo last .isLast v ≡ ltb (last - 1) v

@@ -15,7 +15,7 @@ use Rattle.layout.specs.declared.Publisher.{Publisher}
 use Rattle.layout.specs.Layout.{WORDS, kind, readers, publishers, slots, current, version}
 use Rattle.statement.specs.Machine.{State, state}
 use Rattle.publication_law.specs.Steps.{Versions, reader, publisher}
-use Rattle.publication_law.specs.Rules.{Rules, damaged}
+use Rattle.publication_law.specs.Table.{Table, damaged}
 use Rattle.publication_law.specs.Damage.{Kind, headRows, publisherRows, readersDamaged, publishersDamaged, sharedDamage, readersTest, publishersTest}
 
 pub record HeadFine (K : Kind) (s : State) : Type 0 where
@@ -142,8 +142,8 @@ publisher-to vs slots y f = none-true (publisherRows vs slots y) (
     some-place n e = let q = eqb-false n 0 (not-true (eqb n 0) e) in omega arith
 
 -- A store with every number 0 is damaged.
-pub zero-damaged : (R : Rules) (es : List ℤ) → damaged R (state (replicate WORDS 0) es) ≡ true
+pub zero-damaged : (T : Table) (es : List ℤ) → damaged T (state (replicate WORDS 0) es) ≡ true
 unfolding damaged
-zero-damaged R es = or-left (sharedDamage (R .kind) (state (replicate WORDS 0) es)) (R .further (state (replicate WORDS 0) es))
-    (or-left (anyTrue (headRows (R .kind) (state (replicate WORDS 0) es)) || readersDamaged (R .kind) (state (replicate WORDS 0) es)) (publishersDamaged (R .kind) (state (replicate WORDS 0) es))
-    (or-left (anyTrue (headRows (R .kind) (state (replicate WORDS 0) es))) (readersDamaged (R .kind) (state (replicate WORDS 0) es)) (or-right (not (eqb 0 (R .kind .number))) true refl)))
+zero-damaged T es = or-left (sharedDamage (T .kind) (state (replicate WORDS 0) es)) (T .further (state (replicate WORDS 0) es))
+    (or-left (anyTrue (headRows (T .kind) (state (replicate WORDS 0) es)) || readersDamaged (T .kind) (state (replicate WORDS 0) es)) (publishersDamaged (T .kind) (state (replicate WORDS 0) es))
+    (or-left (anyTrue (headRows (T .kind) (state (replicate WORDS 0) es))) (readersDamaged (T .kind) (state (replicate WORDS 0) es)) (or-right (not (eqb 0 (T .kind .number))) true refl)))

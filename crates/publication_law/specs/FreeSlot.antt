@@ -16,7 +16,8 @@ use Rattle.statement.specs.Companions.{Traits}
 use Rattle.statement.specs.FreeSlot.{FindsFreeSlot}
 use Rattle.statement.specs.Kept.{Ghost, ghost₀, all-told}
 use Rattle.publication_law.specs.Steps.{publisher, inUse}
-use Rattle.publication_law.specs.Rules.{Rules, machine}
+use Rattle.publication_law.specs.Table.{machine}
+use Rattle.publication_law.specs.Rules.{Rules, tableBy}
 use Rattle.publication_law.specs.Damage.{Kind}
 use Rattle.publication_law.specs.Invariant.{Invariant}
 use Rattle.publication_law.specs.KindLaw.{KindLaw}
@@ -55,9 +56,9 @@ module _ (R : Rules) (T : Traits) (L : Lawful R T) where
       (y .0, omega (arith, n .slots-are, y .1), unused-told (R .kind) (L .kind-law) z g s (i .shared) (y .0) (y .2))
 
   -- Of a kind whose claims are not exclusive.
-  pub finds-free-slot-of : T .exclusive ≡ false → FindsFreeSlot (machine R)
+  pub finds-free-slot-of : T .exclusive ≡ false → FindsFreeSlot (machine (tableBy R))
   finds-free-slot-of shared s f cs room p pn idle =
-      let t = all-told (ghost₀ (T .first (f .arguments))) (events (machine R) s cs) in
+      let t = all-told (ghost₀ (T .first (f .arguments))) (events (machine (tableBy R)) s cs) in
       let x = told-free (f .arguments) _ _ (reached R T L s f cs) room p pn (rw t idle) in
       let found = rw t at (x .2) in record {
         slot = x .0;

@@ -39,7 +39,8 @@ use Rattle.statement.specs.Companions.{Traits, IsFresh, MakesFresh, MakingAccep
 use Rattle.statement.specs.Kept.{Ghost, ghost₀, advance, next, nextAll, Back, Kept, kept-after, demand3, companions}
 use Rattle.publication_law.specs.Steps.{reader, publisher, atPlace, anotherBusy, enterTests, leaveTests, syncTests, sync, raise, walk, oneMore, makingTests, made}
 use Rattle.publication_law.specs.Damage.{Kind, sharedDamage}
-use Rattle.publication_law.specs.Rules.{Rules, damaged, tests, act, rows, step, making, machine}
+use Rattle.publication_law.specs.Table.{damaged, rows, step, making, machine}
+use Rattle.publication_law.specs.Rules.{Rules, tableBy}
 use Rattle.publication_law.specs.DamageLaws.{Fine, fine-to, publisher-below}
 use Rattle.publication_law.specs.Moves.{MovesPublisher, MovesReader, publisher-moves, publisher-moves-head}
 use Rattle.publication_law.specs.Tallied.{phaseAt, phase-writing, InPhase, in-phase, phase-turn}
@@ -106,11 +107,11 @@ module _ (R : Rules) (T : Traits) (L : Lawful R T) where
   -- What each call's rows and step show of themselves.
   record Plain (s : State) (c : Call) : Type 0 where
     -- its numbers are above 1 and below 100, and what it does where none applies is accepted
-    numbers : allAbove DAMAGED (tests R s c) ≡ true
-    accepts : accepted (act R s c .reply) ≡ true
+    numbers : allAbove DAMAGED (tableBy R .tests s c) ≡ true
+    accepts : accepted (tableBy R .act s c .reply) ≡ true
     -- a pitch is an entry, and only WRITE moves the entries
-    proper : ((j : ℕ) → NarrowPitch (getD (s .entries) j (pos 0))) → Proper (act R s c .reply)
-    entries-stay : ((p : ℕ) (v : ℤ) → c ≢ Write p v) → act R s c .after .entries ≡ s .entries
+    proper : ((j : ℕ) → NarrowPitch (getD (s .entries) j (pos 0))) → Proper (tableBy R .act s c .reply)
+    entries-stay : ((p : ℕ) (v : ℤ) → c ≢ Write p v) → tableBy R .act s c .after .entries ≡ s .entries
 
   plain : (s : State) (c : Call) → Plain s c
   plain s (Enter r) = record { numbers = refl; accepts = refl; proper = λ _. tt; entries-stay = λ _. refl }
@@ -129,19 +130,19 @@ module _ (R : Rules) (T : Traits) (L : Lawful R T) where
   plain s (Walk p b) = record { numbers = refl; accepts = refl; proper = λ _. tt; entries-stay = λ _. refl }
   plain s (Release p) = record { numbers = refl; accepts = refl; proper = λ _. tt; entries-stay = λ _. refl }
 
-  all-numbers : (s : State) (c : Call) → allAbove 0 (rows R s c) ≡ true
-  all-numbers s c = all-above DAMAGED 0 (omega arith) (tests R s c) (plain s c .numbers)
+  all-numbers : (s : State) (c : Call) → allAbove 0 (rows (tableBy R) s c) ≡ true
+  all-numbers s c = all-above DAMAGED 0 (omega arith) (tableBy R .tests s c) (plain s c .numbers)
 
   -- Each step keeps the invariant.
   module _ (z : Given) (g : Ghost) (s : State) (i : Good (R .kind) (L .Own) z g s) where
     After : Call → Outcome → Type 0
     After c o = Good (R .kind) (L .Own) z (next g (c ⇒ o .reply)) (o .after)
 
-    undamaged-now : damaged R s ≡ false
+    undamaged-now : damaged (tableBy R) s ≡ false
     unfolding damaged
     undamaged-now = neither (sharedDamage (R .kind) s) (R .further s) (fine-to (R .kind) s (i .shared .fine)) (L .no-further z g s i)
 
-    claim-kept : (p x : ℕ) → AllClear (tests R s (Claim p x)) → After (Claim p x) (act R s (Claim p x))
+    claim-kept : (p x : ℕ) → AllClear (tableBy R .tests s (Claim p x)) → After (Claim p x) (tableBy R .act s (Claim p x))
     unfolding After
     claim-kept p x f =
         let y : Publisher = record { place = 1; held = x; walk = publisher s p .walk } in record {
@@ -149,7 +150,7 @@ module _ (R : Rules) (T : Traits) (L : Lawful R T) where
           own = L .early-own g _ s _ _ p y _ _ (i .own) refl (publisher-moves (i .shared .fine) p y (leb-false _ _ (f .0))) refl (omega arith);
         }
 
-    write-kept : (p : ℕ) (v : ℤ) → AllClear (tests R s (Write p v)) → After (Write p v) (act R s (Write p v))
+    write-kept : (p : ℕ) (v : ℤ) → AllClear (tableBy R .tests s (Write p v)) → After (Write p v) (tableBy R .act s (Write p v))
     unfolding After
     write-kept p v f =
         let lt : p < publishers (s .words) = leb-false _ _ (f .0) in
@@ -161,7 +162,7 @@ module _ (R : Rules) (T : Traits) (L : Lawful R T) where
           own = L .early-own g _ s _ _ p y _ _ (i .own) refl (publisher-moves (i .shared .fine) p y lt) refl low-now;
         }
 
-    swap-kept : (p : ℕ) → AllClear (tests R s (Swap p)) → After (Swap p) (act R s (Swap p))
+    swap-kept : (p : ℕ) → AllClear (tableBy R .tests s (Swap p)) → After (Swap p) (tableBy R .act s (Swap p))
     unfolding After
     swap-kept p f =
         let y : Publisher = record { place = 34; held = current (s .words); walk = publisher s p .walk } in record {
@@ -170,7 +171,7 @@ module _ (R : Rules) (T : Traits) (L : Lawful R T) where
               (publisher-moves-head (i .shared .fine) p y (leb-false _ _ (f .0)) CURRENT-AT (publisher s p .held) (omega arith) (omega arith)) refl (omega arith);
         }
 
-    release-kept : (p : ℕ) → AllClear (tests R s (Release p)) → After (Release p) (act R s (Release p))
+    release-kept : (p : ℕ) → AllClear (tableBy R .tests s (Release p)) → After (Release p) (tableBy R .act s (Release p))
     unfolding After
     release-kept p f =
         let y : Publisher = atPlace (publisher s p) 0 in record {
@@ -179,13 +180,13 @@ module _ (R : Rules) (T : Traits) (L : Lawful R T) where
               (publisher-moves-head (i .shared .fine) p y (leb-false _ _ (f .0)) RELEASES-AT (oneMore s) (omega arith) (omega arith)) refl (omega arith);
         }
 
-    raised-kept : (p : ℕ) → AllClear (tests R s (Raise p)) → After (Raise p) (act R s (Raise p))
+    raised-kept : (p : ℕ) → AllClear (tableBy R .tests s (Raise p)) → After (Raise p) (tableBy R .act s (Raise p))
     unfolding After
     raised-kept p f = raise-split (λ (o : Outcome). Good (R .kind) (L .Own) z (advance g (Raise p) (o .reply)) (o .after) → Good (R .kind) (L .Own) z (next g (Raise p ⇒ o .reply)) (o .after))
         (R .kind .versions) s p (λ _ x. record { shared = x .shared; own = x .own }) (λ x. record { shared = x .shared; own = x .own })
         (L .raise-kept z g s i p (leb-false _ _ (f .0)) (not-false _ (f .1 .0)))
 
-    acted : (c : Call) → AllClear (tests R s c) → After c (act R s c)
+    acted : (c : Call) → AllClear (tableBy R .tests s c) → After c (tableBy R .act s c)
     unfolding After
     acted (Enter r) f = L .enter-kept z g s i r f
     acted (Look r k) f = record { shared = i .shared; own = i .own }
@@ -198,41 +199,41 @@ module _ (R : Rules) (T : Traits) (L : Lawful R T) where
     acted (Walk p b) f = L .walk-kept z g s i p b (leb-false _ _ (f .0)) (not-false _ (f .1 .0))
     acted (Release p) f = release-kept p f
 
-    stepped : (c : Call) → Good (R .kind) (L .Own) z (next g (c ⇒ step R s c .reply)) (step R s c .after)
+    stepped : (c : Call) → Good (R .kind) (L .Own) z (next g (c ⇒ step (tableBy R) s c .reply)) (step (tableBy R) s c .after)
     unfolding After step
-    stepped c = decided (After c) (rows R s c) (act R s c) s (all-numbers s c) (λ f. acted c (f .1)) i
+    stepped c = decided (After c) (rows (tableBy R) s c) (tableBy R .act s c) s (all-numbers s c) (λ f. acted c (f .1)) i
 
-    look-shelf : (r k : ℕ) → accepted (step R s (Look r k) .reply) ≡ true → (v : ℤ) × (step R s (Look r k) .reply ≡ Pitch v) × (entry (g .model .note r) k ≡ some v)
+    look-shelf : (r k : ℕ) → accepted (step (tableBy R) s (Look r k) .reply) ≡ true → (v : ℤ) × (step (tableBy R) s (Look r k) .reply ≡ Pitch v) × (entry (g .model .note r) k ≡ some v)
     unfolding step
-    look-shelf r k = decided (λ (o : Outcome). accepted (o .reply) ≡ true → (v : ℤ) × (o .reply ≡ Pitch v) × (entry (g .model .note r) k ≡ some v)) (rows R s (Look r k)) (act R s (Look r k)) s refl
+    look-shelf r k = decided (λ (o : Outcome). accepted (o .reply) ≡ true → (v : ℤ) × (o .reply ≡ Pitch v) × (entry (g .model .note r) k ≡ some v)) (rows (tableBy R) s (Look r k)) (tableBy R .act s (Look r k)) s refl
         (λ f ok. (_, refl, look-right (R .kind) (L .kind-law) z g s (i .shared) r k (f .1))) (λ ok. clash (sym ok))
 
-    claim-safe : (p x r : ℕ) → accepted (step R s (Claim p x) .reply) ≡ true → ¬ (g .told .picked r ≡ some x)
+    claim-safe : (p x r : ℕ) → accepted (step (tableBy R) s (Claim p x) .reply) ≡ true → ¬ (g .told .picked r ≡ some x)
     unfolding step
-    claim-safe p x r = decided (λ (o : Outcome). accepted (o .reply) ≡ true → ¬ (g .told .picked r ≡ some x)) (rows R s (Claim p x)) (act R s (Claim p x)) s refl
+    claim-safe p x r = decided (λ (o : Outcome). accepted (o .reply) ≡ true → ¬ (g .told .picked r ≡ some x)) (rows (tableBy R) s (Claim p x)) (tableBy R .act s (Claim p x)) s refl
         (λ f ok. claim-unpicked (R .kind) (L .kind-law) z g s (i .shared) (R .exclusive) p x (f .1) r) (λ ok. clash (sym ok))
 
-    return-back : (p b l w : ℕ) → step R s (Walk p b) .reply ≡ Walked (Returned l w) → Back T z g p l w
+    return-back : (p b l w : ℕ) → step (tableBy R) s (Walk p b) .reply ≡ Walked (Returned l w) → Back T z g p l w
     unfolding step
-    return-back p b l w = decided (λ (o : Outcome). o .reply ≡ Walked (Returned l w) → Back T z g p l w) (rows R s (Walk p b)) (act R s (Walk p b)) s refl
+    return-back p b l w = decided (λ (o : Outcome). o .reply ≡ Walked (Returned l w) → Back T z g p l w) (rows (tableBy R) s (Walk p b)) (tableBy R .act s (Walk p b)) s refl
         (λ f q. L .return-shown z g s i p b l w (leb-false _ _ (f .1 .0)) (not-false _ (f .1 .1 .0)) (cc))
         (λ q. absurd (let y : _≡_ {A = ℕ} 0 1 = cc in omega arith))
 
-    release-order : (p : ℕ) → accepted (step R s (Release p) .reply) ≡ true → g .tally .phase p ≡ returned
+    release-order : (p : ℕ) → accepted (step (tableBy R) s (Release p) .reply) ≡ true → g .tally .phase p ≡ returned
     unfolding step
-    release-order p = decided (λ (o : Outcome). accepted (o .reply) ≡ true → g .tally .phase p ≡ returned) (rows R s (Release p)) (act R s (Release p)) s refl
+    release-order p = decided (λ (o : Outcome). accepted (o .reply) ≡ true → g .tally .phase p ≡ returned) (rows (tableBy R) s (Release p)) (tableBy R .act s (Release p)) s refl
         (λ f ok. released-in-order (R .kind) (L .kind-law) z g s (i .shared) p (f .1)) (λ ok. clash (sym ok))
 
-    not-damaged : (c : Call) → step R s c .reply ≢ Refused DAMAGED
+    not-damaged : (c : Call) → step (tableBy R) s c .reply ≢ Refused DAMAGED
     unfolding step
     not-damaged c e =
-        let q = decide-why (rows R s c) (act R s c) s DAMAGED (plain s c .accepts) e in
-        let d : firstOf (tests R s c) ≡ DAMAGED = rw undamaged-now at (q .0) in
-        omega (arith, first-within DAMAGED (tests R s c) (plain s c .numbers) (λ y. omega arith) .0)
+        let q = decide-why (rows (tableBy R) s c) (tableBy R .act s c) s DAMAGED (plain s c .accepts) e in
+        let d : firstOf (tableBy R .tests s c) ≡ DAMAGED = rw undamaged-now at (q .0) in
+        omega (arith, first-within DAMAGED (tableBy R .tests s c) (plain s c .numbers) (λ y. omega arith) .0)
 
-    accepts : (c : Call) → AllClear (tests R s c) → step R s c ≡ act R s c
+    accepts : (c : Call) → AllClear (tableBy R .tests s c) → step (tableBy R) s c ≡ tableBy R .act s c
     unfolding step
-    accepts c f = decide-accepts (rows R s c) (act R s c) s (undamaged-now, f)
+    accepts c f = decide-accepts (rows (tableBy R) s c) (tableBy R .act s c) s (undamaged-now, f)
 
     named-reader : (r : ℕ) → r < z .readers → leb (readers (s .words)) r ≡ false
     named-reader r l = lt-leb (readers (s .words)) r (omega (arith, i .shared .sized .readers-are))
@@ -250,7 +251,7 @@ module _ (R : Rules) (T : Traits) (L : Lawful R T) where
     nobody-busy p f = and-not (R .exclusive) (anotherBusy s p) (λ e. no-below _ (publishers (s .words)) (λ q l. and-not (not (eqb q p)) (not (eqb (publisher s q .place) 0)) (λ _. idle-turn q (f e q))))
 
     refused-busy : R .exclusive ≡ true → (p x q y : ℕ) → p < z .publishers → x < z .slots → ((y : ℕ) → holds (g .told) p y ≡ false) → q ≢ p → holds (g .told) q y ≡ true
-        → step R s (Claim p x) .reply ≡ Refused BUSY
+        → step (tableBy R) s (Claim p x) .reply ≡ Refused BUSY
     unfolding step
     refused-busy e p x q y pn xn f ne held =
         let b = busy-told (R .kind) (L .kind-law) z g s (i .shared) q y held in
@@ -262,21 +263,21 @@ module _ (R : Rules) (T : Traits) (L : Lawful R T) where
     placed p x e = subst (InPhase (publisher s p .place)) (sym (i .shared .tallied .phases p) ∙ e) (in-phase (publisher s p .place))
 
     writes-on : (p : ℕ) (v : ℤ) → p < z .publishers → g .tally .phase p ≡ writing → length (g .model .draft p) < TABLE → ltZ v PITCH-LOW ≡ false → ltZ PITCH-HIGH v ≡ false
-        → step R s (Write p v) .reply ≡ Written (length (g .model .draft p) + 1)
+        → step (tableBy R) s (Write p v) .reply ≡ Written (length (g .model .draft p) + 1)
     writes-on p v pn ph short low high =
         let at = placed p writing ph in
         let pl = i .shared .core .publishers p .drafted (at .0) (at .1) in
         let turn : outside 1 32 (publisher s p .place) ≡ false = not-outside 1 32 (publisher s p .place) (at .0) (omega arith) in
         rw (accepts (Write p v) (named-publisher p pn, (neither (ltZ v PITCH-LOW) (ltZ PITCH-HIGH v) low high, (turn, tt)))) (ap Written (sym pl))
 
-    swaps-on : (p : ℕ) → p < z .publishers → g .tally .phase p ≡ writing → length (g .model .draft p) ≡ TABLE → (x : ℕ) × (g .told .current ≡ some x) × (step R s (Swap p) .reply ≡ Swapped x)
+    swaps-on : (p : ℕ) → p < z .publishers → g .tally .phase p ≡ writing → length (g .model .draft p) ≡ TABLE → (x : ℕ) × (g .told .current ≡ some x) × (step (tableBy R) s (Swap p) .reply ≡ Swapped x)
     swaps-on p pn ph all =
         let at = placed p writing ph in
         let pl = i .shared .core .publishers p .drafted (at .0) (at .1) in
         let turn : not (eqb (publisher s p .place) 33) ≡ false = negated _ (eq-eqb (publisher s p .place) 33 (omega arith)) in
         (current (s .words), i .shared .core .current-is, rw (accepts (Swap p) (named-publisher p pn, (turn, tt))) refl)
 
-    syncs-on : (p : ℕ) → p < z .publishers → g .tally .phase p ≡ swapped → version (s .words) < T .last → accepted (step R s (Sync p) .reply) ≡ true
+    syncs-on : (p : ℕ) → p < z .publishers → g .tally .phase p ≡ swapped → version (s .words) < T .last → accepted (step (tableBy R) s (Sync p) .reply) ≡ true
     syncs-on p pn ph low = rw (accepts (Sync p) (named-publisher p pn, (negated _ (eq-eqb (publisher s p .place) 34 (placed p swapped ph)), (L .below-last (version (s .words)) low, tt)))) refl
 
     -- Whether RAISE and WALK are in turn is told by the phase.
@@ -290,12 +291,12 @@ module _ (R : Rules) (T : Traits) (L : Lawful R T) where
     walk-told : (p : ℕ) → p < publishers (s .words) → T .walksIn (g .tally .phase p) ≡ R .walksAt (publisher s p .place)
     walk-told p lt = L .walks-in (g .tally .phase p) ∙ turn-told (R .walksAt) (L .walks-late) p lt
 
-    raises-on : (p : ℕ) → p < z .publishers → T .raisesIn (g .tally .phase p) ≡ true → accepted (step R s (Raise p) .reply) ≡ true
+    raises-on : (p : ℕ) → p < z .publishers → T .raisesIn (g .tally .phase p) ≡ true → accepted (step (tableBy R) s (Raise p) .reply) ≡ true
     raises-on p pn e =
         let turn : R .raisesAt (publisher s p .place) ≡ true = sym (raise-told p (leb-false _ _ (named-publisher p pn))) ∙ e in
         rw (accepts (Raise p) (named-publisher p pn, (negated _ turn, tt))) (plain s (Raise p) .accepts)
 
-    walks-on : (p b : ℕ) → p < z .publishers → T .walksIn (g .tally .phase p) ≡ true → publisher s p .walk .looks + b ≤ NUMBER-MAX → accepted (step R s (Walk p b) .reply) ≡ true
+    walks-on : (p b : ℕ) → p < z .publishers → T .walksIn (g .tally .phase p) ≡ true → publisher s p .walk .looks + b ≤ NUMBER-MAX → accepted (step (tableBy R) s (Walk p b) .reply) ≡ true
     walks-on p b pn e few-looks =
         let turn : R .walksAt (publisher s p .place) ≡ true = sym (walk-told p (leb-false _ _ (named-publisher p pn))) ∙ e in
         rw (accepts (Walk p b) (named-publisher p pn, (negated _ turn, (le-ltb NUMBER-MAX (publisher s p .walk .looks + b) few-looks, tt)))) refl
@@ -304,7 +305,7 @@ module _ (R : Rules) (T : Traits) (L : Lawful R T) where
     at-phase : (p pl : ℕ) (x : Phase) → eqb (publisher s p .place) pl ≡ true → phaseAt pl ≡ x → g .tally .phase p ≡ x
     at-phase p pl x e q = i .shared .tallied .phases p ∙ (ap phaseAt (eqb-true (publisher s p .place) pl e) ∙ q)
 
-    turn-clear : (c : Call) → AllClear (tests R s c) → InTurn T (g .model) (g .tally) c
+    turn-clear : (c : Call) → AllClear (tableBy R .tests s c) → InTurn T (g .model) (g .tally) c
     turn-clear (Enter r) f = let l = leb-false 5 (reader s r .place) (f .1 .0) in omega (arith, i .shared .tallied .places r)
     turn-clear (Look r k) f = i .shared .tallied .places r ∙ eqb-true (reader s r .place) 5 (not-false _ (f .1 .1 .0))
     turn-clear (Leave r) f = let l = ltb-false (reader s r .place) 4 (f .1 .0) in omega (arith, i .shared .tallied .places r)
@@ -322,13 +323,13 @@ module _ (R : Rules) (T : Traits) (L : Lawful R T) where
     turn-clear (Walk p b) f = walk-told p (leb-false _ _ (f .0)) ∙ not-false _ (f .1 .0)
     turn-clear (Release p) f = released-in-order (R .kind) (L .kind-law) z g s (i .shared) p f
 
-    turn-right : (c : Call) → accepted (step R s c .reply) ≡ true → InTurn T (g .model) (g .tally) c
+    turn-right : (c : Call) → accepted (step (tableBy R) s c .reply) ≡ true → InTurn T (g .model) (g .tally) c
     unfolding step
-    turn-right c = decided (λ (o : Outcome). accepted (o .reply) ≡ true → InTurn T (g .model) (g .tally) c) (rows R s c) (act R s c) s (all-numbers s c)
+    turn-right c = decided (λ (o : Outcome). accepted (o .reply) ≡ true → InTurn T (g .model) (g .tally) c) (rows (tableBy R) s c) (tableBy R .act s c) s (all-numbers s c)
         (λ f ok. turn-clear c (f .1)) (λ ok. clash (sym ok))
 
     frees-on : (p : ℕ) → p < z .publishers → g .tally .phase p ≡ returned
-        → (x : ℕ) × (g .told .former p x ≡ true) × (step R s (Release p) .reply ≡ Freed x ((g .tally .releases + 1) % MODULUS))
+        → (x : ℕ) × (g .told .former p x ≡ true) × (step (tableBy R) s (Release p) .reply ≡ Freed x ((g .tally .releases + 1) % MODULUS))
     frees-on p pn ph =
         let at = placed p returned ph in
         let top = places (L .kind-law) (readers (s .words)) (slots (s .words)) (publisher s p) (i .shared .fine .publishers-fine p (leb-false _ _ (named-publisher p pn))) in
@@ -336,7 +337,7 @@ module _ (R : Rules) (T : Traits) (L : Lawful R T) where
         let n : oneMore s ≡ (g .tally .releases + 1) % MODULUS = omega (arith, i .shared .tallied .releases) in
         (publisher s p .held, former-told (R .kind) (L .kind-law) z g s (i .shared) p (omega arith), rw (accepts (Release p) (named-publisher p pn, (turn, tt)), n) refl)
 
-    state-companions : StateCompanions (machine R) T z (g .model) (g .told) (g .tally) s
+    state-companions : StateCompanions (machine (tableBy R)) T z (g .model) (g .told) (g .tally) s
     state-companions = record {
       undamaged = not-damaged;
       in-turn = turn-right;
@@ -363,7 +364,7 @@ module _ (R : Rules) (T : Traits) (L : Lawful R T) where
   outcome-parts : (o : Outcome) (a : Reply) (s : State) → o ≡ outcome a s → (o .reply ≡ a) × (o .after ≡ s)
   outcome-parts o a s e = (ap (λ (x : Outcome). x .reply) e, ap (λ (x : Outcome). x .after) e)
 
-  start : (s : State) (f : Fresh (machine R) s) → Good (R .kind) (L .Own) (f .arguments) (ghost₀ firstTable) s
+  start : (s : State) (f : Fresh (machine (tableBy R)) s) → Good (R .kind) (L .Own) (f .arguments) (ghost₀ firstTable) s
   unfolding making
   start s f = decided (λ (o : Outcome). o ≡ outcome Made s → Good (R .kind) (L .Own) (f .arguments) (ghost₀ firstTable) s) (makingTests (R .kind .versions) (f .arguments) (f .lent))
       (outcome Made (made (R .kind .number) (R .freshReader) (f .arguments) (f .lent))) (f .lent) refl
@@ -393,7 +394,7 @@ module _ (R : Rules) (T : Traits) (L : Lawful R T) where
         entries-are = let e : length (s .entries) ≡ z .slots * TABLE = eqb-true _ _ (not-false _ (c .1 .1 .1 .1 .0)) in ap (λ (n : ℕ). replicate n FEATHERED) e;
       }
 
-  pub makes-fresh-of : MakesFresh (machine R)
+  pub makes-fresh-of : MakesFresh (machine (tableBy R))
   unfolding making
   makes-fresh-of s f = decided (λ (o : Outcome). o ≡ outcome Made s → IsFresh (f .arguments) s) (makingTests (R .kind .versions) (f .arguments) (f .lent))
       (outcome Made (made (R .kind .number) (R .freshReader) (f .arguments) (f .lent))) (f .lent) refl
@@ -401,7 +402,7 @@ module _ (R : Rules) (T : Traits) (L : Lawful R T) where
       (λ e. absurd (let q = outcome-parts _ _ _ e .0 in let y : _≡_ {A = ℕ} 0 1 = cc in omega arith))
       (f .made)
 
-  kept : Kept (machine R) T
+  kept : Kept (machine (tableBy R)) T
   kept = record {
     Inv = Good (R .kind) (L .Own);
     start = λ s f. rw (L .first-is) (start s f);
@@ -417,57 +418,57 @@ module _ (R : Rules) (T : Traits) (L : Lawful R T) where
   }
 
   -- What the invariant gives after every list from fresh.
-  pub reached : (s : State) (f : Fresh (machine R) s) (cs : List Call) → Good (R .kind) (L .Own) (f .arguments) (nextAll (ghost₀ (T .first (f .arguments))) (events (machine R) s cs)) (afterAll (machine R) s cs)
+  pub reached : (s : State) (f : Fresh (machine (tableBy R)) s) (cs : List Call) → Good (R .kind) (L .Own) (f .arguments) (nextAll (ghost₀ (T .first (f .arguments))) (events (machine (tableBy R)) s cs)) (afterAll (machine (tableBy R)) s cs)
   unfolding kept
-  reached s f cs = kept-after (machine R) T kept (f .arguments) (ghost₀ (T .first (f .arguments))) s (kept .start s f) cs
+  reached s f cs = kept-after (machine (tableBy R)) T kept (f .arguments) (ghost₀ (T .first (f .arguments))) s (kept .start s f) cs
 
-  pub demand3-of : Demand3 (machine R) (T .first)
-  demand3-of = demand3 (machine R) T kept
+  pub demand3-of : Demand3 (machine (tableBy R)) (T .first)
+  demand3-of = demand3 (machine (tableBy R)) T kept
 
-  pub companions-of : Companions (machine R) T
-  companions-of = companions (machine R) T kept
+  pub companions-of : Companions (machine (tableBy R)) T
+  companions-of = companions (machine (tableBy R)) T kept
 
   -- The damage test is false after every list from fresh.
-  pub never-damaged-of : (s : State) → Fresh (machine R) s → (cs : List Call) → damaged R (afterAll (machine R) s cs) ≡ false
+  pub never-damaged-of : (s : State) → Fresh (machine (tableBy R)) s → (cs : List Call) → damaged (tableBy R) (afterAll (machine (tableBy R)) s cs) ≡ false
   never-damaged-of s f cs = go (ghost₀ firstTable) s (start s f) cs
     where
-      go : (g : Ghost) (u : State) → Good (R .kind) (L .Own) (f .arguments) g u → (cs : List Call) → damaged R (afterAll (machine R) u cs) ≡ false
+      go : (g : Ghost) (u : State) → Good (R .kind) (L .Own) (f .arguments) g u → (cs : List Call) → damaged (tableBy R) (afterAll (machine (tableBy R)) u cs) ≡ false
       go g u i [] = undamaged-now (f .arguments) g u i
-      go g u i (c ∷ cs) = go (next g (c ⇒ step R u c .reply)) (step R u c .after) (stepped (f .arguments) g u i c) cs
+      go g u i (c ∷ cs) = go (next g (c ⇒ step (tableBy R) u c .reply)) (step (tableBy R) u c .after) (stepped (f .arguments) g u i c) cs
 
   -- A refused call or making leaves store and entries as they were.
-  pub refused-leaves-of : RefusedLeaves (machine R)
+  pub refused-leaves-of : RefusedLeaves (machine (tableBy R))
   unfolding step making
   refused-leaves-of = record {
-    step = λ s c n e. decide-leaves (rows R s c) (act R s c) s n (plain s c .accepts) e;
+    step = λ s c n e. decide-leaves (rows (tableBy R) s c) (tableBy R .act s c) s n (plain s c .accepts) e;
     making = λ g s n e. decide-leaves (makingTests (R .kind .versions) g s) (outcome Made (made (R .kind .number) (R .freshReader) g s)) s n refl e;
   }
 
   -- A call moves the record that it names, and no other.
-  framed : (s : State) (c : Call) → AllClear (rows R s c) → Framed (T .publishes) c (s .words) (act R s c .after .words)
-  framed s (Enter r) f = reader-framed (T .publishes) (Enter r) _ _ r _ (L .enter-moves s (undamaged-fine R s (f .0)) r (leb-false _ _ (f .1 .0))) refl refl (λ b. L .enter-head b s r)
+  framed : (s : State) (c : Call) → AllClear (rows (tableBy R) s c) → Framed (T .publishes) c (s .words) (tableBy R .act s c .after .words)
+  framed s (Enter r) f = reader-framed (T .publishes) (Enter r) _ _ r _ (L .enter-moves s (undamaged-fine (tableBy R) s (f .0)) r (leb-false _ _ (f .1 .0))) refl refl (λ b. L .enter-head b s r)
       (λ e. subst (λ (x : Reader). PlaceAndOne (reader s r) x) (sym e) (L .enter-stays s r (let q = leb-false 5 (reader s r .place) (f .1 .1 .0) in omega arith)))
   framed s (Look r k) f = same-framed (T .publishes) (Look r k) (s .words)
-  framed s (Leave r) f = reader-framed (T .publishes) (Leave r) _ _ r _ (L .leave-moves s (undamaged-fine R s (f .0)) r (leb-false _ _ (f .1 .0))) refl refl (λ b. L .leave-head b s r)
+  framed s (Leave r) f = reader-framed (T .publishes) (Leave r) _ _ r _ (L .leave-moves s (undamaged-fine (tableBy R) s (f .0)) r (leb-false _ _ (f .1 .0))) refl refl (λ b. L .leave-head b s r)
       (λ e. subst (λ (x : Reader). LeaveStays (T .publishes) (reader s r) x) (sym e) (L .leave-stays s r))
-  framed s (Claim p x) f = claim-framed (T .publishes) (R .kind) s (undamaged-fine R s (f .0)) (R .exclusive) p x (f .1)
-  framed s (Write p v) f = write-framed (T .publishes) (R .kind) s (undamaged-fine R s (f .0)) p v (f .1)
-  framed s (Swap p) f = swap-framed (T .publishes) (R .kind) s (undamaged-fine R s (f .0)) p (f .1)
-  framed s (Sync p) f = sync-framed (T .publishes) (R .kind) s (undamaged-fine R s (f .0)) (R .kind .versions) p (f .1)
-  framed s (Raise p) f = raise-framed (T .publishes) (R .kind) s (undamaged-fine R s (f .0)) (R .kind .versions) p (leb-false _ _ (f .1 .0))
-  framed s (Walk p b) f = walk-framed (T .publishes) (R .kind) s (undamaged-fine R s (f .0)) p b (R .looks s p b) (leb-false _ _ (f .1 .0)) (L .mark-stays s p b)
-  framed s (Release p) f = release-framed (T .publishes) (R .kind) s (undamaged-fine R s (f .0)) p (f .1)
+  framed s (Claim p x) f = claim-framed (T .publishes) (R .kind) s (undamaged-fine (tableBy R) s (f .0)) (R .exclusive) p x (f .1)
+  framed s (Write p v) f = write-framed (T .publishes) (R .kind) s (undamaged-fine (tableBy R) s (f .0)) p v (f .1)
+  framed s (Swap p) f = swap-framed (T .publishes) (R .kind) s (undamaged-fine (tableBy R) s (f .0)) p (f .1)
+  framed s (Sync p) f = sync-framed (T .publishes) (R .kind) s (undamaged-fine (tableBy R) s (f .0)) (R .kind .versions) p (f .1)
+  framed s (Raise p) f = raise-framed (T .publishes) (R .kind) s (undamaged-fine (tableBy R) s (f .0)) (R .kind .versions) p (leb-false _ _ (f .1 .0))
+  framed s (Walk p b) f = walk-framed (T .publishes) (R .kind) s (undamaged-fine (tableBy R) s (f .0)) p b (R .looks s p b) (leb-false _ _ (f .1 .0)) (L .mark-stays s p b)
+  framed s (Release p) f = release-framed (T .publishes) (R .kind) s (undamaged-fine (tableBy R) s (f .0)) p (f .1)
 
-  step-framed : (s : State) (c : Call) → Framed (T .publishes) c (s .words) (step R s c .after .words)
+  step-framed : (s : State) (c : Call) → Framed (T .publishes) c (s .words) (step (tableBy R) s c .after .words)
   unfolding step
-  step-framed s c = decided (λ (o : Outcome). Framed (T .publishes) c (s .words) (o .after .words)) (rows R s c) (act R s c) s (all-numbers s c) (framed s c) (same-framed (T .publishes) c (s .words))
+  step-framed s c = decided (λ (o : Outcome). Framed (T .publishes) c (s .words) (o .after .words)) (rows (tableBy R) s c) (tableBy R .act s c) s (all-numbers s c) (framed s c) (same-framed (T .publishes) c (s .words))
 
   -- An accepted WRITE stores the next entry of the slot held, which is one of the entries.
-  writes-right : (s : State) (p : ℕ) (v : ℤ) → Writes s p v (step R s (Write p v))
+  writes-right : (s : State) (p : ℕ) (v : ℤ) → Writes s p v (step (tableBy R) s (Write p v))
   unfolding step
-  writes-right s p v = decided (λ (o : Outcome). Writes s p v o) (rows R s (Write p v)) (act R s (Write p v)) s refl
+  writes-right s p v = decided (λ (o : Outcome). Writes s p v o) (rows (tableBy R) s (Write p v)) (tableBy R .act s (Write p v)) s refl
       (λ f.
-      let fine = undamaged-fine R s (f .0) in
+      let fine = undamaged-fine (tableBy R) s (f .0) in
       let range = within 1 32 (publisher s p .place) (f .1 .1 .1 .0) in
       let held = fine-publisher (L .kind-law) (readers (s .words)) (slots (s .words)) (publisher s p) (fine .publishers-fine p (leb-false _ _ (f .1 .0))) .held-below (range .0) in record {
         stored = λ _. getD-set-same (s .entries) (nextEntry s p) v (pos 0) (omega (arith, fine .head .entries-are, range .0, range .1, held));
@@ -476,16 +477,16 @@ module _ (R : Rules) (T : Traits) (L : Lawful R T) where
       })
       (record { stored = λ ok. clash (sym ok); others = λ j ne. refl; long = refl })
 
-  pub frame-of : Frame (λ s. T .publishes) (machine R)
+  pub frame-of : Frame (λ s. T .publishes) (machine (tableBy R))
   unfolding step
   frame-of = record {
     words = step-framed;
-    entries = λ s c ne. decided (λ (o : Outcome). o .after .entries ≡ s .entries) (rows R s c) (act R s c) s (all-numbers s c) (λ f. plain s c .entries-stay ne) refl;
+    entries = λ s c ne. decided (λ (o : Outcome). o .after .entries ≡ s .entries) (rows (tableBy R) s c) (tableBy R .act s c) s (all-numbers s c) (λ f. plain s c .entries-stay ne) refl;
     writes = writes-right;
   }
 
   -- A making with every argument in its range is accepted.
-  pub making-accepts-of : MakingAccepts (machine R) T
+  pub making-accepts-of : MakingAccepts (machine (tableBy R)) T
   unfolding making
   making-accepts-of g s long rl rh pl ph sl sh len low = rw (decide-accepts (makingTests (R .kind .versions) g s) (outcome Made (made (R .kind .number) (R .freshReader) g s)) s
       (negated _ (eq-eqb _ _ long), (not-outside 1 READERS-MAX _ rl rh, (not-outside 1 PUBLISHERS-MAX _ pl ph, (not-outside SLOTS-MIN SLOTS-MAX _ sl sh, (negated _ (eq-eqb _ _ len), (L .last-fits _ low, tt))))))) refl
@@ -498,17 +499,17 @@ module _ (R : Rules) (T : Traits) (L : Lawful R T) where
       go true e = omega (arith, eqb-true (firstOf l) 0 e)
       go false e = first-within 0 l n (eqb-false (firstOf l) 0 e) .1
 
-  pub proper-of : (s : State) (c : Call) → ((j : ℕ) → NarrowPitch (getD (s .entries) j (pos 0))) → Proper (step R s c .reply)
+  pub proper-of : (s : State) (c : Call) → ((j : ℕ) → NarrowPitch (getD (s .entries) j (pos 0))) → Proper (step (tableBy R) s c .reply)
   unfolding step
-  proper-of s c n = decided (λ (o : Outcome). Proper (o .reply)) (rows R s c) (act R s c) s (all-numbers s c) (λ f. plain s c .proper n) (below-100 (rows R s c) (all-numbers s c))
+  proper-of s c n = decided (λ (o : Outcome). Proper (o .reply)) (rows (tableBy R) s c) (tableBy R .act s c) s (all-numbers s c) (λ f. plain s c .proper n) (below-100 (rows (tableBy R) s c) (all-numbers s c))
 
-  pub proper-making-of : (g : Given) (s : State) → Proper (making R g s .reply)
+  pub proper-making-of : (g : Given) (s : State) → Proper (making (tableBy R) g s .reply)
   unfolding making
   proper-making-of g s = decided (λ (o : Outcome). Proper (o .reply)) (makingTests (R .kind .versions) g s) (outcome Made (made (R .kind .number) (R .freshReader) g s)) s refl (λ f. tt) (below-100 (makingTests (R .kind .versions) g s) refl)
 
   -- A WALK with no looks that replies spent leaves the whole state as it was.
-  pub walk-zero-of : (s : State) (p : ℕ) → step R s (Walk p 0) .reply ≡ Walked Spent → step R s (Walk p 0) .after ≡ s
+  pub walk-zero-of : (s : State) (p : ℕ) → step (tableBy R) s (Walk p 0) .reply ≡ Walked Spent → step (tableBy R) s (Walk p 0) .after ≡ s
   unfolding step
-  walk-zero-of s p = decided (λ (o : Outcome). o .reply ≡ Walked Spent → o .after ≡ s) (rows R s (Walk p 0)) (act R s (Walk p 0)) s refl
-      (λ f _. rw (L .no-looks s p) (ap (λ (w : List ℕ). state w (s .entries)) (publisher-back (s .words) p (publisher-below (R .kind) s (undamaged-fine R s (f .0)) p (leb-false _ _ (f .1 .0))))))
+  walk-zero-of s p = decided (λ (o : Outcome). o .reply ≡ Walked Spent → o .after ≡ s) (rows (tableBy R) s (Walk p 0)) (tableBy R .act s (Walk p 0)) s refl
+      (λ f _. rw (L .no-looks s p) (ap (λ (w : List ℕ). state w (s .entries)) (publisher-back (s .words) p (publisher-below (R .kind) s (undamaged-fine (tableBy R) s (f .0)) p (leb-false _ _ (f .1 .0))))))
       (λ _. refl)

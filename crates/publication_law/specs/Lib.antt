@@ -1,5 +1,6 @@
 pub mod Steps
 pub mod Damage
+pub mod Table
 pub mod Rules
 pub mod Core
 pub mod Grace

@@ -24,7 +24,8 @@ use Rattle.statement.specs.Demand3.{Demand3}
 use Rattle.statement.specs.Frame.{Frame}
 use Rattle.statement.specs.Companions.{Traits, MakingAccepts, MakesFresh, RefusedLeaves, Companions}
 use Rattle.publication_law.specs.Steps.{publisher, atPlace, raise, walked}
-use Rattle.publication_law.specs.Rules.{Rules, damaged, act, rows, step, making, machine}
+use Rattle.publication_law.specs.Table.{Table, damaged, rows, step, making, machine}
+use Rattle.publication_law.specs.Rules.{Rules, tableBy}
 use Rattle.publication_law.specs.DamageLaws.{Fine}
 use Rattle.publication_law.specs.Calls.{undamaged-fine}
 use Rattle.publication_law.specs.KindLaw.{fine-publisher}
@@ -44,7 +45,7 @@ pub record RaiseFacts (successor : ℕ → ℕ) (s : State) (p : ℕ) (o : Outco
   pub shared : successor (version (s .words)) ≢ publisher s p .walk .mark → (o .reply ≡ Shared) × (version (o .after .words) ≡ version (s .words))
   pub record-is : publisher (o .after) p ≡ record { place = 37; held = publisher s p .held; walk = publisher s p .walk }
 
-pub record Promises (R : Rules) (T : Traits) : Type 0 where
+pub record Promises (R : Table) (T : Traits) : Type 0 where
   pub demand3 : Demand3 (machine R) (T .first)
   pub companions : Companions (machine R) T
   -- the damage test is false after every list from fresh
@@ -67,10 +68,10 @@ module _ (R : Rules) (T : Traits) (L : Lawful R T) where
   own-record : (s : State) (w′ : List ℕ) (p : ℕ) (y : Publisher) (cur ver rel : ℕ) → MovesPublisher (s .words) w′ p y cur ver rel → publisherAt w′ p ≡ y
   own-record s w′ p y cur ver rel m = ap (λ (f : ℕ → Publisher). f p) (m .publishers-are) ∙ rw (same p) refl
 
-  sync-facts-of : (s : State) (p : ℕ) → accepted (step R s (Sync p) .reply) ≡ true → SyncFacts (T .successor) s p (step R s (Sync p))
+  sync-facts-of : (s : State) (p : ℕ) → accepted (step (tableBy R) s (Sync p) .reply) ≡ true → SyncFacts (T .successor) s p (step (tableBy R) s (Sync p))
   unfolding step
-  sync-facts-of s p = decided (λ (o : Outcome). accepted (o .reply) ≡ true → SyncFacts (T .successor) s p o) (rows R s (Sync p)) (act R s (Sync p)) s refl
-      (λ f _. rw (L .successor-is) (record { reply-is = refl; record-is = own-record s _ p _ _ _ _ (publisher-moves (undamaged-fine R s (f .0)) p _ (leb-false _ _ (f .1 .0))) }))
+  sync-facts-of s p = decided (λ (o : Outcome). accepted (o .reply) ≡ true → SyncFacts (T .successor) s p o) (rows (tableBy R) s (Sync p)) (tableBy R .act s (Sync p)) s refl
+      (λ f _. rw (L .successor-is) (record { reply-is = refl; record-is = own-record s _ p _ _ _ _ (publisher-moves (undamaged-fine (tableBy R) s (f .0)) p _ (leb-false _ _ (f .1 .0))) }))
       (λ ok. clash (sym ok))
 
   -- A RAISE of a publisher whose mark fits.
@@ -89,11 +90,11 @@ module _ (R : Rules) (T : Traits) (L : Lawful R T) where
         record-is = own-record s _ p _ _ _ _ m;
       }))
 
-  raise-facts-of : (s : State) (p : ℕ) → accepted (step R s (Raise p) .reply) ≡ true → RaiseFacts (T .successor) s p (step R s (Raise p))
+  raise-facts-of : (s : State) (p : ℕ) → accepted (step (tableBy R) s (Raise p) .reply) ≡ true → RaiseFacts (T .successor) s p (step (tableBy R) s (Raise p))
   unfolding step
-  raise-facts-of s p = decided (λ (o : Outcome). accepted (o .reply) ≡ true → RaiseFacts (T .successor) s p o) (rows R s (Raise p)) (act R s (Raise p)) s refl
+  raise-facts-of s p = decided (λ (o : Outcome). accepted (o .reply) ≡ true → RaiseFacts (T .successor) s p o) (rows (tableBy R) s (Raise p)) (tableBy R .act s (Raise p)) s refl
       (λ f _.
-      let fine = undamaged-fine R s (f .0) in
+      let fine = undamaged-fine (tableBy R) s (f .0) in
       let lt = leb-false (publishers (s .words)) p (f .1 .0) in
       raise-acts s p fine lt (fine-publisher (L .kind-law) _ _ (publisher s p) (fine .publishers-fine p lt) .mark-fits (late-turn (publisher s p .place) (not-false _ (f .1 .1 .0)))))
       (λ ok. clash (sym ok))
@@ -105,7 +106,7 @@ module _ (R : Rules) (T : Traits) (L : Lawful R T) where
           go true d = leb-true 35 pl d
           go false d = absurd (not-both _ e (L .raises-late pl (let q = leb-false 35 pl d in omega arith)))
 
-pub promises-of : (R : Rules) (T : Traits) → Lawful R T → Promises R T
+pub promises-of : (R : Rules) (T : Traits) → Lawful R T → Promises (tableBy R) T
 promises-of R T L = record {
   demand3 = demand3-of R T L;
   companions = companions-of R T L;
@@ -128,11 +129,11 @@ pub record WalkFacts (s : State) (p : ℕ) (k : Progress) (L : Type 0) (o : Outc
   pub looks-are : L
 
 pub walk-facts : (R : Rules) (s : State) (p b : ℕ) (L : Type 0) → (Fine (R .kind) s → p < publishers (s .words) → R .walksAt (publisher s p .place) ≡ true → L)
-    → accepted (step R s (Walk p b) .reply) ≡ true → WalkFacts s p (R .looks s p b) L (step R s (Walk p b))
+    → accepted (step (tableBy R) s (Walk p b) .reply) ≡ true → WalkFacts s p (R .looks s p b) L (step (tableBy R) s (Walk p b))
 unfolding step
-walk-facts R s p b L looks = decided (λ (o : Outcome). accepted (o .reply) ≡ true → WalkFacts s p (R .looks s p b) L o) (rows R s (Walk p b)) (act R s (Walk p b)) s refl
+walk-facts R s p b L looks = decided (λ (o : Outcome). accepted (o .reply) ≡ true → WalkFacts s p (R .looks s p b) L o) (rows (tableBy R) s (Walk p b)) (tableBy R .act s (Walk p b)) s refl
     (λ f _.
-    let fine = undamaged-fine R s (f .0) in
+    let fine = undamaged-fine (tableBy R) s (f .0) in
     let lt = leb-false (publishers (s .words)) p (f .1 .0) in
     record { reply-is = refl; record-is = walk-record (R .kind) s fine p lt (R .looks s p b); looks-are = looks fine lt (not-false _ (f .1 .1 .0)) })
     (λ ok. clash (sym ok))

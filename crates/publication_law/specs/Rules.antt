@@ -1,18 +1,17 @@
--- A kind with the ten calls: what it fixes, and from that its damage test, its rows, its steps and its making.
+-- A kind with sections, SYNC and WALK: what it fixes, and the table that this gives.
 use Prim.Native.Nat.{ℕ}
-use mathlib.Core.Bool.{Bool, not, _||_}
-use mathlib.Core.List.{List, [], _∷_}
+use mathlib.Core.Bool.{Bool, false}
+use mathlib.Core.List.{List}
 use Rattle.calls.specs.declared.Call.{Call}
 use Rattle.calls.specs.declared.Call.the-variants.{Enter, Look, Leave, Claim, Write, Swap, Sync, Raise, Walk, Release}
-use Rattle.calls.specs.declared.Reply.the-variants.{Made, At, Left}
-use Rattle.calls.specs.Numbers.{DAMAGED}
+use Rattle.calls.specs.declared.Reply.the-variants.{At, Left}
 use Rattle.calls.specs.Rows.{Test}
-use Rattle.calls.specs.Rows.Test.{_gives_}
 use Rattle.layout.specs.declared.Reader.{Reader}
 use Rattle.layout.specs.declared.Progress.{Progress}
-use Rattle.statement.specs.Machine.{State, state, Outcome, outcome, Given, Machine}
-use Rattle.publication_law.specs.Steps.{publisher, decide, noSuchPublisher, publisherTurn, enterTests, lookTests, look, leaveTests, claimTests, claim, writeTests, write, swapTests, swap, syncTests, sync, raise, tooManyLooks, walk, releaseTests, release, makingTests, made}
-use Rattle.publication_law.specs.Damage.{Kind, sharedDamage}
+use Rattle.statement.specs.Machine.{State, state, Outcome, outcome}
+use Rattle.publication_law.specs.Steps.{enterTests, lookTests, look, leaveTests, claimTests, claim, writeTests, write, swapTests, swap, syncTests, sync, raiseTests, raise, walkTests, walk, releaseTests, release, makingTests, made}
+use Rattle.publication_law.specs.Damage.{Kind}
+use Rattle.publication_law.specs.Table.{Table}
 
 pub record Rules : Type 0 where
   -- its number, its versions, and what spoils a reader and a publisher
@@ -35,44 +34,40 @@ pub record Rules : Type 0 where
   pub looks : State → ℕ → ℕ → Progress
 
 module _ (R : Rules) where
-  unfoldable pub damaged : State → Bool
-  damaged s = sharedDamage (R .kind) s || R .further s
-
   -- Each call's rows in the order of document 01's table ..
-  abbrev pub tests : State → Call → List Test
-  tests s (Enter r) = enterTests s r
-  tests s (Look r k) = lookTests s r k
-  tests s (Leave r) = leaveTests s r
-  tests s (Claim p x) = claimTests (R .exclusive) s p x
-  tests s (Write p v) = writeTests s p v
-  tests s (Swap p) = swapTests s p
-  tests s (Sync p) = syncTests (R .kind .versions) s p
-  tests s (Raise p) = noSuchPublisher s p ∷ publisherTurn (not (R .raisesAt (publisher s p .place))) ∷ []
-  tests s (Walk p b) = noSuchPublisher s p ∷ publisherTurn (not (R .walksAt (publisher s p .place))) ∷ tooManyLooks s p b ∷ []
-  tests s (Release p) = releaseTests s p
+  abbrev testsBy : State → Call → List Test
+  testsBy s (Enter r) = enterTests s r
+  testsBy s (Look r k) = lookTests s r k
+  testsBy s (Leave r) = leaveTests s r
+  testsBy s (Claim p x) = claimTests (R .exclusive) s p x
+  testsBy s (Write p v) = writeTests s p v
+  testsBy s (Swap p) = swapTests s p
+  testsBy s (Sync p) = syncTests (R .kind .versions) s p
+  testsBy s (Raise p) = raiseTests (R .raisesAt) s p
+  testsBy s (Walk p b) = walkTests (R .walksAt) s p b
+  testsBy s (Release p) = releaseTests s p
 
   -- .. and what it does where none applies.
-  abbrev pub act : State → Call → Outcome
-  act s (Enter r) = outcome (At (R .entered s r .place)) (state (R .enterWords s r) (s .entries))
-  act s (Look r k) = look s r k
-  act s (Leave r) = outcome Left (state (R .leaveWords s r) (s .entries))
-  act s (Claim p x) = claim s p x
-  act s (Write p v) = write s p v
-  act s (Swap p) = swap s p
-  act s (Sync p) = sync (R .kind .versions) s p
-  act s (Raise p) = raise (R .kind .versions) s p
-  act s (Walk p b) = walk s p (R .looks s p b)
-  act s (Release p) = release s p
+  abbrev actBy : State → Call → Outcome
+  actBy s (Enter r) = outcome (At (R .entered s r .place)) (state (R .enterWords s r) (s .entries))
+  actBy s (Look r k) = look s r k
+  actBy s (Leave r) = outcome Left (state (R .leaveWords s r) (s .entries))
+  actBy s (Claim p x) = claim s p x
+  actBy s (Write p v) = write s p v
+  actBy s (Swap p) = swap s p
+  actBy s (Sync p) = sync (R .kind .versions) s p
+  actBy s (Raise p) = raise (R .kind .versions) s p
+  actBy s (Walk p b) = walk s p (R .looks s p b)
+  actBy s (Release p) = release s p
 
-  -- Any call but making: 1 spoiled store, before all else.
-  abbrev pub rows : State → Call → List Test
-  rows s c = (damaged s gives DAMAGED) ∷ tests s c
-
-  unfoldable pub step : State → Call → Outcome
-  step s c = decide (rows s c) (act s c) s
-
-  unfoldable pub making : Given → State → Outcome
-  making g s = decide (makingTests (R .kind .versions) g s) (outcome Made (made (R .kind .number) (R .freshReader) g s)) s
-
-  abbrev pub machine : Machine
-  machine = record { making = making; step = step }
+-- It lacks no call.
+abbrev pub tableBy : Rules → Table
+tableBy R = record {
+  kind = R .kind;
+  further = R .further;
+  lacks = λ c. false;
+  tests = testsBy R;
+  act = actBy R;
+  makingRows = λ g s. makingTests (R .kind .versions) g s;
+  fresh = λ g s. made (R .kind .number) (R .freshReader) g s;
+}

@@ -13,7 +13,7 @@ use Rattle.publication_law.specs.Steps.{Versions, upTo, reader, publishe
 use Rattle.publication_law.specs.Damage.{Kind}
 use Rattle.publication_law.specs.DamageLaws.{Fine}
 use Rattle.publication_law.specs.KindLaw.{KindLaw, fine-publisher}
-use Rattle.publication_law.specs.Rules.{Rules, damaged}
+use Rattle.publication_law.specs.Table.{Table, damaged}
 use Rattle.publication_law.specs.Calls.{undamaged-fine}
 
 pub record Sound (w : List ℕ) : Type 0 where
@@ -39,17 +39,17 @@ pub record Synchronising (y : Publisher) : Type 0 where
   pub mark-low : 1 ≤ y .walk .mark
   pub waits-low : y .walk .waits ≤ y .walk .looks
 
-module _ (R : Rules) (law : KindLaw (R .kind)) (s : State) (clean : damaged R s ≡ false) where
+module _ (T : Table) (law : KindLaw (T .kind)) (s : State) (clean : damaged T s ≡ false) where
   pub sound-of : Sound (s .words)
-  sound-of = sound (R .kind) law s (undamaged-fine R s clean)
+  sound-of = sound (T .kind) law s (undamaged-fine T s clean)
 
   pub entries-of : length (s .entries) ≡ slots (s .words) * TABLE
-  entries-of = undamaged-fine R s clean .head .entries-are
+  entries-of = undamaged-fine T s clean .head .entries-are
 
-  pub version-low : (last : ℕ) → R .kind .versions ≡ upTo last → version (s .words) ≤ last
-  version-low last up = ltb-false last (version (s .words)) (sym (ap (λ (vs : Versions). vs .tooLarge (version (s .words))) up) ∙ undamaged-fine R s clean .head .version-fits)
+  pub version-low : (last : ℕ) → T .kind .versions ≡ upTo last → version (s .words) ≤ last
+  version-low last up = ltb-false last (version (s .words)) (sym (ap (λ (vs : Versions). vs .tooLarge (version (s .words))) up) ∙ undamaged-fine T s clean .head .version-fits)
 
   pub synchronising-of : (p : ℕ) → p < publishers (s .words) → 35 ≤ publisher s p .place → Synchronising (publisher s p)
   synchronising-of p named late =
-      let f = fine-publisher law (readers (s .words)) (slots (s .words)) (publisher s p) (undamaged-fine R s clean .publishers-fine p named) in
+      let f = fine-publisher law (readers (s .words)) (slots (s .words)) (publisher s p) (undamaged-fine T s clean .publishers-fine p named) in
       record { mark-low = law .versions-law .mark-low _ (f .mark-fits late); waits-low = f .waits-low late }

@@ -142,14 +142,19 @@ sync vs s p = outcome (Synced (vs .markAt (version (s .words))))
     (putPublisher s p (record { place = 35; held = publisher s p .held; walk = newWalk (vs .markAt (version (s .words))) }))
 
 -- RAISE p (at which place is each kind's own): if version = mark - 1 it becomes mark, reply raised; otherwise reply shared. Place 37 either way.
+abbrev pub raiseTests : (ℕ → Bool) → State → ℕ → List Test
+raiseTests raisesAt s p = noSuchPublisher s p ∷ publisherTurn (not (raisesAt (publisher s p .place))) ∷ []
+
 abbrev pub raise : Versions → State → ℕ → Outcome
 raise vs s p = pick (eqb (version (s .words)) (vs .beforeMark (publisher s p .walk .mark)))
     (outcome Raised (state (withVersion (withPublisher (s .words) p (atPlace (publisher s p) 37)) (publisher s p .walk .mark)) (s .entries)))
     (outcome Shared (putPublisher s p (atPlace (publisher s p) 37)))
 
--- WALK p b moves the four numbers of the publisher named and of no other. 33 looks + b above 2^64 - 1.
-abbrev pub tooManyLooks : State → ℕ → ℕ → Test
-tooManyLooks s p b = ltb NUMBER-MAX (publisher s p .walk .looks + b) gives TOO-MANY-LOOKS
+-- WALK p b (at which places is each kind's own) moves the four numbers of the publisher named and of no other. 33 looks + b above 2^64 - 1.
+abbrev pub walkTests : (ℕ → Bool) → State → ℕ → ℕ → List Test
+walkTests walksAt s p b =
+    noSuchPublisher s p ∷ publisherTurn (not (walksAt (publisher s p .place)))
+    ∷ (ltb NUMBER-MAX (publisher s p .walk .looks + b) gives TOO-MANY-LOOKS) ∷ []
 
 -- A quiet look leads to place 36, a return to 38; waiting and spent stay.
 abbrev pub placeAfter : ℕ → WalkReply → ℕ

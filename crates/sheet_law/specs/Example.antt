@@ -4,7 +4,7 @@ use mathlib.Core.Path.{_≡_, refl}
 use mathlib.Core.List.{List}
 use Rattle.calls.specs.Rows.{anyBelow}
 use Rattle.layout.specs.Layout.{readerAt, publisherAt, withReader, withPublisher, withReaders, fresh}
-use Rattle.publication_law.specs.Rules.{damaged, step, making}
+use Rattle.publication_law.specs.Table.{damaged, step, making}
 use Rattle.grace_version_law.specs.Steps.{onward}
 use Rattle.kinds_law.specs.Kinds.{named, anyStep, anyMaking}
 use Rattle.sheet_law.specs.Text.{text, digitsBefore, decimal}

@@ -17,8 +17,7 @@ use Rattle.calls.specs.declared.Reply.the-variants.{Made, Refused}
 use Rattle.calls.specs.Numbers.{TABLE, NUMBER-MAX, DAMAGED}
 use Rattle.layout.specs.Layout.{kind}
 use Rattle.statement.specs.Machine.{State, state, outcome, Given, given}
-use Rattle.publication_law.specs.Steps.{makingTests, made}
-use Rattle.publication_law.specs.Rules.{Rules, making}
+use Rattle.publication_law.specs.Table.{Table, making}
 use Rattle.publication_law.specs.Decide.{decide-leaves}
 use Rattle.kinds_law.specs.Kinds.{Name, rulesOf, named, anyStep, makingOf, anyMaking}
 use Rattle.sheet_law.specs.declared.Command.the-variants.{Make, Run}
@@ -128,9 +127,9 @@ unfolding played anyStep named
 before-made c = refl
 
 -- A refused making leaves what was lent, and a refused `store` leaves the one before.
-rules-leave : (R : Rules) (g : Given) (s : State) (n : ℕ) → making R g s .reply ≡ Refused n → making R g s .after ≡ s
+rules-leave : (T : Table) (g : Given) (s : State) (n : ℕ) → making T g s .reply ≡ Refused n → making T g s .after ≡ s
 unfolding making
-rules-leave R g s n = decide-leaves (makingTests (R .kind .versions) g s) (outcome Made (made (R .kind .number) (R .freshReader) g s)) s n refl
+rules-leave T g s n = decide-leaves (T .makingRows g s) (outcome Made (T .fresh g s)) s n refl
 
 making-leaves : (o : Option Name) (g : Given) (s : State) (n : ℕ) → makingOf o g s .reply ≡ Refused n → makingOf o g s .after ≡ s
 making-leaves none g s n e = refl

@@ -6,7 +6,7 @@ ghost use Rattle.calls.specs.declared.Call.the-variants.{Enter, Look, Leave, Cl
 ghost use Rattle.layout.specs.Layout.{WORDS};
 ghost use Rattle.statement.specs.Machine.{state, outcome, given};
 ghost use Rattle.publication_law.specs.Steps.{upTo};
-ghost use Rattle.publication_law.specs.Rules.{step, making};
+ghost use Rattle.publication_law.specs.Table.{step, making};
 ghost use Rattle.two_phase_law.specs.Steps.{rules};
 use calls::Pitch;
 use calls::Reply;

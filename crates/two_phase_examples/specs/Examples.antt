@@ -11,7 +11,7 @@ use Rattle.layout.specs.Layout.{indicator, readerAt, publisherAt, withReader, w
 use Rattle.statement.specs.Machine.{given}
 use Rattle.statement.specs.Examples.{Example, AllHold, leadTo, enters, publication, tableFrom, P9, P10}
 use Rattle.statement.specs.Examples.Example.{shows, unchanged}
-use Rattle.publication_law.specs.Rules.{damaged, step, making}
+use Rattle.publication_law.specs.Table.{damaged, step, making}
 use Rattle.two_phase_law.specs.Steps.{rules, TwoPhase, onward, lookAt}
 use Rattle.two_phase_law.specs.Promises.{old-walk-zero}
 

@@ -12,7 +12,7 @@ use Rattle.statement.specs.Machine.{State, given}
 use Rattle.statement.specs.Examples.{Example, AllHold}
 use Rattle.statement.specs.Examples.Example.{shows, each}
 use Rattle.statement.specs.Precedence.{freshOf, withPublisherAs, sharedRows}
-use Rattle.publication_law.specs.Rules.{damaged, step, making}
+use Rattle.publication_law.specs.Table.{damaged, step, making}
 use Rattle.two_phase_law.specs.Steps.{rules, TwoPhase, onward, lookAt}
 
 -- CLAIM of the current slot, while all are idle and when publisher 0 holds slot 1: 31 before 30.

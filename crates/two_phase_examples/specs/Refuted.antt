@@ -22,36 +22,37 @@ use Rattle.statement.specs.Demand3.{Demand3}
 use Rattle.statement.specs.Examples.{lentFor, tableOf, publication}
 use Rattle.statement.specs.Refute.{someLeave, not-left, events-append}
 use Rattle.publication_law.specs.Steps.{publisher, putPublisher, atPlace}
-use Rattle.publication_law.specs.Rules.{Rules, damaged, step, making}
+use Rattle.publication_law.specs.Table.{damaged, step, making}
+use Rattle.publication_law.specs.Rules.{Rules, tableBy}
 use Rattle.publication_law.specs.Varied.{varied}
-use Rattle.two_phase_law.specs.Steps.{onward, watched, lookAt, rules}
+use Rattle.two_phase_law.specs.Steps.{onward, watched, lookAt, fixed}
 
 -- Several publishers: no 31.
 several : Rules
-several = varied rules false (rules .looks)
+several = varied fixed false (fixed .looks)
 
 -- Line 21: while the first indicator is not empty, a walk whose version has become its mark breaks off the first wait; the second one follows.
 breaksOff : State → ℕ → Bool
 unfolding several
-breaksOff s p = not (damaged several s) && (ltb p (publishers (s .words)) && (eqb (publisher s p .place) 35
+breaksOff s p = not (damaged (tableBy several) s) && (ltb p (publishers (s .words)) && (eqb (publisher s p .place) 35
     && (not (eqb (indicator (s .words) (watched (publisher s p))) 0) && eqb (version (s .words)) (publisher s p .walk .mark))))
 
 publishedStep : State → Call → Outcome
 unfolding several breaksOff
-publishedStep s (Enter r) = step several s (Enter r)
-publishedStep s (Look r k) = step several s (Look r k)
-publishedStep s (Leave r) = step several s (Leave r)
-publishedStep s (Claim p x) = step several s (Claim p x)
-publishedStep s (Write p v) = step several s (Write p v)
-publishedStep s (Swap p) = step several s (Swap p)
-publishedStep s (Sync p) = step several s (Sync p)
-publishedStep s (Raise p) = step several s (Raise p)
-publishedStep s (Walk p b) = pick (breaksOff s p) (outcome (Walked Spent) (putPublisher s p (atPlace (publisher s p) 37))) (step several s (Walk p b))
-publishedStep s (Release p) = step several s (Release p)
+publishedStep s (Enter r) = step (tableBy several) s (Enter r)
+publishedStep s (Look r k) = step (tableBy several) s (Look r k)
+publishedStep s (Leave r) = step (tableBy several) s (Leave r)
+publishedStep s (Claim p x) = step (tableBy several) s (Claim p x)
+publishedStep s (Write p v) = step (tableBy several) s (Write p v)
+publishedStep s (Swap p) = step (tableBy several) s (Swap p)
+publishedStep s (Sync p) = step (tableBy several) s (Sync p)
+publishedStep s (Raise p) = step (tableBy several) s (Raise p)
+publishedStep s (Walk p b) = pick (breaksOff s p) (outcome (Walked Spent) (putPublisher s p (atPlace (publisher s p) 37))) (step (tableBy several) s (Walk p b))
+publishedStep s (Release p) = step (tableBy several) s (Release p)
 
 pub Published : Machine
 unfolding several breaksOff publishedStep
-Published = record { making = making several; step = publishedStep }
+Published = record { making = making (tableBy several); step = publishedStep }
 
 -- One reader, two publishers, three slots, version 0.
 small : Given
@@ -59,7 +60,7 @@ small = given 1 2 3 0
 
 start : State
 unfolding small several
-start = making several small (lentFor small) .after
+start = making (tableBy several) small (lentFor small) .after
 
 -- V is publisher 0, U publisher 1. The reader loads 0; V publishes at version 0 and at version 1, where it sees indicator 0 empty;
 -- the reader arrives there and picks; U swaps ..

@@ -11,7 +11,7 @@ use Rattle.statement.specs.Precedence.{freshOf, small}
 use Rattle.statement.specs.Spoiled.{Case, casesOn, cases, spelled, readerAs, publisherAs, walking, sharedCases}
 use Rattle.statement.specs.Spoiled.Case.{on}
 use Rattle.statement.specs.Spoiled.Change.{indicatorTo, readerTo, publisherTo}
-use Rattle.publication_law.specs.Rules.{damaged, step, making}
+use Rattle.publication_law.specs.Table.{damaged, step, making}
 use Rattle.two_phase_law.specs.Steps.{TwoPhase, onward, lookAt}
 
 -- A place that the kind does not have: 2, 3; and 6 once more, with an indicator that counts that reader, so that the count does not refuse in place of the test.

@@ -26,9 +26,9 @@ use Rattle.publication_law.specs.Steps.{reader}
 use Rattle.publication_law.specs.Looks.{withLook}
 use Rattle.publication_law.specs.Damage.{headRows, readersTest, publishersTest}
 use Rattle.publication_law.specs.DamageLaws.{Fine}
-use Rattle.publication_law.specs.Rules.{damaged, act, step}
+use Rattle.publication_law.specs.Table.{damaged, step}
 use Rattle.publication_law.specs.Calls.{undamaged, undamaged-fine, undamaged-further, damaged-readers, damaged-further, enter-accepted, leave-accepted}
-use Rattle.two_phase_law.specs.Steps.{kind, readerRows, addedTo, miscounted, onward, entered, leaving, watched, lookAt, rules}
+use Rattle.two_phase_law.specs.Steps.{kind, readerRows, addedTo, miscounted, onward, entered, leaving, watched, lookAt, fixed, rules}
 use Rattle.two_phase_law.specs.Counts.{Counted}
 use Rattle.two_phase_law.specs.Safety.{law}
 
@@ -169,24 +169,24 @@ module _ (s : State) (clean : damaged rules s ≡ false) where
       → outcome (At (y .place)) (state v (s .entries)) ≡ step rules s (Enter r)
   arrive-is v r i count x y named is turn moved index counted put =
       let t : reader s r .place ≡ 1 = rw is at turn in
-      rw (put, counted, index, moved, is) (words t ∙ enter-accepted rules s clean r x named is (omega (arith, turn)))
+      rw (put, counted, index, moved, is) (words t ∙ enter-accepted fixed s clean r x named is (omega (arith, turn)))
     where
       words : reader s r .place ≡ 1
-          → outcome (At (entered s r .place)) (state (withIndicator (withReader (s .words) r (entered s r)) (reader s r .first % 2) (indicator (s .words) (reader s r .first % 2) + 1)) (s .entries)) ≡ act rules s (Enter r)
+          → outcome (At (entered s r .place)) (state (withIndicator (withReader (s .words) r (entered s r)) (reader s r .first % 2) (indicator (s .words) (reader s r .first % 2) + 1)) (s .entries)) ≡ rules .act s (Enter r)
       words t = ap (λ (b : Bool). outcome (At (entered s r .place)) (state (pick b (withIndicator (withReader (s .words) r (entered s r)) (reader s r .first % 2) (indicator (s .words) (reader s r .first % 2) + 1)) (withReader (s .words) r (entered s r))) (s .entries))) (sym (eq-eqb (reader s r .place) 1 t))
 
   pub enter-is : (v : List ℕ) (r : ℕ) (x y : Reader) → r < readers (s .words) → x ≡ reader s r → x .place < 5 → x .place ≢ 1 → y ≡ onward (version (s .words)) (current (s .words)) x → v ≡ withReader (s .words) r y
       → outcome (At (y .place)) (state v (s .entries)) ≡ step rules s (Enter r)
   enter-is v r x y named is turn ne moved put =
-      rw (put, moved, is) (words (rw is at ne) ∙ enter-accepted rules s clean r x named is turn)
+      rw (put, moved, is) (words (rw is at ne) ∙ enter-accepted fixed s clean r x named is turn)
     where
-      words : reader s r .place ≢ 1 → outcome (At (entered s r .place)) (state (withReader (s .words) r (entered s r)) (s .entries)) ≡ act rules s (Enter r)
+      words : reader s r .place ≢ 1 → outcome (At (entered s r .place)) (state (withReader (s .words) r (entered s r)) (s .entries)) ≡ rules .act s (Enter r)
       words t = ap (λ (b : Bool). outcome (At (entered s r .place)) (state (pick b (withIndicator (withReader (s .words) r (entered s r)) (reader s r .first % 2) (indicator (s .words) (reader s r .first % 2) + 1)) (withReader (s .words) r (entered s r))) (s .entries))) (sym (ne-eqb (reader s r .place) 1 t))
 
   pub leave-is : (v : List ℕ) (r i count : ℕ) (x : Reader) → r < readers (s .words) → x ≡ reader s r → 4 ≤ x .place → i ≡ x .first % 2 → count ≡ indicator (s .words) i
       → v ≡ withIndicator (withReader (s .words) r (leaving x)) i (count - 1) → outcome Left (state v (s .entries)) ≡ step rules s (Leave r)
   leave-is v r i count x named is turn index counted put =
-      rw (put, counted, index, is) (leave-accepted rules s clean r x named is turn)
+      rw (put, counted, index, is) (leave-accepted fixed s clean r x named is turn)
 
 -- WALK's two places.
 pub walks-at : (n : ℕ) → (n ≡ 35) ⊎ (n ≡ 37) → (eqb n 35 || eqb n 37) ≡ true

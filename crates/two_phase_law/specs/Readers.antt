@@ -18,7 +18,7 @@ use Rattle.layout.specs.Laws.{indicator-reader}
 use Rattle.statement.specs.Machine.{State, Outcome}
 use Rattle.publication_law.specs.Steps.{reader}
 use Rattle.publication_law.specs.DamageLaws.{Fine}
-use Rattle.publication_law.specs.Rules.{act, rows, step}
+use Rattle.publication_law.specs.Table.{rows, step}
 use Rattle.publication_law.specs.Calls.{undamaged-fine}
 use Rattle.publication_law.specs.Decide.{decided}
 use Rattle.two_phase_law.specs.Steps.{kind, entered, enterWords, leaving, leaveWords, rules}
@@ -59,7 +59,7 @@ module _ (s : State) (fine : Fine kind s) (r : ℕ) where
 
 pub old-enter-facts : (s : State) (r : ℕ) → accepted (step rules s (Enter r) .reply) ≡ true → EnterFacts s r (step rules s (Enter r))
 unfolding step
-old-enter-facts s r = decided (λ (o : Outcome). accepted (o .reply) ≡ true → EnterFacts s r o) (rows rules s (Enter r)) (act rules s (Enter r)) s refl
+old-enter-facts s r = decided (λ (o : Outcome). accepted (o .reply) ≡ true → EnterFacts s r o) (rows rules s (Enter r)) (rules .act s (Enter r)) s refl
     (λ f _.
     let fine = undamaged-fine rules s (f .0) in
     let is = ap (λ (g : ℕ → Reader). g r) (enter-moves s fine r (leb-false (readers (s .words)) r (f .1 .0)) .readers-are) ∙ mine in record {
@@ -76,7 +76,7 @@ old-enter-facts s r = decided (λ (o : Outcome). accepted (o .reply) ≡ true �
 
 pub old-leave-facts : (s : State) (r : ℕ) → accepted (step rules s (Leave r) .reply) ≡ true → LeaveFacts s r (step rules s (Leave r))
 unfolding step
-old-leave-facts s r = decided (λ (o : Outcome). accepted (o .reply) ≡ true → LeaveFacts s r o) (rows rules s (Leave r)) (act rules s (Leave r)) s refl
+old-leave-facts s r = decided (λ (o : Outcome). accepted (o .reply) ≡ true → LeaveFacts s r o) (rows rules s (Leave r)) (rules .act s (Leave r)) s refl
     (λ f _.
     let fine = undamaged-fine rules s (f .0) in record {
       reply-is = refl;

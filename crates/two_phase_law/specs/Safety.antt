@@ -34,7 +34,7 @@ use Rattle.publication_law.specs.KindLaw.{KindLaw, up-to-law}
 use Rattle.publication_law.specs.Frames.{place-and-one}
 use Rattle.publication_law.specs.Lawful.{Good, Lawful}
 use Rattle.publication_law.specs.Detector.{Detector, OwnOf, start-own, early-own, enter-good, leave-good, sync-good, raise-good, walk-good, return-good}
-use Rattle.two_phase_law.specs.Steps.{LAST, versions, kind, readerRows, parity, addedTo, onward, placeOn, entered, enterWords, leaving, leaveWords, watched, looksOf, lookAt, freshReader, rules}
+use Rattle.two_phase_law.specs.Steps.{LAST, versions, kind, readerRows, parity, addedTo, onward, placeOn, entered, enterWords, leaving, leaveWords, watched, looksOf, lookAt, freshReader, fixed}
 use Rattle.two_phase_law.specs.Traits.{traits}
 use Rattle.two_phase_law.specs.Counts.{Counted, counted-to, none-added, stays-counted, arrives-counted, leaves-counted, passedAt, Looked, look-mark, look-turn, turn-low, turn-high, looked}
 
@@ -243,7 +243,7 @@ unfolding lookAt
 no-looks s p = refl
 
 -- All that only the old store can show: a walk passes two looks, ENTER goes 1, 4, 5.
-pub lawful : Lawful rules traits
+pub lawful : Lawful fixed traits
 lawful = record {
   kind-law = law;
   first-is = refl;

@@ -1,4 +1,4 @@
--- The old store (Two-Phase with one publisher): what it fixes of the damage test and of the ten calls. `rules` gathers it; publication_law has the rest.
+-- The old store (Two-Phase with one publisher): what it fixes of the damage test and of the ten calls. `fixed` gathers it, and `rules` is the table that this gives.
 -- A reader's second and published version and a walk's next have no use here: they stay as the making left them and are not tested.
 use Prim.Native.Nat.{ℕ, _+_, _-_, _%_}
 use mathlib.Core.Bool.{Bool, true, not, _&&_, _||_}
@@ -16,7 +16,8 @@ use Rattle.layout.specs.Layout.{readers, current, version, indicator, readerAt,
 use Rattle.statement.specs.Machine.{State, Machine}
 use Rattle.publication_law.specs.Steps.{Versions, upTo, reader, publisher}
 use Rattle.publication_law.specs.Damage.{Kind, wrongPick, publisherRows}
-use Rattle.publication_law.specs.Rules.{Rules, machine}
+use Rattle.publication_law.specs.Table.{Table, machine}
+use Rattle.publication_law.specs.Rules.{Rules, tableBy}
 
 -- The last version: 2^63 - 1.
 abbrev pub LAST : ℕ
@@ -106,8 +107,8 @@ abbrev pub freshReader : Reader
 freshReader = blankReader NOT-READING
 
 -- 31 another publisher not at place 0; RAISE p at 36; WALK p b at 35 and 37.
-abbrev pub rules : Rules
-rules = record {
+abbrev pub fixed : Rules
+fixed = record {
   kind = kind;
   further = λ s. miscounted s 0 || miscounted s 1;
   freshReader = freshReader;
@@ -119,6 +120,9 @@ rules = record {
   walksAt = λ place. eqb place 35 || eqb place 37;
   looks = λ s p b. looksOf s (publisher s p) b;
 }
+
+abbrev pub rules : Table
+rules = tableBy fixed
 
 abbrev pub TwoPhase : Machine
 TwoPhase = machine rules

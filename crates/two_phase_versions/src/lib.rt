@@ -4,7 +4,7 @@
 ghost use mathlib.Core.Path.{_≡_};
 ghost use Rattle.calls.specs.declared.Call.the-variants.{Sync, Raise};
 ghost use Rattle.statement.specs.Machine.{state, outcome, given};
-ghost use Rattle.publication_law.specs.Rules.{step, making};
+ghost use Rattle.publication_law.specs.Table.{step, making};
 ghost use Rattle.two_phase_law.specs.Steps.{rules};
 use calls::DAMAGED;
 use calls::KIND_OLD;

@@ -5,7 +5,7 @@ ghost use Prim.Native.Nat.{_+_, _≤_};
 ghost use Rattle.calls.specs.declared.Call.the-variants.{Walk as WALK};
 ghost use Rattle.calls.specs.Numbers.{NUMBER-MAX};
 ghost use Rattle.statement.specs.Machine.{state, outcome};
-ghost use Rattle.publication_law.specs.Rules.{step};
+ghost use Rattle.publication_law.specs.Table.{step};
 ghost use Rattle.two_phase_law.specs.Steps.{watched, lookAt, rules};
 use calls::DAMAGED;
 use calls::NO_SUCH_PUBLISHER;

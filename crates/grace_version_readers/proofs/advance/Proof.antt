@@ -3,7 +3,7 @@ use borrow.Author.Needs.{needs}
 use native.Mathlib.Omega.{arith}
 use mathlib.Core.Path.{refl}
 use borrow.Author.Tests.{le-leb, lt-leb}
-use Rattle.publication_law.specs.Rules.{step}
+use Rattle.publication_law.specs.Table.{step}
 use Rattle.statement.specs.Machine.{state}
 use Rattle.grace_version_law.specs.Calls.{published-of, enter-is, past-enter, onward-loads, onward-publishes, onward-loads-again, onward-publishes-second, onward-picks}
 use Rattle.grace_version_readers.proofs.advance.Statement.{statement}

@@ -6,10 +6,10 @@ use mathlib.Core.Bool.{true, false}
 use mathlib.Core.Logic.{⊎-elim}
 use borrow.Author.Tests.{le-leb, lt-leb, lt-ltb}
 use Rattle.statement.specs.Machine.{state}
-use Rattle.publication_law.specs.Rules.{damaged, step}
+use Rattle.publication_law.specs.Table.{damaged, step}
 use Rattle.publication_law.specs.Calls.{step-damaged, damaged-head, damaged-publishers, walk-is}
 use Rattle.publication_law.specs.Sound.{sound-of, Synchronising, synchronising-of}
-use Rattle.two_phase_law.specs.Steps.{rules}
+use Rattle.two_phase_law.specs.Steps.{fixed, rules}
 use Rattle.two_phase_law.specs.Safety.{law}
 use Rattle.two_phase_law.specs.Calls.{scan-damaged, scan-undamaged, walks-at, walks-not, watched-low}
 use Rattle.two_phase_law.specs.Counts.{turn-low}
@@ -102,7 +102,7 @@ same-length-4 : tie.Need-same-length-4
 same-length-4 c = search needs
 
 returns-4 : tie.Need-returns-4
-returns-4 c = walk-is rules _ (clean (c .before .before .before .before .before .before .before .before .before .before .before .before .before .before .before .before .before)) _ _ _ (rw (c .before .before .before .before .before .before .before .before .before .before .before .before .before .before .before .publishers-of .ensures) at (c .before .before .before .before .before .before .before .before .before .before .before .before .before .before .if4 .left)) (c .before .before .before .before .before .before .before .before .before .before .before .before .publisher-at .ensures) _ _ (walks-at _ (c .before .before .before .before .before .before .before .before .before .before .before .match .keys1)) (room (c .before .before .before .before .before .before .before .before)) (rw (c .before .before .before .before .before .indicator-of .ensures, c .before .before .before .before .before .before .before .looked-at .ensures, c .before .before .before .before .before .before .before .before .before .before .before .before .publisher-at .ensures) at (c .before .before .before .before .look .ensures)) (c .before .before .end-walk .ensures (c .before .before .before .before .before .before .before .before .before .before .before .before .before .before .before .before .before .before .before .before .before .before .before .before .before .before .before .args .entries .now))
+returns-4 c = walk-is fixed _ (clean (c .before .before .before .before .before .before .before .before .before .before .before .before .before .before .before .before .before)) _ _ _ (rw (c .before .before .before .before .before .before .before .before .before .before .before .before .before .before .before .publishers-of .ensures) at (c .before .before .before .before .before .before .before .before .before .before .before .before .before .before .if4 .left)) (c .before .before .before .before .before .before .before .before .before .before .before .before .publisher-at .ensures) _ _ (walks-at _ (c .before .before .before .before .before .before .before .before .before .before .before .match .keys1)) (room (c .before .before .before .before .before .before .before .before)) (rw (c .before .before .before .before .before .indicator-of .ensures, c .before .before .before .before .before .before .before .looked-at .ensures, c .before .before .before .before .before .before .before .before .before .before .before .before .publisher-at .ensures) at (c .before .before .before .before .look .ensures)) (c .before .before .end-walk .ensures (c .before .before .before .before .before .before .before .before .before .before .before .before .before .before .before .before .before .before .before .before .before .before .before .before .before .before .before .args .entries .now))
 
 same-length-5 : tie.Need-same-length-5
 same-length-5 c = search needs
