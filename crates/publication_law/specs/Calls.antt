@@ -2,7 +2,7 @@
 -- Assumes nothing.
 use native.Mathlib.Omega.{arith}
 use Prim.Native.Nat.{ℕ, _+_, _*_, _-_, _%_, _<_, _≤_}
-use mathlib.Core.Path.{_≡_, refl, sym, _∙_}
+use mathlib.Core.Path.{_≡_, refl, sym, ap, _∙_}
 use mathlib.Core.Logic.{_≢_}
 use mathlib.Core.Bool.{Bool, true, false, not, _&&_, _||_}
 use mathlib.Core.List.{List, _∷_}
@@ -33,11 +33,11 @@ use Rattle.publication_law.specs.Rules.{Rules, tableBy}
 -- A call of a damaged store; and of one that is not, where 1 tells that the kind lacks it.
 pub step-damaged : (T : Table) (s : State) (c : Call) → damaged T s ≡ true → outcome (Refused DAMAGED) s ≡ step T s c
 unfolding step
-step-damaged T s c e = rw (or-right (T .lacks c) (damaged T s) e) refl
+step-damaged T s c e = ap (λ (b : Bool). decide ((b gives DAMAGED) ∷ T .tests s c) (T .act s c) s) (sym (or-right (T .lacks c) (damaged T s) e))
 
 pub step-undamaged : (T : Table) (s : State) (c : Call) → damaged T s ≡ false → decide ((T .lacks c gives DAMAGED) ∷ T .tests s c) (T .act s c) s ≡ step T s c
 unfolding step
-step-undamaged T s c e = rw (e, or-none (T .lacks c)) refl
+step-undamaged T s c e = ap (λ (b : Bool). decide ((b gives DAMAGED) ∷ T .tests s c) (T .act s c) s) (sym (ap (λ (b : Bool). T .lacks c || b) e ∙ or-none (T .lacks c)))
 
 -- The damage test is that of the head, of the readers, of the publishers, each by itself, and what a kind adds.
 module _ (T : Table) (s : State) where

@@ -12,16 +12,16 @@ use lib.Signed.{ltZ}
 use lib.ListN.{getD, length, length-set, replicate}
 use lib.Seq.{getD-set-same, getD-set-other}
 use lib.Dec.{leb, eqb}
-use borrow.Author.Tests.{eqb-true, eqb-false, eq-eqb, ne-eqb, leb-false, lt-leb, lt-ltb, ltb-false, le-ltb, not-false}
+use borrow.Author.Tests.{eqb-true, eq-eqb, ne-eqb, leb-false, lt-leb, lt-ltb, ltb-false, le-ltb, not-false}
 use Rattle.calls.specs.declared.Call.{Call}
 use Rattle.calls.specs.declared.Call.the-variants.{Enter, Look, Leave, Claim, Write, Swap, Sync, Raise, Walk, Release}
 use Rattle.calls.specs.declared.Reply.{Reply}
 use Rattle.calls.specs.declared.Reply.the-variants.{Made, At, Pitch, Left, Written, Swapped, Synced, Walked, Freed, Refused}
 use Rattle.calls.specs.declared.WalkReply.the-variants.{Spent, Returned}
 use Rattle.calls.specs.Numbers.{READERS-MAX, PUBLISHERS-MAX, SLOTS-MIN, SLOTS-MAX, TABLE, PITCH-LOW, PITCH-HIGH, FEATHERED, NUMBER-MAX, NOT-READING, MODULUS, DAMAGED, BUSY}
-use Rattle.calls.specs.Rows.{Test, firstOf, outside}
-use Rattle.calls.specs.RowLaws.{clash, and-not, neither, negated, within, not-outside, no-below, some-below, AllClear, allAbove, all-above, first-within}
-use Rattle.calls.specs.AnswerLaws.{NarrowPitch, Proper}
+use Rattle.calls.specs.Rows.{outside}
+use Rattle.calls.specs.RowLaws.{clash, and-not, neither, negated, within, not-outside, no-below, some-below, AllClear, allAbove, all-above}
+use Rattle.calls.specs.AnswerLaws.{Proper}
 use Rattle.calls.specs.Events.{accepted}
 use Rattle.calls.specs.Events.Event.{_⇒_}
 use Rattle.calls.specs.Model.{entry, firstTable}
@@ -34,8 +34,8 @@ use Rattle.layout.specs.Layout.{HEAD, READERS-AT, PUBLISHERS-AT, SLOTS-AT, CURR
 use Rattle.layout.specs.Laws.{publisher-back, fresh-head, fresh-long, fresh-indicator, fresh-reader, fresh-publisher}
 use Rattle.statement.specs.Machine.{State, state, Outcome, outcome, Given, Fresh, events, afterAll}
 use Rattle.statement.specs.Demand3.{Demand3}
-use Rattle.statement.specs.Frame.{PlaceAndOne, LeaveStays, Framed, nextEntry, Writes, Frame}
-use Rattle.statement.specs.Companions.{Traits, IsFresh, MakesFresh, MakingAccepts, RefusedLeaves, InTurn, StateCompanions, Companions}
+use Rattle.statement.specs.Frame.{PlaceAndOne, LeaveStays, nextEntry, Writes}
+use Rattle.statement.specs.Companions.{Traits, IsFresh, MakesFresh, MakingAccepts, InTurn, StateCompanions, Companions}
 use Rattle.statement.specs.Kept.{Ghost, ghost₀, advance, next, nextAll, Back, Kept, kept-after, demand3, companions}
 use Rattle.publication_law.specs.Steps.{reader, publisher, atPlace, anotherBusy, enterTests, leaveTests, syncTests, sync, raise, walk, oneMore, makingTests, made}
 use Rattle.publication_law.specs.Damage.{Kind, sharedDamage}
@@ -47,8 +47,9 @@ use Rattle.publication_law.specs.Tallied.{phaseAt, phase-writing, InPhas
 use Rattle.publication_law.specs.Invariant.{Invariant}
 use Rattle.publication_law.specs.KindLaw.{KindLaw, places, fine-publisher, early-fits}
 use Rattle.publication_law.specs.Keeps.{publisher-fine, claim-keeps, claim-unpicked, write-keeps, swap-keeps, release-keeps, look-right, released-in-order, slots-right, picks-right, table-right, idle-told, busy-told, former-told, free-told, made-invariant}
+use Rattle.publication_law.specs.TableLaws.{Acted, ActLaws, only-damaged}
 use Rattle.publication_law.specs.Calls.{undamaged-fine}
-use Rattle.publication_law.specs.Decide.{raise-split, decided, decide-accepts, decide-leaves, decide-why}
+use Rattle.publication_law.specs.Decide.{raise-split, decided, decide-accepts}
 use Rattle.publication_law.specs.Frames.{same-framed, reader-framed, claim-framed, write-framed, swap-framed, sync-framed, raise-framed, walk-framed, release-framed}
 
 -- The shared invariant with a kind's own.
@@ -104,34 +105,64 @@ pub record Lawful (R : Rules) (T : Traits) : Type 1 where
       → R .looks s p b .reply ≡ Returned l w → Back T z g p l w
 
 module _ (R : Rules) (T : Traits) (L : Lawful R T) where
-  -- What each call's rows and step show of themselves.
-  record Plain (s : State) (c : Call) : Type 0 where
-    -- its numbers are above 1 and below 100, and what it does where none applies is accepted
-    numbers : allAbove DAMAGED (tableBy R .tests s c) ≡ true
-    accepts : accepted (tableBy R .act s c .reply) ≡ true
-    -- a pitch is an entry, and only WRITE moves the entries
-    proper : ((j : ℕ) → NarrowPitch (getD (s .entries) j (pos 0))) → Proper (tableBy R .act s c .reply)
-    entries-stay : ((p : ℕ) (v : ℤ) → c ≢ Write p v) → tableBy R .act s c .after .entries ≡ s .entries
+  -- What each call's rows and act show of themselves.
+  numbers : (s : State) (c : Call) → allAbove DAMAGED (tableBy R .tests s c) ≡ true
+  numbers s (Enter r) = refl
+  numbers s (Look r k) = refl
+  numbers s (Leave r) = refl
+  numbers s (Claim p x) = refl
+  numbers s (Write p v) = refl
+  numbers s (Swap p) = refl
+  numbers s (Sync p) = refl
+  numbers s (Raise p) = refl
+  numbers s (Walk p b) = refl
+  numbers s (Release p) = refl
 
-  plain : (s : State) (c : Call) → Plain s c
-  plain s (Enter r) = record { numbers = refl; accepts = refl; proper = λ _. tt; entries-stay = λ _. refl }
-  plain s (Look r k) = record { numbers = refl; accepts = refl; proper = λ n. n _; entries-stay = λ _. refl }
-  plain s (Leave r) = record { numbers = refl; accepts = refl; proper = λ _. tt; entries-stay = λ _. refl }
-  plain s (Claim p x) = record { numbers = refl; accepts = refl; proper = λ _. tt; entries-stay = λ _. refl }
-  plain s (Write p v) = record { numbers = refl; accepts = refl; proper = λ _. tt; entries-stay = λ ne. absurd (ne p v refl) }
-  plain s (Swap p) = record { numbers = refl; accepts = refl; proper = λ _. tt; entries-stay = λ _. refl }
-  plain s (Sync p) = record { numbers = refl; accepts = refl; proper = λ _. tt; entries-stay = λ _. refl }
-  plain s (Raise p) = record {
-    numbers = refl;
+  acted : (s : State) (c : Call) → AllClear (rows (tableBy R) s c) → Acted (T .publishes) s c (tableBy R .act s c)
+  acted s (Enter r) f = record {
+    accepts = refl;
+    proper = λ _. tt;
+    framed = reader-framed (T .publishes) (Enter r) _ _ r _ (L .enter-moves s (undamaged-fine (tableBy R) s (f .0)) r (leb-false _ _ (f .1 .0))) refl refl (λ b. L .enter-head b s r)
+        (λ e. subst (λ (x : Reader). PlaceAndOne (reader s r) x) (sym e) (L .enter-stays s r (let q = leb-false 5 (reader s r .place) (f .1 .1 .0) in omega arith)));
+    entries-stay = λ _. refl;
+  }
+  acted s (Look r k) f = record { accepts = refl; proper = λ n. n _; framed = same-framed (T .publishes) (Look r k) (s .words); entries-stay = λ _. refl }
+  acted s (Leave r) f = record {
+    accepts = refl;
+    proper = λ _. tt;
+    framed = reader-framed (T .publishes) (Leave r) _ _ r _ (L .leave-moves s (undamaged-fine (tableBy R) s (f .0)) r (leb-false _ _ (f .1 .0))) refl refl (λ b. L .leave-head b s r)
+        (λ e. subst (λ (x : Reader). LeaveStays (T .publishes) (reader s r) x) (sym e) (L .leave-stays s r));
+    entries-stay = λ _. refl;
+  }
+  acted s (Claim p x) f = record { accepts = refl; proper = λ _. tt; framed = claim-framed (T .publishes) (R .kind) s (undamaged-fine (tableBy R) s (f .0)) (R .exclusive) p x (f .1); entries-stay = λ _. refl }
+  acted s (Write p v) f = record { accepts = refl; proper = λ _. tt; framed = write-framed (T .publishes) (R .kind) s (undamaged-fine (tableBy R) s (f .0)) p v (f .1); entries-stay = λ ne. absurd (ne p v refl) }
+  acted s (Swap p) f = record { accepts = refl; proper = λ _. tt; framed = swap-framed (T .publishes) (R .kind) s (undamaged-fine (tableBy R) s (f .0)) p (f .1); entries-stay = λ _. refl }
+  acted s (Sync p) f = record { accepts = refl; proper = λ _. tt; framed = sync-framed (T .publishes) (R .kind) s (undamaged-fine (tableBy R) s (f .0)) (R .kind .versions) p (f .1); entries-stay = λ _. refl }
+  acted s (Raise p) f = record {
     accepts = raise-split (λ (o : Outcome). accepted (o .reply) ≡ true) (R .kind .versions) s p (λ _. refl) refl;
     proper = λ _. raise-split (λ (o : Outcome). Proper (o .reply)) (R .kind .versions) s p (λ _. tt) tt;
+    framed = raise-framed (T .publishes) (R .kind) s (undamaged-fine (tableBy R) s (f .0)) (R .kind .versions) p (leb-false _ _ (f .1 .0));
     entries-stay = λ _. raise-split (λ (o : Outcome). o .after .entries ≡ s .entries) (R .kind .versions) s p (λ _. refl) refl;
   }
-  plain s (Walk p b) = record { numbers = refl; accepts = refl; proper = λ _. tt; entries-stay = λ _. refl }
-  plain s (Release p) = record { numbers = refl; accepts = refl; proper = λ _. tt; entries-stay = λ _. refl }
+  acted s (Walk p b) f = record { accepts = refl; proper = λ _. tt; framed = walk-framed (T .publishes) (R .kind) s (undamaged-fine (tableBy R) s (f .0)) p b (R .looks s p b) (leb-false _ _ (f .1 .0)) (L .mark-stays s p b); entries-stay = λ _. refl }
+  acted s (Release p) f = record { accepts = refl; proper = λ _. tt; framed = release-framed (T .publishes) (R .kind) s (undamaged-fine (tableBy R) s (f .0)) p (f .1); entries-stay = λ _. refl }
+
+  -- An accepted WRITE stores the next entry of the slot held, which is one of the entries.
+  writes-right : (s : State) (p : ℕ) (v : ℤ) → AllClear (rows (tableBy R) s (Write p v)) → Writes s p v (tableBy R .act s (Write p v))
+  writes-right s p v f =
+      let fine = undamaged-fine (tableBy R) s (f .0) in
+      let range = within 1 32 (publisher s p .place) (f .1 .1 .1 .0) in
+      let held = fine-publisher (L .kind-law) (readers (s .words)) (slots (s .words)) (publisher s p) (fine .publishers-fine p (leb-false _ _ (f .1 .0))) .held-below (range .0) in record {
+        stored = λ _. getD-set-same (s .entries) (nextEntry s p) v (pos 0) (omega (arith, fine .head .entries-are, range .0, range .1, held));
+        others = λ j ne. getD-set-other (s .entries) (nextEntry s p) j v (pos 0) ne;
+        long = length-set (s .entries) (nextEntry s p) v;
+      }
+
+  pub act-laws-of : ActLaws (λ s. T .publishes) (tableBy R)
+  act-laws-of = record { numbers = λ s c _. numbers s c; making-numbers = λ g s. refl; acts = acted; writes = writes-right }
 
   all-numbers : (s : State) (c : Call) → allAbove 0 (rows (tableBy R) s c) ≡ true
-  all-numbers s c = all-above DAMAGED 0 (omega arith) (tableBy R .tests s c) (plain s c .numbers)
+  all-numbers s c = all-above DAMAGED 0 (omega arith) (tableBy R .tests s c) (numbers s c)
 
   -- Each step keeps the invariant.
   module _ (z : Given) (g : Ghost) (s : State) (i : Good (R .kind) (L .Own) z g s) where
@@ -186,22 +217,22 @@ module _ (R : Rules) (T : Traits) (L : Lawful R T) where
         (R .kind .versions) s p (λ _ x. record { shared = x .shared; own = x .own }) (λ x. record { shared = x .shared; own = x .own })
         (L .raise-kept z g s i p (leb-false _ _ (f .0)) (not-false _ (f .1 .0)))
 
-    acted : (c : Call) → AllClear (tableBy R .tests s c) → After c (tableBy R .act s c)
+    act-kept : (c : Call) → AllClear (tableBy R .tests s c) → After c (tableBy R .act s c)
     unfolding After
-    acted (Enter r) f = L .enter-kept z g s i r f
-    acted (Look r k) f = record { shared = i .shared; own = i .own }
-    acted (Leave r) f = L .leave-kept z g s i r f
-    acted (Claim p x) f = claim-kept p x f
-    acted (Write p v) f = write-kept p v f
-    acted (Swap p) f = swap-kept p f
-    acted (Sync p) f = L .sync-kept z g s i p f
-    acted (Raise p) f = raised-kept p f
-    acted (Walk p b) f = L .walk-kept z g s i p b (leb-false _ _ (f .0)) (not-false _ (f .1 .0))
-    acted (Release p) f = release-kept p f
+    act-kept (Enter r) f = L .enter-kept z g s i r f
+    act-kept (Look r k) f = record { shared = i .shared; own = i .own }
+    act-kept (Leave r) f = L .leave-kept z g s i r f
+    act-kept (Claim p x) f = claim-kept p x f
+    act-kept (Write p v) f = write-kept p v f
+    act-kept (Swap p) f = swap-kept p f
+    act-kept (Sync p) f = L .sync-kept z g s i p f
+    act-kept (Raise p) f = raised-kept p f
+    act-kept (Walk p b) f = L .walk-kept z g s i p b (leb-false _ _ (f .0)) (not-false _ (f .1 .0))
+    act-kept (Release p) f = release-kept p f
 
     stepped : (c : Call) → Good (R .kind) (L .Own) z (next g (c ⇒ step (tableBy R) s c .reply)) (step (tableBy R) s c .after)
     unfolding After step
-    stepped c = decided (After c) (rows (tableBy R) s c) (tableBy R .act s c) s (all-numbers s c) (λ f. acted c (f .1)) i
+    stepped c = decided (After c) (rows (tableBy R) s c) (tableBy R .act s c) s (all-numbers s c) (λ f. act-kept c (f .1)) i
 
     look-shelf : (r k : ℕ) → accepted (step (tableBy R) s (Look r k) .reply) ≡ true → (v : ℤ) × (step (tableBy R) s (Look r k) .reply ≡ Pitch v) × (entry (g .model .note r) k ≡ some v)
     unfolding step
@@ -225,11 +256,7 @@ module _ (R : Rules) (T : Traits) (L : Lawful R T) where
         (λ f ok. released-in-order (R .kind) (L .kind-law) z g s (i .shared) p (f .1)) (λ ok. clash (sym ok))
 
     not-damaged : (c : Call) → step (tableBy R) s c .reply ≢ Refused DAMAGED
-    unfolding step
-    not-damaged c e =
-        let q = decide-why (rows (tableBy R) s c) (tableBy R .act s c) s DAMAGED (plain s c .accepts) e in
-        let d : firstOf (tableBy R .tests s c) ≡ DAMAGED = rw undamaged-now at (q .0) in
-        omega (arith, first-within DAMAGED (tableBy R .tests s c) (plain s c .numbers) (λ y. omega arith) .0)
+    not-damaged c = only-damaged (λ s. T .publishes) (tableBy R) act-laws-of s c refl undamaged-now
 
     accepts : (c : Call) → AllClear (tableBy R .tests s c) → step (tableBy R) s c ≡ tableBy R .act s c
     unfolding step
@@ -294,7 +321,8 @@ module _ (R : Rules) (T : Traits) (L : Lawful R T) where
     raises-on : (p : ℕ) → p < z .publishers → T .raisesIn (g .tally .phase p) ≡ true → accepted (step (tableBy R) s (Raise p) .reply) ≡ true
     raises-on p pn e =
         let turn : R .raisesAt (publisher s p .place) ≡ true = sym (raise-told p (leb-false _ _ (named-publisher p pn))) ∙ e in
-        rw (accepts (Raise p) (named-publisher p pn, (negated _ turn, tt))) (plain s (Raise p) .accepts)
+        let f : AllClear (tableBy R .tests s (Raise p)) = (named-publisher p pn, (negated _ turn, tt)) in
+        rw (accepts (Raise p) f) (acted s (Raise p) (undamaged-now, f) .accepts)
 
     walks-on : (p b : ℕ) → p < z .publishers → T .walksIn (g .tally .phase p) ≡ true → publisher s p .walk .looks + b ≤ NUMBER-MAX → accepted (step (tableBy R) s (Walk p b) .reply) ≡ true
     walks-on p b pn e few-looks =
@@ -436,76 +464,11 @@ module _ (R : Rules) (T : Traits) (L : Lawful R T) where
       go g u i [] = undamaged-now (f .arguments) g u i
       go g u i (c ∷ cs) = go (next g (c ⇒ step (tableBy R) u c .reply)) (step (tableBy R) u c .after) (stepped (f .arguments) g u i c) cs
 
-  -- A refused call or making leaves store and entries as they were.
-  pub refused-leaves-of : RefusedLeaves (machine (tableBy R))
-  unfolding step making
-  refused-leaves-of = record {
-    step = λ s c n e. decide-leaves (rows (tableBy R) s c) (tableBy R .act s c) s n (plain s c .accepts) e;
-    making = λ g s n e. decide-leaves (makingTests (R .kind .versions) g s) (outcome Made (made (R .kind .number) (R .freshReader) g s)) s n refl e;
-  }
-
-  -- A call moves the record that it names, and no other.
-  framed : (s : State) (c : Call) → AllClear (rows (tableBy R) s c) → Framed (T .publishes) c (s .words) (tableBy R .act s c .after .words)
-  framed s (Enter r) f = reader-framed (T .publishes) (Enter r) _ _ r _ (L .enter-moves s (undamaged-fine (tableBy R) s (f .0)) r (leb-false _ _ (f .1 .0))) refl refl (λ b. L .enter-head b s r)
-      (λ e. subst (λ (x : Reader). PlaceAndOne (reader s r) x) (sym e) (L .enter-stays s r (let q = leb-false 5 (reader s r .place) (f .1 .1 .0) in omega arith)))
-  framed s (Look r k) f = same-framed (T .publishes) (Look r k) (s .words)
-  framed s (Leave r) f = reader-framed (T .publishes) (Leave r) _ _ r _ (L .leave-moves s (undamaged-fine (tableBy R) s (f .0)) r (leb-false _ _ (f .1 .0))) refl refl (λ b. L .leave-head b s r)
-      (λ e. subst (λ (x : Reader). LeaveStays (T .publishes) (reader s r) x) (sym e) (L .leave-stays s r))
-  framed s (Claim p x) f = claim-framed (T .publishes) (R .kind) s (undamaged-fine (tableBy R) s (f .0)) (R .exclusive) p x (f .1)
-  framed s (Write p v) f = write-framed (T .publishes) (R .kind) s (undamaged-fine (tableBy R) s (f .0)) p v (f .1)
-  framed s (Swap p) f = swap-framed (T .publishes) (R .kind) s (undamaged-fine (tableBy R) s (f .0)) p (f .1)
-  framed s (Sync p) f = sync-framed (T .publishes) (R .kind) s (undamaged-fine (tableBy R) s (f .0)) (R .kind .versions) p (f .1)
-  framed s (Raise p) f = raise-framed (T .publishes) (R .kind) s (undamaged-fine (tableBy R) s (f .0)) (R .kind .versions) p (leb-false _ _ (f .1 .0))
-  framed s (Walk p b) f = walk-framed (T .publishes) (R .kind) s (undamaged-fine (tableBy R) s (f .0)) p b (R .looks s p b) (leb-false _ _ (f .1 .0)) (L .mark-stays s p b)
-  framed s (Release p) f = release-framed (T .publishes) (R .kind) s (undamaged-fine (tableBy R) s (f .0)) p (f .1)
-
-  step-framed : (s : State) (c : Call) → Framed (T .publishes) c (s .words) (step (tableBy R) s c .after .words)
-  unfolding step
-  step-framed s c = decided (λ (o : Outcome). Framed (T .publishes) c (s .words) (o .after .words)) (rows (tableBy R) s c) (tableBy R .act s c) s (all-numbers s c) (framed s c) (same-framed (T .publishes) c (s .words))
-
-  -- An accepted WRITE stores the next entry of the slot held, which is one of the entries.
-  writes-right : (s : State) (p : ℕ) (v : ℤ) → Writes s p v (step (tableBy R) s (Write p v))
-  unfolding step
-  writes-right s p v = decided (λ (o : Outcome). Writes s p v o) (rows (tableBy R) s (Write p v)) (tableBy R .act s (Write p v)) s refl
-      (λ f.
-      let fine = undamaged-fine (tableBy R) s (f .0) in
-      let range = within 1 32 (publisher s p .place) (f .1 .1 .1 .0) in
-      let held = fine-publisher (L .kind-law) (readers (s .words)) (slots (s .words)) (publisher s p) (fine .publishers-fine p (leb-false _ _ (f .1 .0))) .held-below (range .0) in record {
-        stored = λ _. getD-set-same (s .entries) (nextEntry s p) v (pos 0) (omega (arith, fine .head .entries-are, range .0, range .1, held));
-        others = λ j ne. getD-set-other (s .entries) (nextEntry s p) j v (pos 0) ne;
-        long = length-set (s .entries) (nextEntry s p) v;
-      })
-      (record { stored = λ ok. clash (sym ok); others = λ j ne. refl; long = refl })
-
-  pub frame-of : Frame (λ s. T .publishes) (machine (tableBy R))
-  unfolding step
-  frame-of = record {
-    words = step-framed;
-    entries = λ s c ne. decided (λ (o : Outcome). o .after .entries ≡ s .entries) (rows (tableBy R) s c) (tableBy R .act s c) s (all-numbers s c) (λ f. plain s c .entries-stay ne) refl;
-    writes = writes-right;
-  }
-
   -- A making with every argument in its range is accepted.
   pub making-accepts-of : MakingAccepts (machine (tableBy R)) T
   unfolding making
   making-accepts-of g s long rl rh pl ph sl sh len low = rw (decide-accepts (makingTests (R .kind .versions) g s) (outcome Made (made (R .kind .number) (R .freshReader) g s)) s
       (negated _ (eq-eqb _ _ long), (not-outside 1 READERS-MAX _ rl rh, (not-outside 1 PUBLISHERS-MAX _ pl ph, (not-outside SLOTS-MIN SLOTS-MAX _ sl sh, (negated _ (eq-eqb _ _ len), (L .last-fits _ low, tt))))))) refl
-
-  -- A reply of a step or a making has an answer that no other proper reply has: a refusal's number is below 100, a pitch is an entry.
-  below-100 : (l : List Test) → allAbove 0 l ≡ true → firstOf l < 100
-  below-100 l n = go (eqb (firstOf l) 0) refl
-    where
-      go : (b : Bool) → eqb (firstOf l) 0 ≡ b → firstOf l < 100
-      go true e = omega (arith, eqb-true (firstOf l) 0 e)
-      go false e = first-within 0 l n (eqb-false (firstOf l) 0 e) .1
-
-  pub proper-of : (s : State) (c : Call) → ((j : ℕ) → NarrowPitch (getD (s .entries) j (pos 0))) → Proper (step (tableBy R) s c .reply)
-  unfolding step
-  proper-of s c n = decided (λ (o : Outcome). Proper (o .reply)) (rows (tableBy R) s c) (tableBy R .act s c) s (all-numbers s c) (λ f. plain s c .proper n) (below-100 (rows (tableBy R) s c) (all-numbers s c))
-
-  pub proper-making-of : (g : Given) (s : State) → Proper (making (tableBy R) g s .reply)
-  unfolding making
-  proper-making-of g s = decided (λ (o : Outcome). Proper (o .reply)) (makingTests (R .kind .versions) g s) (outcome Made (made (R .kind .number) (R .freshReader) g s)) s refl (λ f. tt) (below-100 (makingTests (R .kind .versions) g s) refl)
 
   -- A WALK with no looks that replies spent leaves the whole state as it was.
   pub walk-zero-of : (s : State) (p : ℕ) → step (tableBy R) s (Walk p 0) .reply ≡ Walked Spent → step (tableBy R) s (Walk p 0) .after ≡ s

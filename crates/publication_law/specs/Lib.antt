@@ -15,6 +15,7 @@ pub mod Keeps
 pub mod Sound
 pub mod Calls
 pub mod Decide
+pub mod TableLaws
 pub mod Frames
 pub mod Lawful
 pub mod Detector

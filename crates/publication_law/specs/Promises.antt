@@ -32,7 +32,8 @@ use Rattle.publication_law.specs.KindLaw.{fine-publisher}
 use Rattle.publication_law.specs.Moves.{MovesPublisher, publisher-moves, publisher-moves-head}
 use Rattle.publication_law.specs.Frames.{walk-record}
 use Rattle.publication_law.specs.Decide.{decided}
-use Rattle.publication_law.specs.Lawful.{Lawful, demand3-of, companions-of, never-damaged-of, making-accepts-of, refused-leaves-of, frame-of, makes-fresh-of, proper-of, proper-making-of, walk-zero-of}
+use Rattle.publication_law.specs.TableLaws.{refused-leaves-of-table, frame-of-table, proper-of-table, proper-making-of-table}
+use Rattle.publication_law.specs.Lawful.{Lawful, demand3-of, companions-of, never-damaged-of, act-laws-of, making-accepts-of, makes-fresh-of, walk-zero-of}
 
 -- SYNC: the reply is the mark that it stores, the version's successor; next, looks and waits are 0.
 pub record SyncFacts (successor : ℕ → ℕ) (s : State) (p : ℕ) (o : Outcome) : Type 0 where
@@ -112,13 +113,13 @@ promises-of R T L = record {
   companions = companions-of R T L;
   never-damaged = never-damaged-of R T L;
   making-accepts = making-accepts-of R T L;
-  refused-leaves = refused-leaves-of R T L;
-  frame = frame-of R T L;
+  refused-leaves = refused-leaves-of-table (λ s. T .publishes) (tableBy R) (act-laws-of R T L);
+  frame = frame-of-table (λ s. T .publishes) (tableBy R) (act-laws-of R T L);
   makes-fresh = makes-fresh-of R T L;
   sync-facts = sync-facts-of R T L;
   raise-facts = raise-facts-of R T L;
-  proper = proper-of R T L;
-  proper-making = proper-making-of R T L;
+  proper = proper-of-table (λ s. T .publishes) (tableBy R) (act-laws-of R T L);
+  proper-making = proper-making-of-table (λ s. T .publishes) (tableBy R) (act-laws-of R T L);
   walk-zero = walk-zero-of R T L;
 }
 
