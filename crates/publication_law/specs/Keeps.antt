@@ -237,7 +237,7 @@ module _ (K : Kind) (law : KindLaw K) (z : Given) (g : Ghost) (s : State) (i : I
   }
 
   pub picks-right : Picks (g .told)
-  picks-right r x inside e = safe-core _ _ _ _ _ _ _ _ _ _ _ (i .core) r x e
+  picks-right r x e = safe-core _ _ _ _ _ _ _ _ _ _ _ (i .core) r x e
 
   pub table-right : length (g .model .table) ≡ TABLE
   table-right = i .core .whole

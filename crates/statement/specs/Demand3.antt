@@ -33,9 +33,9 @@ pub record Slots (t : Told) (s : State) : Type 0 where
   pub held : (p x : ℕ) → heldSlot s p x ≡ holds t p x
   pub picked : (r : ℕ) → pickedSlot s r ≡ t .picked r
 
--- No slot that a reader picked in a section still open is free.
+-- No slot that a reader has picked and not yet dropped is free. A pick is dropped when its section is left.
 abbrev pub Picks : Told → Type 0
-Picks t = (r x : ℕ) → t .inside r ≡ true → t .picked r ≡ some x → ¬ Has t x free
+Picks t = (r x : ℕ) → t .picked r ≡ some x → ¬ Has t x free
 
 -- What is due after the list cs of calls on the fresh state s, where `first` is the first table.
 pub record Due (M : Machine) (first : List ℤ) (s : State) (cs : List Call) : Type 0 where
@@ -48,9 +48,9 @@ pub record Due (M : Machine) (first : List ℤ) (s : State) (cs : List Call) : T
       → toldBy pre .inside r ≡ true → LeftIn r mid
   pub slots : Slots (toldBy (events M s cs)) (afterAll M s cs)
   pub picks : Picks (toldBy (events M s cs))
-  -- By the calls alone: no accepted CLAIM is of a slot that a reader has picked in a section still open.
+  -- By the calls alone: no accepted CLAIM is of a slot that a reader has picked and not yet dropped.
   pub claims : (pre post : List Event) (p x r : ℕ) (a : Reply) → events M s cs ≡ pre ++ (Claim p x ⇒ a) ∷ post → accepted a ≡ true
-      → toldBy pre .inside r ≡ true → ¬ (toldBy pre .picked r ≡ some x)
+      → ¬ (toldBy pre .picked r ≡ some x)
 
 -- A store fresh from an accepted making, and any list of its calls, accepted and refused. The first table may depend on the making.
 abbrev pub Demand3 : Machine → (Given → List ℤ) → Type 0

@@ -233,7 +233,7 @@ module _ (M : Machine) (T : Traits) (K : Kept M T) (s : State) (f : Fresh M s) (
         (K .back _ _ (y .at-state) (y .inv) p b l w (sym (y .reply-is)) .none-pending r);
     slots = rw (← all-told (ghost₀ (T .first (f .arguments))) (events M s cs)) (K .slots _ _ _ ending);
     picks = rw (← all-told (ghost₀ (T .first (f .arguments))) (events M s cs)) (K .picks _ _ _ ending);
-    claims = λ pre post p c r a e ok inside picked.
+    claims = λ pre post p c r a e ok picked.
         let x = to pre (Claim p c) a post e in
         K .claim _ _ (x .at-state) (x .inv) p c r (rw (x .reply-is) at ok) (rw (all-told (ghost₀ (T .first (f .arguments))) pre) picked);
   }
