@@ -1,5 +1,5 @@
 -- What every kind of store keeps of slots: of readers' places and picked slots, of publishers' places, claimed and former slots, and of the entries,
--- each as a function of a number. It names no version, no mark and no indicator, and nothing that a synchronise waits for. Assumes nothing.
+-- each as a function of a number. It names no version, no mark, no indicator and no open section, and nothing that a synchronise waits for. Assumes nothing.
 use Prim.Native.Nat.{ℕ, zero, suc, _+_, _-_, _<_, _≤_}
 use native.Mathlib.Omega.{arith}
 use mathlib.Core.Path.{_≡_, refl, sym, ap, _∙_}
@@ -31,9 +31,8 @@ pub data Safe (cur : ℕ) (F : ℕ → ℕ → Bool) (slot : ℕ) : Type 0 where
   is-current : slot ≡ cur → Safe cur F slot
   is-former : (p : ℕ) → F p slot ≡ true → Safe cur F slot
 
-pub record ReaderOk (n cur : ℕ) (F : ℕ → ℕ → Bool) (E : ℕ → ℕ → ℤ) (r pl pk : ℕ) (inside : Bool) (picked : Option ℕ) (note : List ℤ) : Type 0 where
+pub record ReaderOk (n cur : ℕ) (F : ℕ → ℕ → Bool) (E : ℕ → ℕ → ℤ) (r pl pk : ℕ) (picked : Option ℕ) (note : List ℤ) : Type 0 where
   pub bound : 0 < pl → r < n
-  pub inside-is : inside ≡ leb 4 pl
   pub picked-is : picked ≡ pick (eqb pl 5) (some pk) none
   pub safe : pl ≡ 5 → Safe cur F pk
   pub noted : pl ≡ 5 → (k : ℕ) → k < TABLE → entry note k ≡ some (E pk k)
@@ -50,7 +49,7 @@ pub record PublisherOk (m cur : ℕ) (E : ℕ → ℕ → ℤ) (p pl c : ℕ) (F
 
 -- n readers, m publishers, the current slot, the readers' places and picks, the publishers' places and claims, former slots, entries by slot and number.
 pub record Core (h : Model) (t : Told) (n m cur : ℕ) (rpl rpk ppl pcl : ℕ → ℕ) (F : ℕ → ℕ → Bool) (E : ℕ → ℕ → ℤ) : Type 0 where
-  pub readers : (r : ℕ) → ReaderOk n cur F E r (rpl r) (rpk r) (t .inside r) (t .picked r) (h .note r)
+  pub readers : (r : ℕ) → ReaderOk n cur F E r (rpl r) (rpk r) (t .picked r) (h .note r)
   pub publishers : (p : ℕ) → PublisherOk m cur E p (ppl p) (pcl p) (F p) (t .writing p) (t .claim p) (t .former p) (h .draft p)
   pub distinct : (p q x : ℕ) → Hold (ppl p) (pcl p) (F p) x → Hold (ppl q) (pcl q) (F q) x → p ≡ q
   pub current-is : t .current ≡ some cur
@@ -116,20 +115,9 @@ pub data Onward (cur pl pk pl′ pk′ : ℕ) : Type 0 where
   opens : pl ≤ 3 → pl′ ≡ 4 → pk′ ≡ pk → Onward cur pl pk pl′ pk′
   picks : pl ≡ 4 → pl′ ≡ 5 → pk′ ≡ cur → Onward cur pl pk pl′ pk′
 
--- An open section stays open, and what is picked is current.
-pub onward-open : {cur pl pk pl′ pk′ : ℕ} → Onward cur pl pk pl′ pk′ → 4 ≤ pl → 4 ≤ pl′
-onward-open (stays-out a b e) l = absurd (omega arith)
-onward-open (opens a b e) l = omega arith
-onward-open (picks a b e) l = omega arith
-
-pub onward-picked : {cur pl pk pl′ pk′ : ℕ} → Onward cur pl pk pl′ pk′ → pl′ ≡ 5 → pk′ ≡ cur
-onward-picked (stays-out a b e) five = absurd (omega arith)
-onward-picked (opens a b e) five = absurd (omega arith)
-onward-picked (picks a b e) five = e
-
 module _ (h : Model) (t : Told) (n m cur : ℕ) (rpl rpk ppl pcl : ℕ → ℕ) (F : ℕ → ℕ → Bool) (E : ℕ → ℕ → ℤ) (i : Core h t n m cur rpl rpk ppl pcl F E) where
   -- A reader anew, with what is told of the readers and their notes.
-  reader-core : (r pl pk : ℕ) (inside : ℕ → Bool) (picked : ℕ → Option ℕ) (note : ℕ → List ℤ) → ((j : ℕ) → ReaderOk n cur F E j (upd rpl r pl j) (upd rpk r pk j) (inside j) (picked j) (note j))
+  reader-core : (r pl pk : ℕ) (inside : ℕ → Bool) (picked : ℕ → Option ℕ) (note : ℕ → List ℤ) → ((j : ℕ) → ReaderOk n cur F E j (upd rpl r pl j) (upd rpk r pk j) (picked j) (note j))
       → Core (record { table = h .table; note = note; draft = h .draft }) (record { inside = inside; picked = picked; current = t .current; claim = t .claim; writing = t .writing; former = t .former })
       n m cur (upd rpl r pl) (upd rpk r pk) ppl pcl F E
   reader-core r pl pk inside picked note ok = record { readers = ok; publishers = i .publishers; distinct = i .distinct; current-is = i .current-is; table = i .table; whole = i .whole }
@@ -139,27 +127,24 @@ module _ (h : Model) (t : Told) (n m cur : ℕ) (rpl rpk ppl pcl : ℕ → ℕ) 
       → Core (shelve h (Enter r) (At pl)) (tell t (Enter r) (At pl)) n m cur (upd rpl r pl) (upd rpk r (rpk r)) ppl pcl F E
   enter-below r pl rn old new = rw (ne-eqb pl 4 (λ z. omega arith), ne-eqb pl 5 (λ z. omega arith)) (reader-core r pl _ _ _ _ (at-or r (rw (same r) (let o = i .readers r in record {
     bound = λ _. rn;
-    inside-is = o .inside-is ∙ rw (lt-leb 4 (rpl r) (omega arith), lt-leb 4 pl (omega arith)) refl;
     picked-is = o .picked-is ∙ rw (ne-eqb (rpl r) 5 (λ z. omega arith), ne-eqb pl 5 (λ z. omega arith)) refl;
     safe = λ q. absurd (omega arith);
     noted = λ q. absurd (omega arith);
   })) (λ j e. rw e (i .readers j))))
 
-  enter-open : (r : ℕ) → r < n → rpl r ≤ 3
+  enter-open : (r : ℕ) → r < n
       → Core (shelve h (Enter r) (At 4)) (tell t (Enter r) (At 4)) n m cur (upd rpl r 4) (upd rpk r (rpk r)) ppl pcl F E
-  enter-open r rn old = reader-core r 4 _ _ _ _ (at-or r (rw (same r) (record {
+  enter-open r rn = reader-core r 4 _ _ _ _ (at-or r (rw (same r) (record {
     bound = λ _. rn;
-    inside-is = refl;
     picked-is = refl;
     safe = λ q. absurd (omega arith);
     noted = λ q. absurd (omega arith);
   })) (λ j e. rw e (i .readers j)))
 
-  enter-pick : (r : ℕ) → r < n → rpl r ≡ 4
+  enter-pick : (r : ℕ) → r < n
       → Core (shelve h (Enter r) (At 5)) (tell t (Enter r) (At 5)) n m cur (upd rpl r 5) (upd rpk r cur) ppl pcl F E
-  enter-pick r rn at4 = reader-core r 5 _ _ _ _ (at-or r (rw (same r, i .current-is) (let o = i .readers r in record {
+  enter-pick r rn = reader-core r 5 _ _ _ _ (at-or r (rw (same r, i .current-is) (record {
     bound = λ _. rn;
-    inside-is = o .inside-is ∙ rw at4 refl;
     picked-is = refl;
     safe = λ q. is-current refl;
     noted = λ q. i .table;
@@ -167,13 +152,12 @@ module _ (h : Model) (t : Told) (n m cur : ℕ) (rpl rpk ppl pcl : ℕ → ℕ) 
 
   pub enter-core : (r pl pk : ℕ) → r < n → Onward cur (rpl r) (rpk r) pl pk → Core (shelve h (Enter r) (At pl)) (tell t (Enter r) (At pl)) n m cur (upd rpl r pl) (upd rpk r pk) ppl pcl F E
   enter-core r pl pk rn (stays-out a b e) = rw e (enter-below r pl rn a b)
-  enter-core r pl pk rn (opens a b e) = rw (b, e) (enter-open r rn a)
-  enter-core r pl pk rn (picks a b e) = rw (b, e) (enter-pick r rn a)
+  enter-core r pl pk rn (opens a b e) = rw (b, e) (enter-open r rn)
+  enter-core r pl pk rn (picks a b e) = rw (b, e) (enter-pick r rn)
 
   pub leave-core : (r pk : ℕ) (a : Reply) → Core h (tell t (Leave r) a) n m cur (upd rpl r 0) (upd rpk r pk) ppl pcl F E
   leave-core r pk a = reader-core r 0 pk _ _ _ (at-or r (rw (same r) (record {
     bound = λ q. absurd (omega arith);
-    inside-is = refl;
     picked-is = refl;
     safe = λ q. absurd (omega arith);
     noted = λ q. absurd (omega arith);
@@ -191,10 +175,9 @@ module _ (h : Model) (t : Told) (n m cur : ℕ) (rpl rpk ppl pcl : ℕ → ℕ) 
       other q e x u (inr f) = f q u
 
   readers-moved : (p : ℕ) (G : ℕ → Bool) → ((r : ℕ) → rpl r ≡ 5 → F p (rpk r) ≡ true → G (rpk r) ≡ true)
-      → (r : ℕ) → ReaderOk n cur (upd F p G) E r (rpl r) (rpk r) (t .inside r) (t .picked r) (h .note r)
+      → (r : ℕ) → ReaderOk n cur (upd F p G) E r (rpl r) (rpk r) (t .picked r) (h .note r)
   readers-moved p G b r = let o = i .readers r in record {
     bound = o .bound;
-    inside-is = o .inside-is;
     picked-is = o .picked-is;
     safe = λ five. safe-map cur cur F (upd F p G) _ (o .safe five) is-current
         (at-or p (λ e. is-former p (rw (same p) (b r five e))) (λ q d e. is-former q (rw d e)));
@@ -254,7 +237,6 @@ module _ (h : Model) (t : Told) (n m cur : ℕ) (rpl rpk ppl pcl : ℕ → ℕ) 
   swap-core p c a G at33 g = record {
     readers = λ r. let o = i .readers r in record {
       bound = o .bound;
-      inside-is = o .inside-is;
       picked-is = o .picked-is;
       safe = λ five. safe-map cur (pcl p) F (upd F p G) _ (o .safe five)
           (λ e. is-former p (rw (same p) (g (rpk r) ∙ or-left (eqb cur (rpk r)) (F p (rpk r)) (eq-eqb cur (rpk r) (sym e)))))
@@ -333,7 +315,6 @@ module _ (h : Model) (t : Told) (n m cur : ℕ) (rpl rpk ppl pcl : ℕ → ℕ) 
   write-core p v a G low high g = record {
     readers = λ r. let o = readers-moved p G (λ r five e. g _ ∙ e) r in record {
       bound = o .bound;
-      inside-is = o .inside-is;
       picked-is = o .picked-is;
       safe = o .safe;
       noted = λ five k l. rw (ne-eqb (rpk r) (pcl p) (unpicked r (i .readers r .safe five))) (o .noted five k l);
@@ -476,7 +457,7 @@ module _ (h : Model) (t : Told) (n m cur : ℕ) (rpl rpk ppl pcl : ℕ → ℕ) 
 pub fresh-core : (first : List ℤ) (n m : ℕ) (E : ℕ → ℕ → ℤ) → length first ≡ TABLE → ((k : ℕ) → k < TABLE → entry first k ≡ some (E 0 k))
     → Core (model₀ first) told₀ n m 0 (λ r. 0) (λ r. 0) (λ p. 0) (λ p. 0) (λ p x. false) E
 fresh-core first n m E len table = record {
-  readers = λ r. record { bound = λ q. absurd (omega arith); inside-is = refl; picked-is = refl; safe = λ q. absurd (omega arith); noted = λ q. absurd (omega arith) };
+  readers = λ r. record { bound = λ q. absurd (omega arith); picked-is = refl; safe = λ q. absurd (omega arith); noted = λ q. absurd (omega arith) };
   publishers = λ p. record {
     bound = λ x o. absurd (none-held x o);
     writing-is = λ x. refl;

@@ -110,7 +110,7 @@ module _ (D : Detector) where
         let y : Publisher = record { place = 35; held = publisher s p .held; walk = newWalk (K .versions .markAt (version (s .words))) } in record {
           shared = sync-keeps K law z g s (i .shared) p f clear;
           own = moved-own g (advance g (Sync p) (Synced (K .versions .markAt (version (s .words))))) s _ (s .entries) p y _ _ _ (i .own) (publisher-moves (i .shared .fine) p y (leb-false _ _ (f .0))) (λ q r e. rw e refl)
-              (λ r. rw (same p) (λ e. open-behind r (leb-true 4 (reader s r .place) (sym (i .shared .core .readers r .inside-is) ∙ e)))) (λ l. rw none refl) (i .own .readers-are);
+              (λ r. rw (same p) (λ e. open-behind r (leb-true 4 (reader s r .place) (sym (i .shared .grace .inside-is r) ∙ e)))) (λ l. rw none refl) (i .own .readers-are);
         }
 
     -- RAISE, at 35 or 36; the raised version is the mark.

@@ -36,7 +36,7 @@ abbrev pub CoreOf : Ghost → ℕ → ℕ → ℕ → (ℕ → Reader) → (ℕ 
 CoreOf g n m cur R P es = Core (g .model) (g .told) n m cur (λ r. R r .place) (λ r. R r .picked) (λ p. P p .place) (λ p. P p .held) (λ p. formers (P p)) (slotEntry es)
 
 abbrev pub GraceOf : Ghost → (ℕ → Reader) → (ℕ → Publisher) → Type 0
-GraceOf g R P = Grace (g .pend) (λ r. R r .place) (λ r. R r .picked) (λ p. P p .place) (λ p. formers (P p))
+GraceOf g R P = Grace (g .told .inside) (g .pend) (λ r. R r .place) (λ r. R r .picked) (λ p. P p .place) (λ p. formers (P p))
 
 abbrev pub TalliedOf : Ghost → (ℕ → Reader) → (ℕ → Publisher) → ℕ → Type 0
 TalliedOf g R P rel = Tallied (g .tally) (λ r. R r .place) (λ p. P p .place) (λ p. P p .walk .waits) rel
@@ -81,7 +81,7 @@ module _ (K : Kind) (z : Given) (g : Ghost) (s : State) (i : Invariant K z g s) 
   pub reader-moved : K .readerDamaged (slots (s .words)) x ≡ false
       → Core (g′ .model) (g′ .told) (readers (s .words)) (publishers (s .words)) (current (s .words))
       (upd (λ j. reader s j .place) r (x .place)) (upd (λ j. reader s j .picked) r (x .picked)) (λ p. publisher s p .place) (λ p. publisher s p .held) (λ p. formers (publisher s p)) (slotEntry (s .entries))
-      → Grace (g′ .pend) (upd (λ j. reader s j .place) r (x .place)) (upd (λ j. reader s j .picked) r (x .picked)) (λ p. publisher s p .place) (λ p. formers (publisher s p))
+      → Grace (g′ .told .inside) (g′ .pend) (upd (λ j. reader s j .place) r (x .place)) (upd (λ j. reader s j .picked) r (x .picked)) (λ p. publisher s p .place) (λ p. formers (publisher s p))
       → Tallied (g′ .tally) (upd (λ j. reader s j .place) r (x .place)) (λ p. publisher s p .place) (λ p. publisher s p .walk .waits) (releases (s .words))
       → Invariant K z g′ (state w′ (s .entries))
   reader-moved ok c d e = record {
@@ -112,7 +112,7 @@ module _ (K : Kind) (z : Given) (g : Ghost) (s : State) (i : Invariant K z g s) 
   pub publisher-moved : cur < slots (s .words) → K .versions .tooLarge ver ≡ false → K .publisherDamaged (readers (s .words)) (slots (s .words)) y ≡ false
       → Core (g′ .model) (g′ .told) (readers (s .words)) (publishers (s .words)) cur (λ j. reader s j .place) (λ j. reader s j .picked)
       (upd (λ q. publisher s q .place) p (y .place)) (upd (λ q. publisher s q .held) p (y .held)) (upd (λ q. formers (publisher s q)) p (formers y)) (slotEntry es′)
-      → Grace (g′ .pend) (λ j. reader s j .place) (λ j. reader s j .picked) (upd (λ q. publisher s q .place) p (y .place)) (upd (λ q. formers (publisher s q)) p (formers y))
+      → Grace (g′ .told .inside) (g′ .pend) (λ j. reader s j .place) (λ j. reader s j .picked) (upd (λ q. publisher s q .place) p (y .place)) (upd (λ q. formers (publisher s q)) p (formers y))
       → Tallied (g′ .tally) (λ j. reader s j .place) (upd (λ q. publisher s q .place) p (y .place)) (upd (λ q. publisher s q .walk .waits) p (y .walk .waits)) rel
       → Invariant K z g′ (state w′ es′)
   publisher-moved low fits ok c d e = record {

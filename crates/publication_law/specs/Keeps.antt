@@ -34,7 +34,7 @@ use Rattle.publication_law.specs.Steps.{reader, publisher, atPlace, look
 use Rattle.publication_law.specs.Damage.{Kind}
 use Rattle.publication_law.specs.DamageLaws.{Fine, PublisherFine}
 use Rattle.publication_law.specs.KindLaw.{KindLaw, fine-publisher, publisher-undamaged}
-use Rattle.publication_law.specs.Core.{Core, Hold, Onward, onward-open, onward-picked, enter-core, leave-core, claim-core, late-core, swap-core, release-core, write-core, held-is, held-bound, role-core, safe-core, free-core, fresh-core}
+use Rattle.publication_law.specs.Core.{Core, Hold, Onward, enter-core, leave-core, claim-core, late-core, swap-core, release-core, write-core, held-is, held-bound, role-core, safe-core, free-core, fresh-core}
 use Rattle.publication_law.specs.Core.Hold.{by-swap}
 use Rattle.publication_law.specs.Grace.{Grace, enter-grace, leave-grace, early-grace, wait-grace, sync-grace, nobody, release-grace, fresh-grace}
 use Rattle.publication_law.specs.Single.{formerAt, former-early, former-same, former-swap, single, single-free}
@@ -69,13 +69,13 @@ module _ (K : Kind) (law : KindLaw K) (z : Given) (g : Ghost) (s : State) (i : I
         → Invariant K z (advance g (Enter r) (At (x .place))) (state w′ (s .entries))
     enter-keeps rn on = reader-moved K z g s i _ w′ r x m ok
         (enter-core _ _ _ _ _ _ _ _ _ _ _ (i .core) r _ _ rn on)
-        (enter-grace _ _ _ _ _ (i .grace) r _ _ (onward-open on) (λ five p e. i .core .publishers p .apart _ (by-swap e) (onward-picked on five)))
+        (enter-grace (g .told) _ _ _ _ _ (i .grace) _ r _ _ on (λ p e. i .core .publishers p .apart _ (by-swap e) refl))
         (place-tallied _ _ _ _ _ (i .tallied) r (x .place))
 
     pub leave-keeps : x .place ≡ 0 → Invariant K z (advance g (Leave r) Left) (state w′ (s .entries))
     leave-keeps out = reader-moved K z g s i _ w′ r x m ok
         (rw out (leave-core _ _ _ _ _ _ _ _ _ _ _ (i .core) r _ Left))
-        (rw out (leave-grace _ _ _ _ _ (i .grace) (g .told) r _))
+        (rw out (leave-grace (g .told) _ _ _ _ _ (i .grace) r _ Left))
         (rw out (place-tallied _ _ _ _ _ (i .tallied) r 0))
 
   pub claim-keeps : (e : Bool) (p x : ℕ) → AllClear (claimTests e s p x)
@@ -88,7 +88,7 @@ module _ (K : Kind) (law : KindLaw K) (z : Given) (g : Ghost) (s : State) (i : I
       publisher-moved K z g s i _ _ _ p _ _ _ _ (publisher-moves (i .fine) p _ lt) refl (i .fine .head .current-below) (i .fine .head .version-fits) ok
       (claim-core _ _ _ _ _ _ _ _ _ _ _ (i .core) p x (Claimed x) _ lt (λ a b. omega arith) (not-current x free-slot) (unheld x free-slot)
       (λ y. sym (former-early (publisher s p .place) (publisher s p .held) y (omega arith))))
-      (early-grace _ _ _ _ _ (i .grace) p _ _ (omega arith) (omega arith))
+      (early-grace (g .told) _ _ _ _ _ (i .grace) p _ _ (omega arith) (omega arith))
       (phase-tallied _ _ _ _ _ (i .tallied) p 1 _ writing refl (omega arith))
 
   -- No accepted CLAIM is of a picked slot.
@@ -111,7 +111,7 @@ module _ (K : Kind) (law : KindLaw K) (z : Given) (g : Ghost) (s : State) (i : I
       (rw (set-entry (s .entries) (publisher s p .held) (publisher s p .place - 1) v (omega arith) room)
       (write-core _ _ _ _ _ _ _ _ _ _ _ (i .core) p v (Written (publisher s p .place)) _ low high
       (λ y. former-early (publisher s p .place + 1) (publisher s p .held) y (omega arith) ∙ sym (former-early (publisher s p .place) (publisher s p .held) y (omega arith)))))
-      (early-grace _ _ _ _ _ (i .grace) p _ _ (omega arith) (omega arith))
+      (early-grace (g .told) _ _ _ _ _ (i .grace) p _ _ (omega arith) (omega arith))
       (stay-tallied _ _ _ _ _ (i .tallied) p (publisher s p .place + 1) _ (phase-writing (publisher s p .place + 1) (omega arith) (omega arith) ∙ sym (phase-writing (publisher s p .place) low (omega arith)))
       (λ l. absurd (omega arith)) (λ l. refl))
 
@@ -125,7 +125,7 @@ module _ (K : Kind) (law : KindLaw K) (z : Given) (g : Ghost) (s : State) (i : I
       (publisher-moves-head (i .fine) p _ lt CURRENT-AT (publisher s p .held) (omega arith) (omega arith)) refl
       (publisher-fine p lt .held-below (omega arith)) (i .fine .head .version-fits) ok
       (swap-core _ _ _ _ _ _ _ _ _ _ _ (i .core) p _ (Swapped (current (s .words))) _ at33 (λ y. former-swap (publisher s p .place) (publisher s p .held) (current (s .words)) y (omega arith)))
-      (early-grace _ _ _ _ _ (i .grace) p _ _ (omega arith) (omega arith))
+      (early-grace (g .told) _ _ _ _ _ (i .grace) p _ _ (omega arith) (omega arith))
       (phase-tallied _ _ _ _ _ (i .tallied) p 34 _ swapped refl (omega arith))
 
   pub sync-keeps : (p : ℕ) → AllClear (syncTests (K .versions) s p)
@@ -141,7 +141,7 @@ module _ (K : Kind) (law : KindLaw K) (z : Given) (g : Ghost) (s : State) (i : I
       }) in
       publisher-moved K z g s i _ _ _ p _ _ _ _ (publisher-moves (i .fine) p _ lt) refl (i .fine .head .current-below) (i .fine .head .version-fits) ok
       (late-core _ _ _ _ _ _ _ _ _ _ _ (i .core) p 35 _ _ (λ a b. omega arith) (λ a b. omega arith) (λ y. former-same (publisher s p .place) 35 (publisher s p .held) y (omega arith) (omega arith)))
-      (sync-grace _ _ _ _ _ (i .grace) (g .told) p _ (λ r. i .core .readers r .inside-is))
+      (sync-grace (g .told) _ _ _ _ _ (i .grace) p _)
       (sync-tallied _ _ _ _ _ (i .tallied) p)
 
   -- RAISE, at 35 or 36.
@@ -150,8 +150,8 @@ module _ (K : Kind) (law : KindLaw K) (z : Given) (g : Ghost) (s : State) (i : I
         (upd (λ q. publisher s q .place) p 37) (upd (λ q. publisher s q .held) p (publisher s p .held)) (upd (λ q. formers (publisher s q)) p (formerAt 37 (publisher s p .held))) (slotEntry (s .entries))
     raise-core = late-core _ _ _ _ _ _ _ _ _ _ _ (i .core) p 37 _ _ (λ a b. omega arith) (λ a b. omega arith) (λ y. former-same (publisher s p .place) 37 (publisher s p .held) y (omega arith) (omega arith))
 
-    raise-grace : Grace (g .pend) (λ j. reader s j .place) (λ j. reader s j .picked) (upd (λ q. publisher s q .place) p 37) (upd (λ q. formers (publisher s q)) p (formerAt 37 (publisher s p .held)))
-    raise-grace = wait-grace _ _ _ _ _ (i .grace) p 37 _ low (omega arith) (omega arith) (λ e. absurd (omega arith)) (λ y. former-same (publisher s p .place) 37 (publisher s p .held) y (omega arith) (omega arith))
+    raise-grace : Grace (g .told .inside) (g .pend) (λ j. reader s j .place) (λ j. reader s j .picked) (upd (λ q. publisher s q .place) p 37) (upd (λ q. formers (publisher s q)) p (formerAt 37 (publisher s p .held)))
+    raise-grace = wait-grace (g .told) _ _ _ _ _ (i .grace) p 37 _ low (omega arith) (omega arith) (λ e. absurd (omega arith)) (λ y. former-same (publisher s p .place) 37 (publisher s p .held) y (omega arith) (omega arith))
 
     raise-tallied : Tallied (withPhase (g .tally) p raised) (λ j. reader s j .place) (upd (λ q. publisher s q .place) p 37) (upd (λ q. publisher s q .walk .waits) p (publisher s p .walk .waits)) (releases (s .words))
     raise-tallied = late-tallied _ _ _ _ _ (i .tallied) p 37 _ raised refl low refl
@@ -196,7 +196,7 @@ module _ (K : Kind) (law : KindLaw K) (z : Given) (g : Ghost) (s : State) (i : I
         let l : 35 ≤ placeAfter (publisher s p .place) (k .reply) = after-low (k .reply) in
         publisher-moved K z g s i _ _ _ p _ _ _ _ (publisher-moves (i .fine) p _ lt) refl (i .fine .head .current-below) (i .fine .head .version-fits) ok
         (late-core _ _ _ _ _ _ _ _ _ _ _ (i .core) p _ _ _ (λ c d. omega arith) (λ c d. omega arith) (λ y. former-same (publisher s p .place) (placeAfter (publisher s p .place) (k .reply)) (publisher s p .held) y (omega arith) (omega arith)))
-        (wait-grace _ _ _ _ _ (i .grace) p _ _ low l (after-high (k .reply)) done (λ y. former-same (publisher s p .place) (placeAfter (publisher s p .place) (k .reply)) (publisher s p .held) y (omega arith) (omega arith)))
+        (wait-grace (g .told) _ _ _ _ _ (i .grace) p _ _ low l (after-high (k .reply)) done (λ y. former-same (publisher s p .place) (placeAfter (publisher s p .place) (k .reply)) (publisher s p .held) y (omega arith) (omega arith)))
         (walk-tallied (k .reply) _ ws)
 
   pub release-keeps : (p : ℕ) → AllClear (releaseTests s p)
@@ -208,8 +208,8 @@ module _ (K : Kind) (law : KindLaw K) (z : Given) (g : Ghost) (s : State) (i : I
       publisher-moved K z g s i _ _ _ p _ _ _ _
       (publisher-moves-head (i .fine) p _ lt RELEASES-AT (oneMore s) (omega arith) (omega arith)) refl
       (i .fine .head .current-below) (i .fine .head .version-fits) ok
-      (release-core _ _ _ _ _ _ _ _ _ _ _ (i .core) p _ (Freed (publisher s p .held) (oneMore s)) _ (omega arith) (nobody _ _ _ _ _ (i .grace) p at38) (λ y. refl))
-      (release-grace _ _ _ _ _ (i .grace) p _ at38)
+      (release-core _ _ _ _ _ _ _ _ _ _ _ (i .core) p _ (Freed (publisher s p .held) (oneMore s)) _ (omega arith) (nobody (g .told) _ _ _ _ _ (i .grace) p at38) (λ y. refl))
+      (release-grace (g .told) _ _ _ _ _ (i .grace) p _ at38)
       (release-tallied _ _ _ _ _ (i .tallied) p _)
 
   -- What an accepted LOOK gives is the model's entry.
