@@ -123,7 +123,7 @@ waits-published z g s i p b r e =
         go (leb 2 (reader s r .place)) refl (x .2) high (omega (arith, x .0, x .1))
       where
         go : (d : Bool) → leb 2 (reader s r .place) ≡ d → reader s r .published < publisher s p .walk .mark → publisher s p .walk .mark ≤ LAST → r < readers (s .words) → 2 ≤ g .tally .place r
-        go true d l high rn = omega (arith, leb-true 2 (reader s r .place) d, i .shared .tallied .places r)
+        go true d l high rn = omega (arith, leb-true 2 (reader s r .place) d, i .shared .every .phases .places r)
         go false d l high rn = absurd (omega (arith, l, high, i .own .readers-are r .out rn (let q = leb-false 2 (reader s r .place) d in omega arith)))
 
 pub new-waits-for : (s : State) (f : Fresh GraceVersion s) (cs : List Call) (p b r : ℕ)

@@ -158,25 +158,25 @@ module _ (z : Given) (g : Ghost) (s : State) (i : Good kind (OwnOf detector) z g
   enter-kept r f =
       let lt : r < readers (s .words) = leb-false _ _ (f .0) in
       let l : reader s r .place ≤ 4 = let q = leb-false 5 (reader s r .place) (f .1 .0) in omega arith in
-      enter-good detector kind law z g s i _ r (entered s r) (reader-moves (i .shared .fine) r (entered s r) lt)
-      (none-true (readerRows (slots (s .words)) (entered s r)) (onward-fits _ _ _ _ _ _ _ _ l (i .shared .fine .head .current-below) (all-false (readerRows (slots (s .words)) (reader s r)) (i .shared .fine .readers-fine r lt))))
+      enter-good detector kind law z g s i _ r (entered s r) (reader-moves (i .shared .every .fine) r (entered s r) lt)
+      (none-true (readerRows (slots (s .words)) (entered s r)) (onward-fits _ _ _ _ _ _ _ _ l (i .shared .every .fine .head .current-below) (all-false (readerRows (slots (s .words)) (reader s r)) (i .shared .every .fine .readers-fine r lt))))
       (shown-anew r _ (onward-shown _ _ _ _ _ _ _ _ _ l (i .own .readers-are r))) lt (onward-goes _ _ _ _ _ _ _ l)
       (λ four y a. record { below = rw (onward-published (version (s .words)) (current (s .words)) (reader s r) four) (a .below); unpassed = a .unpassed })
 
   leave-kept : (r : ℕ) → AllClear (leaveTests s r) → Good kind (OwnOf detector) z (kept.advance g (Leave r) Left) (state (withReader (s .words) r (leaving (reader s r))) (s .entries))
-  leave-kept r f = leave-good detector kind law z g s i _ r (leaving (reader s r)) (reader-moves (i .shared .fine) r (leaving (reader s r)) (leb-false _ _ (f .0))) refl
+  leave-kept r f = leave-good detector kind law z g s i _ r (leaving (reader s r)) (reader-moves (i .shared .every .fine) r (leaving (reader s r)) (leb-false _ _ (f .0))) refl
       (shown-anew r _ (let o = i .own .readers-are r in record { first-low = o .first-low; second-low = o .second-low; shown = λ q. absurd (omega arith); out = λ rn q. refl })) refl
 
   sync-kept : (p : ℕ) → AllClear (syncTests versions s p) → Good kind (OwnOf detector) z (kept.advance g (Sync p) (Synced (version (s .words) + 1))) (sync versions s p .after)
   sync-kept p f = sync-good detector kind law z g s i p f
-      (own-clear (readers (s .words)) (record { place = 35; held = publisher s p .held; walk = newWalk (version (s .words) + 1) }) (omega arith) (λ e. omega arith) (λ a b. omega (arith, i .shared .fine .head .readers-low)))
+      (own-clear (readers (s .words)) (record { place = 35; held = publisher s p .held; walk = newWalk (version (s .words) + 1) }) (omega arith) (λ e. omega arith) (λ a b. omega (arith, i .shared .every .fine .head .readers-low)))
       refl (λ r l. record { below = omega (arith, i .own .readers-are r .shown (omega arith)); unpassed = λ j a. absurd (omega arith) })
 
   raise-kept : (p : ℕ) → p < publishers (s .words) → eqb (publisher s p .place) 35 ≡ true → Good kind (OwnOf detector) z (kept.advance g (Raise p) (raise versions s p .reply)) (raise versions s p .after)
   raise-kept p lt turn =
       let at35 = eqb-true (publisher s p .place) 35 turn in
       raise-good detector kind law z g s i p lt (omega arith) (omega arith)
-      (own-clear (readers (s .words)) (atPlace (publisher s p) 37) (omega arith) (λ e. omega arith) (λ a b. next-below _ _ (publisher s p) (i .shared .fine .publishers-fine p lt) (rw at35 refl)))
+      (own-clear (readers (s .words)) (atPlace (publisher s p) 37) (omega arith) (λ e. omega arith) (λ a b. next-below _ _ (publisher s p) (i .shared .every .fine .publishers-fine p lt) (rw at35 refl)))
       refl (λ r a. a)
       (λ e r. let o = i .own .readers-are r in record { first-low = omega (arith, o .first-low); second-low = omega (arith, o .second-low); shown = λ q. omega (arith, o .shown q); out = o .out })
 
@@ -184,7 +184,7 @@ module _ (z : Given) (g : Ghost) (s : State) (i : Good kind (OwnOf detector) z g
   module _ (p b : ℕ) (lt : p < publishers (s .words)) (at37 : publisher s p .place ≡ 37) where
     pub came : Looked (s .words) (readers (s .words)) (publisher s p .walk .mark) b (publisher s p .walk .next) (publisher s p .walk .looks) (publisher s p .walk .waits) (looksOf s (publisher s p .walk) b)
     came = looked (s .words) (readers (s .words)) (publisher s p .walk .mark) (publisher s p .walk .waits) b (publisher s p .walk .next) (publisher s p .walk .looks)
-        (next-below _ _ (publisher s p) (i .shared .fine .publishers-fine p lt) (rw at37 refl))
+        (next-below _ _ (publisher s p) (i .shared .every .fine .publishers-fine p lt) (rw at37 refl))
 
     -- A reader waited for has not been passed.
     still-behind : (r : ℕ) → g .pend p r ≡ true → Behind (readers (s .words)) (reader s r) (looksOf s (publisher s p .walk) b .walk) r
@@ -199,7 +199,7 @@ module _ (z : Given) (g : Ghost) (s : State) (i : Good kind (OwnOf detector) z g
 
     pub none-pending : looksOf s (publisher s p .walk) b .walk .next ≡ readers (s .words) → (r : ℕ) → g .pend p r ≡ false
     none-pending all r = by-test (g .pend p r) (λ e.
-        let rn : r < readers (s .words) = i .shared .core .readers r .bound (omega (arith, i .shared .grace .awaited p r e .opened)) in
+        let rn : r < readers (s .words) = i .shared .every .core .readers r .bound (omega (arith, i .shared .grace .awaited p r e .opened)) in
         let a = lookedAt-all (readers (s .words)) r rn in
         still-behind r e .unpassed (a .0) (omega (arith, a .1)) (a .2))
 
@@ -253,7 +253,7 @@ return-shown z g s i p b l w lt turn q =
     let o = came z g s i p b lt at37 in
     let n = return-numbers (s .words) (readers (s .words)) (publisher s p .walk .mark) (publisher s p .walk .next) b l w (k .walk .next) (k .walk .looks) (k .walk .waits) (k .reply) (o .ends) q in
     return-good detector kind law z g s i p b lt (omega arith) (omega arith) k (o .waits-are) (still-counted z g s i p b lt at37) traits l w at37 q
-    (none-pending z g s i p b lt at37 (n .0)) (n .1) (n .2) (n .0 ∙ i .shared .sized .readers-are)
+    (none-pending z g s i p b lt at37 (n .0)) (n .1) (n .2) (n .0 ∙ i .shared .every .sized .readers-are)
 
 no-looks : (s : State) (p : ℕ) → looksOf s (publisher s p .walk) 0 ≡ record { walk = publisher s p .walk; reply = Spent }
 unfolding looksFrom

@@ -12,7 +12,7 @@ use Rattle.calls.specs.Base.{pick}
 use Rattle.calls.specs.RowLaws.{pick-split}
 use Rattle.layout.specs.declared.Progress.{Progress}
 use Rattle.layout.specs.Layout.{readerAt}
-use Rattle.publication_law.specs.Keeps.{waitsAfter}
+use Rattle.publication_law.specs.GraceKeeps.{waitsAfter}
 use Rattle.grace_version_law.specs.Steps.{lookedAt, progress, looksFrom}
 
 -- A walk comes to each reader.

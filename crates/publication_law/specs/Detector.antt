@@ -28,7 +28,7 @@ use Rattle.publication_law.specs.KindLaw.{KindLaw}
 use Rattle.publication_law.specs.Core.{Onward}
 use Rattle.publication_law.specs.Decide.{raise-split}
 use Rattle.publication_law.specs.Moves.{MovesPublisher, MovesReader, publisher-moves, publisher-moves-head}
-use Rattle.publication_law.specs.Keeps.{waitsAfter, enter-keeps, leave-keeps, sync-keeps, raise-keeps, walk-keeps, raised-in-order}
+use Rattle.publication_law.specs.GraceKeeps.{waitsAfter, enter-keeps, leave-keeps, sync-keeps, raise-keeps, walk-keeps, raised-in-order}
 use Rattle.publication_law.specs.Lawful.{Good}
 
 pub record Detector : Type 1 where
@@ -91,13 +91,13 @@ module _ (D : Detector) where
           → (4 ≤ reader s r .place → (y : Publisher) → D .Behind (readers (s .words)) (reader s r) y r → D .Behind (readers (s .words)) x y r)
           → Good K (OwnOf D) z (advance g (Enter r) (At (x .place))) (state w′ (s .entries))
       enter-good rn on stays = record {
-        shared = enter-keeps K law z g s (i .shared) w′ r x m ok rn on;
+        shared = enter-keeps K z g s (i .shared) w′ r x m ok rn on;
         own = reader-own g (advance g (Enter r) (At (x .place))) s w′ r x (i .own) m (λ p q e. e) (λ p e. stays (i .shared .grace .awaited p r e .opened) (publisher s p)) f;
       }
 
       pub leave-good : x .place ≡ 0 → Good K (OwnOf D) z (advance g (Leave r) Left) (state w′ (s .entries))
       leave-good out = record {
-        shared = leave-keeps K law z g s (i .shared) w′ r x m ok out;
+        shared = leave-keeps K z g s (i .shared) w′ r x m ok out;
         own = reader-own g (advance g (Leave r) Left) s w′ r x (i .own) m
             (λ p q. pick-split (λ (b : Bool). b ≡ true → g .pend p q ≡ true) (eqb q r) (λ _ e. clash (sym e)) (λ _ e. e)) (λ p. rw (same r) (λ e. clash (sym e))) f;
       }
@@ -109,7 +109,7 @@ module _ (D : Detector) where
     sync-good p f clear none open-behind =
         let y : Publisher = record { place = 35; held = publisher s p .held; walk = newWalk (K .versions .markAt (version (s .words))) } in record {
           shared = sync-keeps K law z g s (i .shared) p f clear;
-          own = moved-own g (advance g (Sync p) (Synced (K .versions .markAt (version (s .words))))) s _ (s .entries) p y _ _ _ (i .own) (publisher-moves (i .shared .fine) p y (leb-false _ _ (f .0))) (λ q r e. rw e refl)
+          own = moved-own g (advance g (Sync p) (Synced (K .versions .markAt (version (s .words))))) s _ (s .entries) p y _ _ _ (i .own) (publisher-moves (i .shared .every .fine) p y (leb-false _ _ (f .0))) (λ q r e. rw e refl)
               (λ r. rw (same p) (λ e. open-behind r (leb-true 4 (reader s r .place) (sym (i .shared .grace .inside-is r) ∙ e)))) (λ l. rw none refl) (i .own .readers-are);
         }
 
@@ -122,8 +122,8 @@ module _ (D : Detector) where
     raise-good p lt low high clear passes still-behind raised = record {
       shared = raise-keeps K law z g s (i .shared) p lt low high clear;
       own = raise-split (λ (o : Outcome). OwnOf D g (o .after)) (K .versions) s p
-          (λ e. to _ _ (publisher-moves-head (i .shared .fine) p (atPlace (publisher s p) 37) lt VERSION-AT (publisher s p .walk .mark) (omega arith) (omega arith)) (raised e))
-          (to _ _ (publisher-moves (i .shared .fine) p (atPlace (publisher s p) 37) lt) (i .own .readers-are));
+          (λ e. to _ _ (publisher-moves-head (i .shared .every .fine) p (atPlace (publisher s p) 37) lt VERSION-AT (publisher s p .walk .mark) (omega arith) (omega arith)) (raised e))
+          (to _ _ (publisher-moves (i .shared .every .fine) p (atPlace (publisher s p) 37) lt) (i .own .readers-are));
     }
       where
         to : (w′ : List ℕ) (ver : ℕ) → MovesPublisher (s .words) w′ p (atPlace (publisher s p) 37) (current (s .words)) ver (releases (s .words))
@@ -138,14 +138,14 @@ module _ (D : Detector) where
           → Good K (OwnOf D) z (advance g (Walk p b) (Walked (k .reply))) (walk s p k .after)
       walk-good done same-mark clear still-behind = record {
         shared = walk-keeps K law z g s (i .shared) p b lt low high k done waits-are same-mark (omega arith) clear;
-        own = moved-own g (advance g (Walk p b) (Walked (k .reply))) s _ (s .entries) p _ _ _ _ (i .own) (publisher-moves (i .shared .fine) p (walked (publisher s p) k) lt) (λ q r e. refl) still-behind (λ _. counted) (i .own .readers-are);
+        own = moved-own g (advance g (Walk p b) (Walked (k .reply))) s _ (s .entries) p _ _ _ _ (i .own) (publisher-moves (i .shared .every .fine) p (walked (publisher s p) k) lt) (λ q r e. refl) still-behind (λ _. counted) (i .own .readers-are);
       }
 
       pub return-good : (T : Traits) (l w : ℕ) → publisher s p .place ≡ 37 → k .reply ≡ Returned l w → ((r : ℕ) → g .pend p r ≡ false) → l ≡ k .walk .looks → w ≡ k .walk .waits → D .passed (walked (publisher s p) k) ≡ T .passes z → Back T z g p l w
       return-good T l w at37 q none-pending looks waits passes =
           let same-waits : k .walk .waits ≡ publisher s p .walk .waits = waits-are ∙ rw q refl in record {
             none-pending = none-pending;
-            in-order = raised-in-order K law z g s (i .shared) p at37;
+            in-order = raised-in-order K z g s (i .shared) p at37;
             looks-are = omega arith;
-            waits-are = waits ∙ (same-waits ∙ sym (i .shared .tallied .waits p low));
+            waits-are = waits ∙ (same-waits ∙ sym (i .shared .tallied .waits-are p low));
           }

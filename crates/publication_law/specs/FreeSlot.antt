@@ -20,7 +20,6 @@ use Rattle.publication_law.specs.Table.{machine}
 use Rattle.publication_law.specs.Rules.{Rules, tableBy}
 use Rattle.publication_law.specs.Damage.{Kind}
 use Rattle.publication_law.specs.Invariant.{Invariant}
-use Rattle.publication_law.specs.KindLaw.{KindLaw}
 use Rattle.publication_law.specs.Keeps.{slots-right, idle-told, busy-told}
 use Rattle.publication_law.specs.Lawful.{Good, Lawful, reached, companions-of}
 
@@ -40,20 +39,20 @@ module _ (s : State) (p : ℕ) (idle : publisher s p .place ≡ 0) where
   spare-slot lt room = let z = missed taken (publishers (s .words)) (slots (s .words)) room in (z .0, z .1, untaken (z .0) lt (z .2))
 
 -- A slot that is not in use is told free.
-unused-told : (K : Kind) → KindLaw K → (z : Given) (g : Ghost) (s : State) → Invariant K z g s → (x : ℕ) → inUse s x ≡ false → Has (g .told) x free
-unused-told K law z g s i x e =
-    let recorded = slots-right K law z g s i in
+unused-told : (K : Kind) (z : Given) (g : Ghost) (s : State) → Invariant K z g s → (x : ℕ) → inUse s x ≡ false → Has (g .told) x free
+unused-told K z g s i x e =
+    let recorded = slots-right K z g s i in
     let parts = or-false (eqb (current (s .words)) x) _ e in
     let unheld : (q : ℕ) → q < publishers (s .words) → holds (g .told) q x ≡ false = λ q l. sym (recorded .held q x) ∙ none-below (λ q. heldSlot s q x) (publishers (s .words)) q (parts .1) l in
-    (rw (recorded .current) (parts .0), λ q. by-test (holds (g .told) q x) (λ h. not-both _ h (unheld q (busy-told K law z g s i q x h .0))))
+    (rw (recorded .current) (parts .0), λ q. by-test (holds (g .told) q x) (λ h. not-both _ h (unheld q (busy-told K z g s i q x h .0))))
 
 module _ (R : Rules) (T : Traits) (L : Lawful R T) where
   told-free : (z : Given) (g : Ghost) (s : State) → Good (R .kind) (L .Own) z g s → z .publishers < z .slots → (p : ℕ) → p < z .publishers → ((x : ℕ) → holds (g .told) p x ≡ false)
       → (x : ℕ) × (x < z .slots) × Has (g .told) x free
   told-free z g s i room p pn idle =
-      let n = i .shared .sized in
-      let y = spare-slot s p (idle-told (R .kind) (L .kind-law) z g s (i .shared) p idle) (omega (arith, n .publishers-are)) (omega (arith, n .publishers-are, n .slots-are)) in
-      (y .0, omega (arith, n .slots-are, y .1), unused-told (R .kind) (L .kind-law) z g s (i .shared) (y .0) (y .2))
+      let n = i .shared .every .sized in
+      let y = spare-slot s p (idle-told (R .kind) z g s (i .shared .every) p idle) (omega (arith, n .publishers-are)) (omega (arith, n .publishers-are, n .slots-are)) in
+      (y .0, omega (arith, n .slots-are, y .1), unused-told (R .kind) z g s (i .shared .every) (y .0) (y .2))
 
   -- Of a kind whose claims are not exclusive.
   pub finds-free-slot-of : T .exclusive ≡ false → FindsFreeSlot (machine (tableBy R))

@@ -1,4 +1,5 @@
--- The shared invariant of a store on its words, through the views; each shared step keeps it. Assumes nothing.
+-- What a store of every kind keeps on its words, through the views: it is undamaged and has the sizes that it was made with, its slots are as Core says,
+-- and places and phases are as the calls told. It names nothing of grace periods: GraceInvariant adds that. Assumes nothing.
 use Prim.Native.Nat.{ℕ, _<_}
 use native.Mathlib.Omega.{arith}
 use mathlib.Core.Path.{_≡_, refl, _∙_}
@@ -10,16 +11,15 @@ use Rattle.calls.specs.Base.{upd}
 use Rattle.calls.specs.RowLaws.{same, at-or}
 use Rattle.layout.specs.declared.Reader.{Reader}
 use Rattle.layout.specs.declared.Publisher.{Publisher}
-use Rattle.layout.specs.Layout.{KIND-AT, READERS-AT, PUBLISHERS-AT, SLOTS-AT, CURRENT-AT, VERSION-AT, RELEASES-AT, readers, publishers, slots, current, version, releases, readerAt, publisherAt}
+use Rattle.layout.specs.Layout.{KIND-AT, READERS-AT, PUBLISHERS-AT, SLOTS-AT, CURRENT-AT, VERSION-AT, readers, publishers, slots, current, version}
 use Rattle.statement.specs.Machine.{State, state, Given}
 use Rattle.statement.specs.Kept.{Ghost}
-use Rattle.publication_law.specs.Steps.{reader, publisher, walk}
+use Rattle.publication_law.specs.Steps.{reader, publisher}
 use Rattle.publication_law.specs.Damage.{Kind}
 use Rattle.publication_law.specs.DamageLaws.{HeadFine, Fine}
 use Rattle.publication_law.specs.Core.{Core}
-use Rattle.publication_law.specs.Grace.{Grace}
 use Rattle.publication_law.specs.Single.{formerAt}
-use Rattle.publication_law.specs.Tallied.{Tallied}
+use Rattle.publication_law.specs.Phases.{Phases}
 use Rattle.publication_law.specs.Entries.{slotEntry}
 use Rattle.publication_law.specs.Moves.{MovesPublisher, publisher-field, MovesReader, reader-field}
 
@@ -32,22 +32,19 @@ pub record Sized (z : Given) (s : State) : Type 0 where
   pub publishers-are : publishers (s .words) ≡ z .publishers
   pub slots-are : slots (s .words) ≡ z .slots
 
-abbrev pub CoreOf : Ghost → ℕ → ℕ → ℕ → (ℕ → Reader) → (ℕ → Publisher) → List ℤ → Type 0
-CoreOf g n m cur R P es = Core (g .model) (g .told) n m cur (λ r. R r .place) (λ r. R r .picked) (λ p. P p .place) (λ p. P p .held) (λ p. formers (P p)) (slotEntry es)
+abbrev pub CoreOf : Ghost → State → Type 0
+CoreOf g s = Core (g .model) (g .told) (readers (s .words)) (publishers (s .words)) (current (s .words))
+    (λ r. reader s r .place) (λ r. reader s r .picked) (λ p. publisher s p .place) (λ p. publisher s p .held) (λ p. formers (publisher s p)) (slotEntry (s .entries))
 
-abbrev pub GraceOf : Ghost → (ℕ → Reader) → (ℕ → Publisher) → Type 0
-GraceOf g R P = Grace (g .told .inside) (g .pend) (λ r. R r .place) (λ r. R r .picked) (λ p. P p .place) (λ p. formers (P p))
+abbrev pub PhasesOf : Ghost → State → Type 0
+PhasesOf g s = Phases (g .tally .place) (g .tally .phase) (λ r. reader s r .place) (λ p. publisher s p .place)
 
-abbrev pub TalliedOf : Ghost → (ℕ → Reader) → (ℕ → Publisher) → ℕ → Type 0
-TalliedOf g R P rel = Tallied (g .tally) (λ r. R r .place) (λ p. P p .place) (λ p. P p .walk .waits) rel
-
--- What a store of a kind keeps, made with the arguments z, where the calls told g.
+-- Of a store made with the arguments z, where the calls told g.
 pub record Invariant (K : Kind) (z : Given) (g : Ghost) (s : State) : Type 0 where
   pub fine : Fine K s
   pub sized : Sized z s
-  pub core : CoreOf g (readers (s .words)) (publishers (s .words)) (current (s .words)) (readerAt (s .words)) (publisherAt (s .words)) (s .entries)
-  pub grace : GraceOf g (readerAt (s .words)) (publisherAt (s .words))
-  pub tallied : TalliedOf g (readerAt (s .words)) (publisherAt (s .words)) (releases (s .words))
+  pub core : CoreOf g s
+  pub phases : PhasesOf g s
 
 -- Words and entries of the same lengths, with the same numbers of the head below the current slot, and a current slot and a version that fit.
 module _ (K : Kind) (s : State) (w′ : List ℕ) (es′ : List ℤ) (long : length w′ ≡ length (s .words)) (head : (k : ℕ) → k < CURRENT-AT → getD w′ k 0 ≡ getD (s .words) k 0) where
@@ -81,10 +78,9 @@ module _ (K : Kind) (z : Given) (g : Ghost) (s : State) (i : Invariant K z g s) 
   pub reader-moved : K .readerDamaged (slots (s .words)) x ≡ false
       → Core (g′ .model) (g′ .told) (readers (s .words)) (publishers (s .words)) (current (s .words))
       (upd (λ j. reader s j .place) r (x .place)) (upd (λ j. reader s j .picked) r (x .picked)) (λ p. publisher s p .place) (λ p. publisher s p .held) (λ p. formers (publisher s p)) (slotEntry (s .entries))
-      → Grace (g′ .told .inside) (g′ .pend) (upd (λ j. reader s j .place) r (x .place)) (upd (λ j. reader s j .picked) r (x .picked)) (λ p. publisher s p .place) (λ p. formers (publisher s p))
-      → Tallied (g′ .tally) (upd (λ j. reader s j .place) r (x .place)) (λ p. publisher s p .place) (λ p. publisher s p .walk .waits) (releases (s .words))
+      → Phases (g′ .tally .place) (g′ .tally .phase) (upd (λ j. reader s j .place) r (x .place)) (λ p. publisher s p .place)
       → Invariant K z g′ (state w′ (s .entries))
-  reader-moved ok c d e = record {
+  reader-moved ok c d = record {
     fine = fine-reader ok;
     sized = sized K s w′ (s .entries) (m .long) (λ k l. m .head k (omega arith)) z (i .sized);
     core = rw (
@@ -95,8 +91,7 @@ module _ (K : Kind) (z : Given) (g : Ghost) (s : State) (i : Invariant K z g s) 
       reader-field (λ (y : Reader). y .place) (s .words) w′ r x m,
       reader-field (λ (y : Reader). y .picked) (s .words) w′ r x m,
     ) c;
-    grace = rw (m .publishers-stay, reader-field (λ (y : Reader). y .place) (s .words) w′ r x m, reader-field (λ (y : Reader). y .picked) (s .words) w′ r x m) d;
-    tallied = rw (m .head RELEASES-AT (omega arith), m .publishers-stay, reader-field (λ (y : Reader). y .place) (s .words) w′ r x m) e;
+    phases = rw (m .publishers-stay, reader-field (λ (y : Reader). y .place) (s .words) w′ r x m) d;
   }
 
 -- A publisher anew.
@@ -112,10 +107,9 @@ module _ (K : Kind) (z : Given) (g : Ghost) (s : State) (i : Invariant K z g s) 
   pub publisher-moved : cur < slots (s .words) → K .versions .tooLarge ver ≡ false → K .publisherDamaged (readers (s .words)) (slots (s .words)) y ≡ false
       → Core (g′ .model) (g′ .told) (readers (s .words)) (publishers (s .words)) cur (λ j. reader s j .place) (λ j. reader s j .picked)
       (upd (λ q. publisher s q .place) p (y .place)) (upd (λ q. publisher s q .held) p (y .held)) (upd (λ q. formers (publisher s q)) p (formers y)) (slotEntry es′)
-      → Grace (g′ .told .inside) (g′ .pend) (λ j. reader s j .place) (λ j. reader s j .picked) (upd (λ q. publisher s q .place) p (y .place)) (upd (λ q. formers (publisher s q)) p (formers y))
-      → Tallied (g′ .tally) (λ j. reader s j .place) (upd (λ q. publisher s q .place) p (y .place)) (upd (λ q. publisher s q .walk .waits) p (y .walk .waits)) rel
+      → Phases (g′ .tally .place) (g′ .tally .phase) (λ j. reader s j .place) (upd (λ q. publisher s q .place) p (y .place))
       → Invariant K z g′ (state w′ es′)
-  publisher-moved low fits ok c d e = record {
+  publisher-moved low fits ok c d = record {
     fine = fine-publisher low fits ok;
     sized = sized K s w′ es′ (m .long) (m .head) z (i .sized);
     core = rw (
@@ -127,6 +121,5 @@ module _ (K : Kind) (z : Given) (g : Ghost) (s : State) (i : Invariant K z g s) 
       publisher-field (λ (x : Publisher). x .held) (s .words) w′ p y cur ver rel m,
       publisher-field formers (s .words) w′ p y cur ver rel m,
     ) c;
-    grace = rw (m .readers-stay, publisher-field (λ (x : Publisher). x .place) (s .words) w′ p y cur ver rel m, publisher-field formers (s .words) w′ p y cur ver rel m) d;
-    tallied = rw (m .releases-is, m .readers-stay, publisher-field (λ (x : Publisher). x .place) (s .words) w′ p y cur ver rel m, publisher-field (λ (x : Publisher). x .walk .waits) (s .words) w′ p y cur ver rel m) e;
+    phases = rw (m .readers-stay, publisher-field (λ (x : Publisher). x .place) (s .words) w′ p y cur ver rel m) d;
   }

@@ -43,10 +43,11 @@ use Rattle.publication_law.specs.Table.{damaged, rows, step, making, mac
 use Rattle.publication_law.specs.Rules.{Rules, tableBy}
 use Rattle.publication_law.specs.DamageLaws.{Fine, fine-to, publisher-below}
 use Rattle.publication_law.specs.Moves.{MovesPublisher, MovesReader, publisher-moves, publisher-moves-head}
-use Rattle.publication_law.specs.Tallied.{phaseAt, phase-writing, InPhase, in-phase, phase-turn}
-use Rattle.publication_law.specs.Invariant.{Invariant}
+use Rattle.publication_law.specs.Phases.{phaseAt, phase-writing, InPhase, in-phase, phase-turn}
+use Rattle.publication_law.specs.GraceInvariant.{GraceInvariant}
 use Rattle.publication_law.specs.KindLaw.{KindLaw, places, fine-publisher, early-fits}
-use Rattle.publication_law.specs.Keeps.{publisher-fine, claim-keeps, claim-unpicked, write-keeps, swap-keeps, release-keeps, look-right, released-in-order, slots-right, picks-right, table-right, idle-told, busy-told, former-told, free-told, made-invariant}
+use Rattle.publication_law.specs.Keeps.{claim-keeps, claim-unpicked, write-keeps, swap-keeps, look-right, slots-right, picks-right, table-right, idle-told, busy-told, former-told, free-told}
+use Rattle.publication_law.specs.GraceKeeps.{early-keeps, release-keeps, publisher-fine, released-in-order, made-invariant}
 use Rattle.publication_law.specs.TableLaws.{Acted, ActLaws, only-damaged}
 use Rattle.publication_law.specs.Calls.{undamaged-fine}
 use Rattle.publication_law.specs.Decide.{raise-split, decided, decide-accepts}
@@ -54,7 +55,7 @@ use Rattle.publication_law.specs.Frames.{same-framed, reader-framed, cla
 
 -- The shared invariant with a kind's own.
 pub record Good (K : Kind) (Own : Ghost → State → Type 0) (z : Given) (g : Ghost) (s : State) : Type 0 where
-  pub shared : Invariant K z g s
+  pub shared : GraceInvariant K z g s
   pub own : Own g s
 
 pub record Lawful (R : Rules) (T : Traits) : Type 1 where
@@ -171,14 +172,18 @@ module _ (R : Rules) (T : Traits) (L : Lawful R T) where
 
     undamaged-now : damaged (tableBy R) s ≡ false
     unfolding damaged
-    undamaged-now = neither (sharedDamage (R .kind) s) (R .further s) (fine-to (R .kind) s (i .shared .fine)) (L .no-further z g s i)
+    undamaged-now = neither (sharedDamage (R .kind) s) (R .further s) (fine-to (R .kind) s (i .shared .every .fine)) (L .no-further z g s i)
 
     claim-kept : (p x : ℕ) → AllClear (tableBy R .tests s (Claim p x)) → After (Claim p x) (tableBy R .act s (Claim p x))
     unfolding After
     claim-kept p x f =
-        let y : Publisher = record { place = 1; held = x; walk = publisher s p .walk } in record {
-          shared = claim-keeps (R .kind) (L .kind-law) z g s (i .shared) (R .exclusive) p x f (early-fits (L .kind-law) (readers (s .words)) (slots (s .words)) y (omega arith) (λ _. leb-false _ _ (f .1 .0)));
-          own = L .early-own g _ s _ _ p y _ _ (i .own) refl (publisher-moves (i .shared .fine) p y (leb-false _ _ (f .0))) refl (omega arith);
+        let y : Publisher = record { place = 1; held = x; walk = publisher s p .walk } in
+        let idle-now : publisher s p .place ≡ 0 = eqb-true _ _ (not-false _ (f .1 .1 .0)) in
+        let m = publisher-moves (i .shared .every .fine) p y (leb-false _ _ (f .0)) in record {
+          shared = early-keeps (R .kind) z g s (i .shared) _ _ _ p y _ _ m
+              (claim-keeps (R .kind) z g s (i .shared .every) (R .exclusive) p x f (early-fits (L .kind-law) (readers (s .words)) (slots (s .words)) y (omega arith) (λ _. leb-false _ _ (f .1 .0))))
+              refl refl refl refl (omega arith) (omega arith);
+          own = L .early-own g _ s _ _ p y _ _ (i .own) refl m refl (omega arith);
         }
 
     write-kept : (p : ℕ) (v : ℤ) → AllClear (tableBy R .tests s (Write p v)) → After (Write p v) (tableBy R .act s (Write p v))
@@ -187,28 +192,36 @@ module _ (R : Rules) (T : Traits) (L : Lawful R T) where
         let lt : p < publishers (s .words) = leb-false _ _ (f .0) in
         let range = within 1 32 (publisher s p .place) (f .1 .1 .0) in
         let y : Publisher = atPlace (publisher s p) (publisher s p .place + 1) in
-        let low-now : publisher s p .place + 1 ≤ 34 = omega (arith, range .1) in record {
-          shared = write-keeps (R .kind) (L .kind-law) z g s (i .shared) p v f
-              (early-fits (L .kind-law) (readers (s .words)) (slots (s .words)) y low-now (λ _. publisher-fine (R .kind) (L .kind-law) z g s (i .shared) p lt .held-below (range .0)));
-          own = L .early-own g _ s _ _ p y _ _ (i .own) refl (publisher-moves (i .shared .fine) p y lt) refl low-now;
+        let low-now : publisher s p .place + 1 ≤ 34 = omega (arith, range .1) in
+        let held-below : publisher s p .held < slots (s .words) = publisher-fine (R .kind) (L .kind-law) z g s (i .shared) p lt .held-below (range .0) in
+        let m = publisher-moves (i .shared .every .fine) p y lt in record {
+          shared = early-keeps (R .kind) z g s (i .shared) _ _ _ p y _ _ m
+              (write-keeps (R .kind) z g s (i .shared .every) p v f held-below (early-fits (L .kind-law) (readers (s .words)) (slots (s .words)) y low-now (λ _. held-below)))
+              refl refl refl refl (omega arith) low-now;
+          own = L .early-own g _ s _ _ p y _ _ (i .own) refl m refl low-now;
         }
 
     swap-kept : (p : ℕ) → AllClear (tableBy R .tests s (Swap p)) → After (Swap p) (tableBy R .act s (Swap p))
     unfolding After
     swap-kept p f =
-        let y : Publisher = record { place = 34; held = current (s .words); walk = publisher s p .walk } in record {
-          shared = swap-keeps (R .kind) (L .kind-law) z g s (i .shared) p f (early-fits (L .kind-law) (readers (s .words)) (slots (s .words)) y (omega arith) (λ _. i .shared .fine .head .current-below));
-          own = L .early-own g _ s _ _ p y _ _ (i .own) refl
-              (publisher-moves-head (i .shared .fine) p y (leb-false _ _ (f .0)) CURRENT-AT (publisher s p .held) (omega arith) (omega arith)) refl (omega arith);
+        let lt : p < publishers (s .words) = leb-false _ _ (f .0) in
+        let at33 : publisher s p .place ≡ 33 = eqb-true _ _ (not-false _ (f .1 .0)) in
+        let y : Publisher = record { place = 34; held = current (s .words); walk = publisher s p .walk } in
+        let m = publisher-moves-head (i .shared .every .fine) p y lt CURRENT-AT (publisher s p .held) (omega arith) (omega arith) in record {
+          shared = early-keeps (R .kind) z g s (i .shared) _ _ _ p y _ _ m
+              (swap-keeps (R .kind) z g s (i .shared .every) p f (publisher-fine (R .kind) (L .kind-law) z g s (i .shared) p lt .held-below (omega arith))
+              (early-fits (L .kind-law) (readers (s .words)) (slots (s .words)) y (omega arith) (λ _. i .shared .every .fine .head .current-below)))
+              refl refl refl refl (omega arith) (omega arith);
+          own = L .early-own g _ s _ _ p y _ _ (i .own) refl m refl (omega arith);
         }
 
     release-kept : (p : ℕ) → AllClear (tableBy R .tests s (Release p)) → After (Release p) (tableBy R .act s (Release p))
     unfolding After
     release-kept p f =
         let y : Publisher = atPlace (publisher s p) 0 in record {
-          shared = release-keeps (R .kind) (L .kind-law) z g s (i .shared) p f (early-fits (L .kind-law) (readers (s .words)) (slots (s .words)) y (omega arith) (λ l. absurd (omega arith)));
+          shared = release-keeps (R .kind) z g s (i .shared) p f (early-fits (L .kind-law) (readers (s .words)) (slots (s .words)) y (omega arith) (λ l. absurd (omega arith)));
           own = L .early-own g _ s _ _ p y _ _ (i .own) refl
-              (publisher-moves-head (i .shared .fine) p y (leb-false _ _ (f .0)) RELEASES-AT (oneMore s) (omega arith) (omega arith)) refl (omega arith);
+              (publisher-moves-head (i .shared .every .fine) p y (leb-false _ _ (f .0)) RELEASES-AT (oneMore s) (omega arith) (omega arith)) refl (omega arith);
         }
 
     raised-kept : (p : ℕ) → AllClear (tableBy R .tests s (Raise p)) → After (Raise p) (tableBy R .act s (Raise p))
@@ -237,12 +250,12 @@ module _ (R : Rules) (T : Traits) (L : Lawful R T) where
     look-shelf : (r k : ℕ) → accepted (step (tableBy R) s (Look r k) .reply) ≡ true → (v : ℤ) × (step (tableBy R) s (Look r k) .reply ≡ Pitch v) × (entry (g .model .note r) k ≡ some v)
     unfolding step
     look-shelf r k = decided (λ (o : Outcome). accepted (o .reply) ≡ true → (v : ℤ) × (o .reply ≡ Pitch v) × (entry (g .model .note r) k ≡ some v)) (rows (tableBy R) s (Look r k)) (tableBy R .act s (Look r k)) s refl
-        (λ f ok. (_, refl, look-right (R .kind) (L .kind-law) z g s (i .shared) r k (f .1))) (λ ok. clash (sym ok))
+        (λ f ok. (_, refl, look-right (R .kind) z g s (i .shared .every) r k (f .1))) (λ ok. clash (sym ok))
 
     claim-safe : (p x r : ℕ) → accepted (step (tableBy R) s (Claim p x) .reply) ≡ true → ¬ (g .told .picked r ≡ some x)
     unfolding step
     claim-safe p x r = decided (λ (o : Outcome). accepted (o .reply) ≡ true → ¬ (g .told .picked r ≡ some x)) (rows (tableBy R) s (Claim p x)) (tableBy R .act s (Claim p x)) s refl
-        (λ f ok. claim-unpicked (R .kind) (L .kind-law) z g s (i .shared) (R .exclusive) p x (f .1) r) (λ ok. clash (sym ok))
+        (λ f ok. claim-unpicked (R .kind) z g s (i .shared .every) (R .exclusive) p x (f .1) r) (λ ok. clash (sym ok))
 
     return-back : (p b l w : ℕ) → step (tableBy R) s (Walk p b) .reply ≡ Walked (Returned l w) → Back T z g p l w
     unfolding step
@@ -253,7 +266,7 @@ module _ (R : Rules) (T : Traits) (L : Lawful R T) where
     release-order : (p : ℕ) → accepted (step (tableBy R) s (Release p) .reply) ≡ true → g .tally .phase p ≡ returned
     unfolding step
     release-order p = decided (λ (o : Outcome). accepted (o .reply) ≡ true → g .tally .phase p ≡ returned) (rows (tableBy R) s (Release p)) (tableBy R .act s (Release p)) s refl
-        (λ f ok. released-in-order (R .kind) (L .kind-law) z g s (i .shared) p (f .1)) (λ ok. clash (sym ok))
+        (λ f ok. released-in-order (R .kind) z g s (i .shared) p (f .1)) (λ ok. clash (sym ok))
 
     not-damaged : (c : Call) → step (tableBy R) s c .reply ≢ Refused DAMAGED
     not-damaged c = only-damaged (λ s. T .publishes) (tableBy R) act-laws-of s c refl undamaged-now
@@ -263,16 +276,16 @@ module _ (R : Rules) (T : Traits) (L : Lawful R T) where
     accepts c f = decide-accepts (rows (tableBy R) s c) (tableBy R .act s c) s (undamaged-now, f)
 
     named-reader : (r : ℕ) → r < z .readers → leb (readers (s .words)) r ≡ false
-    named-reader r l = lt-leb (readers (s .words)) r (omega (arith, i .shared .sized .readers-are))
+    named-reader r l = lt-leb (readers (s .words)) r (omega (arith, i .shared .every .sized .readers-are))
 
     named-publisher : (p : ℕ) → p < z .publishers → leb (publishers (s .words)) p ≡ false
-    named-publisher p l = lt-leb (publishers (s .words)) p (omega (arith, i .shared .sized .publishers-are))
+    named-publisher p l = lt-leb (publishers (s .words)) p (omega (arith, i .shared .every .sized .publishers-are))
 
     named-slot : (x : ℕ) → x < z .slots → leb (slots (s .words)) x ≡ false
-    named-slot x l = lt-leb (slots (s .words)) x (omega (arith, i .shared .sized .slots-are))
+    named-slot x l = lt-leb (slots (s .words)) x (omega (arith, i .shared .every .sized .slots-are))
 
     idle-turn : (p : ℕ) → ((x : ℕ) → holds (g .told) p x ≡ false) → not (eqb (publisher s p .place) 0) ≡ false
-    idle-turn p f = negated _ (eq-eqb (publisher s p .place) 0 (idle-told (R .kind) (L .kind-law) z g s (i .shared) p f))
+    idle-turn p f = negated _ (eq-eqb (publisher s p .place) 0 (idle-told (R .kind) z g s (i .shared .every) p f))
 
     nobody-busy : (p : ℕ) → (R .exclusive ≡ true → (q x : ℕ) → holds (g .told) q x ≡ false) → (R .exclusive && anotherBusy s p) ≡ false
     nobody-busy p f = and-not (R .exclusive) (anotherBusy s p) (λ e. no-below _ (publishers (s .words)) (λ q l. and-not (not (eqb q p)) (not (eqb (publisher s q .place) 0)) (λ _. idle-turn q (f e q))))
@@ -281,36 +294,36 @@ module _ (R : Rules) (T : Traits) (L : Lawful R T) where
         → step (tableBy R) s (Claim p x) .reply ≡ Refused BUSY
     unfolding step
     refused-busy e p x q y pn xn f ne held =
-        let b = busy-told (R .kind) (L .kind-law) z g s (i .shared) q y held in
+        let b = busy-told (R .kind) z g s (i .shared .every) q y held in
         let another : anotherBusy s p ≡ true = some-below (λ q. not (eqb q p) && not (eqb (publisher s q .place) 0)) (publishers (s .words)) q (b .0) (rw (ne-eqb q p ne, b .1) refl) in
         rw (undamaged-now, named-publisher p pn, named-slot x xn, idle-turn p f, e, another) refl
 
     -- A publisher's place, by its phase.
     placed : (p : ℕ) (x : Phase) → g .tally .phase p ≡ x → InPhase (publisher s p .place) x
-    placed p x e = subst (InPhase (publisher s p .place)) (sym (i .shared .tallied .phases p) ∙ e) (in-phase (publisher s p .place))
+    placed p x e = subst (InPhase (publisher s p .place)) (sym (i .shared .every .phases .phases p) ∙ e) (in-phase (publisher s p .place))
 
     writes-on : (p : ℕ) (v : ℤ) → p < z .publishers → g .tally .phase p ≡ writing → length (g .model .draft p) < TABLE → ltZ v PITCH-LOW ≡ false → ltZ PITCH-HIGH v ≡ false
         → step (tableBy R) s (Write p v) .reply ≡ Written (length (g .model .draft p) + 1)
     writes-on p v pn ph short low high =
         let at = placed p writing ph in
-        let pl = i .shared .core .publishers p .drafted (at .0) (at .1) in
+        let pl = i .shared .every .core .publishers p .drafted (at .0) (at .1) in
         let turn : outside 1 32 (publisher s p .place) ≡ false = not-outside 1 32 (publisher s p .place) (at .0) (omega arith) in
         rw (accepts (Write p v) (named-publisher p pn, (neither (ltZ v PITCH-LOW) (ltZ PITCH-HIGH v) low high, (turn, tt)))) (ap Written (sym pl))
 
     swaps-on : (p : ℕ) → p < z .publishers → g .tally .phase p ≡ writing → length (g .model .draft p) ≡ TABLE → (x : ℕ) × (g .told .current ≡ some x) × (step (tableBy R) s (Swap p) .reply ≡ Swapped x)
     swaps-on p pn ph all =
         let at = placed p writing ph in
-        let pl = i .shared .core .publishers p .drafted (at .0) (at .1) in
+        let pl = i .shared .every .core .publishers p .drafted (at .0) (at .1) in
         let turn : not (eqb (publisher s p .place) 33) ≡ false = negated _ (eq-eqb (publisher s p .place) 33 (omega arith)) in
-        (current (s .words), i .shared .core .current-is, rw (accepts (Swap p) (named-publisher p pn, (turn, tt))) refl)
+        (current (s .words), i .shared .every .core .current-is, rw (accepts (Swap p) (named-publisher p pn, (turn, tt))) refl)
 
     syncs-on : (p : ℕ) → p < z .publishers → g .tally .phase p ≡ swapped → version (s .words) < T .last → accepted (step (tableBy R) s (Sync p) .reply) ≡ true
     syncs-on p pn ph low = rw (accepts (Sync p) (named-publisher p pn, (negated _ (eq-eqb (publisher s p .place) 34 (placed p swapped ph)), (L .below-last (version (s .words)) low, tt)))) refl
 
     -- Whether RAISE and WALK are in turn is told by the phase.
     turn-told : (f : ℕ → Bool) → ((pl : ℕ) → pl ≤ 34 → f pl ≡ false) → (p : ℕ) → p < publishers (s .words) → f (firstPlace (g .tally .phase p)) ≡ f (publisher s p .place)
-    turn-told f early p lt = rw (i .shared .tallied .phases p)
-        (phase-turn f early (publisher s p .place) (places (L .kind-law) (readers (s .words)) (slots (s .words)) (publisher s p) (i .shared .fine .publishers-fine p lt)))
+    turn-told f early p lt = rw (i .shared .every .phases .phases p)
+        (phase-turn f early (publisher s p .place) (places (L .kind-law) (readers (s .words)) (slots (s .words)) (publisher s p) (i .shared .every .fine .publishers-fine p lt)))
 
     raise-told : (p : ℕ) → p < publishers (s .words) → T .raisesIn (g .tally .phase p) ≡ R .raisesAt (publisher s p .place)
     raise-told p lt = L .raises-in (g .tally .phase p) ∙ turn-told (R .raisesAt) (L .raises-late) p lt
@@ -331,25 +344,25 @@ module _ (R : Rules) (T : Traits) (L : Lawful R T) where
 
     -- An accepted call is in its turn.
     at-phase : (p pl : ℕ) (x : Phase) → eqb (publisher s p .place) pl ≡ true → phaseAt pl ≡ x → g .tally .phase p ≡ x
-    at-phase p pl x e q = i .shared .tallied .phases p ∙ (ap phaseAt (eqb-true (publisher s p .place) pl e) ∙ q)
+    at-phase p pl x e q = i .shared .every .phases .phases p ∙ (ap phaseAt (eqb-true (publisher s p .place) pl e) ∙ q)
 
     turn-clear : (c : Call) → AllClear (tableBy R .tests s c) → InTurn T (g .model) (g .tally) c
-    turn-clear (Enter r) f = let l = leb-false 5 (reader s r .place) (f .1 .0) in omega (arith, i .shared .tallied .places r)
-    turn-clear (Look r k) f = i .shared .tallied .places r ∙ eqb-true (reader s r .place) 5 (not-false _ (f .1 .1 .0))
-    turn-clear (Leave r) f = let l = ltb-false (reader s r .place) 4 (f .1 .0) in omega (arith, i .shared .tallied .places r)
+    turn-clear (Enter r) f = let l = leb-false 5 (reader s r .place) (f .1 .0) in omega (arith, i .shared .every .phases .places r)
+    turn-clear (Look r k) f = i .shared .every .phases .places r ∙ eqb-true (reader s r .place) 5 (not-false _ (f .1 .1 .0))
+    turn-clear (Leave r) f = let l = ltb-false (reader s r .place) 4 (f .1 .0) in omega (arith, i .shared .every .phases .places r)
     turn-clear (Claim p x) f = at-phase p 0 idle (not-false _ (f .1 .1 .0)) refl
     turn-clear (Write p v) f =
         let range = within 1 32 (publisher s p .place) (f .1 .1 .0) in
-        let drafted = i .shared .core .publishers p .drafted (range .0) (omega (arith, range .1)) in
-        (i .shared .tallied .phases p ∙ phase-writing (publisher s p .place) (range .0) (omega (arith, range .1)), omega (arith, drafted, range .1))
+        let drafted = i .shared .every .core .publishers p .drafted (range .0) (omega (arith, range .1)) in
+        (i .shared .every .phases .phases p ∙ phase-writing (publisher s p .place) (range .0) (omega (arith, range .1)), omega (arith, drafted, range .1))
     turn-clear (Swap p) f =
         let at33 = eqb-true (publisher s p .place) 33 (not-false _ (f .1 .0)) in
-        let drafted = i .shared .core .publishers p .drafted (omega arith) (omega arith) in
+        let drafted = i .shared .every .core .publishers p .drafted (omega arith) (omega arith) in
         (at-phase p 33 writing (not-false _ (f .1 .0)) refl, omega (arith, drafted, at33))
     turn-clear (Sync p) f = at-phase p 34 swapped (not-false _ (f .1 .0)) refl
     turn-clear (Raise p) f = raise-told p (leb-false _ _ (f .0)) ∙ not-false _ (f .1 .0)
     turn-clear (Walk p b) f = walk-told p (leb-false _ _ (f .0)) ∙ not-false _ (f .1 .0)
-    turn-clear (Release p) f = released-in-order (R .kind) (L .kind-law) z g s (i .shared) p f
+    turn-clear (Release p) f = released-in-order (R .kind) z g s (i .shared) p f
 
     turn-right : (c : Call) → accepted (step (tableBy R) s c .reply) ≡ true → InTurn T (g .model) (g .tally) c
     unfolding step
@@ -360,24 +373,24 @@ module _ (R : Rules) (T : Traits) (L : Lawful R T) where
         → (x : ℕ) × (g .told .former p x ≡ true) × (step (tableBy R) s (Release p) .reply ≡ Freed x ((g .tally .releases + 1) % MODULUS))
     frees-on p pn ph =
         let at = placed p returned ph in
-        let top = places (L .kind-law) (readers (s .words)) (slots (s .words)) (publisher s p) (i .shared .fine .publishers-fine p (leb-false _ _ (named-publisher p pn))) in
+        let top = places (L .kind-law) (readers (s .words)) (slots (s .words)) (publisher s p) (i .shared .every .fine .publishers-fine p (leb-false _ _ (named-publisher p pn))) in
         let turn : not (eqb (publisher s p .place) 38) ≡ false = negated _ (eq-eqb (publisher s p .place) 38 (omega arith)) in
-        let n : oneMore s ≡ (g .tally .releases + 1) % MODULUS = omega (arith, i .shared .tallied .releases) in
-        (publisher s p .held, former-told (R .kind) (L .kind-law) z g s (i .shared) p (omega arith), rw (accepts (Release p) (named-publisher p pn, (turn, tt)), n) refl)
+        let n : oneMore s ≡ (g .tally .releases + 1) % MODULUS = omega (arith, i .shared .tallied .releases-are) in
+        (publisher s p .held, former-told (R .kind) z g s (i .shared .every) p (omega arith), rw (accepts (Release p) (named-publisher p pn, (turn, tt)), n) refl)
 
     state-companions : StateCompanions (machine (tableBy R)) T z (g .model) (g .told) (g .tally) s
     state-companions = record {
       undamaged = not-damaged;
       in-turn = turn-right;
       enters = λ r rn low.
-          let pl : g .tally .place r ≡ reader s r .place = i .shared .tallied .places r in
-          let rs : r < readers (s .words) = omega (arith, i .shared .sized .readers-are) in
-          rw (accepts (Enter r) (named-reader r rn, (lt-leb 5 (reader s r .place) (omega arith), tt)), pl) (ap At (L .enter-place s (i .shared .fine) r rs (omega arith)));
+          let pl : g .tally .place r ≡ reader s r .place = i .shared .every .phases .places r in
+          let rs : r < readers (s .words) = omega (arith, i .shared .every .sized .readers-are) in
+          rw (accepts (Enter r) (named-reader r rn, (lt-leb 5 (reader s r .place) (omega arith), tt)), pl) (ap At (L .enter-place s (i .shared .every .fine) r rs (omega arith)));
       looks = λ r k rn k32 five.
-          rw (accepts (Look r k) (named-reader r rn, (le-ltb 31 k (omega arith), (negated _ (eq-eqb (reader s r .place) 5 (sym (i .shared .tallied .places r) ∙ five)), tt)))) refl;
-      leaves = λ r rn four. rw (accepts (Leave r) (named-reader r rn, (le-ltb (reader s r .place) 4 (omega (arith, i .shared .tallied .places r)), tt))) refl;
+          rw (accepts (Look r k) (named-reader r rn, (le-ltb 31 k (omega arith), (negated _ (eq-eqb (reader s r .place) 5 (sym (i .shared .every .phases .places r) ∙ five)), tt)))) refl;
+      leaves = λ r rn four. rw (accepts (Leave r) (named-reader r rn, (le-ltb (reader s r .place) 4 (omega (arith, i .shared .every .phases .places r)), tt))) refl;
       claims = λ p x pn xn fr idle others.
-          rw (accepts (Claim p x) (named-publisher p pn, (named-slot x xn, (idle-turn p idle, (nobody-busy p (rw (L .exclusive-is) at others), (free-told (R .kind) (L .kind-law) z g s (i .shared) x fr, tt)))))) refl;
+          rw (accepts (Claim p x) (named-publisher p pn, (named-slot x xn, (idle-turn p idle, (nobody-busy p (rw (L .exclusive-is) at others), (free-told (R .kind) z g s (i .shared .every) x fr, tt)))))) refl;
       busy = λ e. refused-busy (sym (L .exclusive-is) ∙ e);
       writes = writes-on;
       swaps = swaps-on;
@@ -385,7 +398,7 @@ module _ (R : Rules) (T : Traits) (L : Lawful R T) where
       raises = raises-on;
       walks = walks-on;
       frees = frees-on;
-      counted = sym (i .shared .tallied .releases);
+      counted = sym (i .shared .tallied .releases-are);
     }
 
   -- A fresh store has the invariant.
@@ -439,9 +452,9 @@ module _ (R : Rules) (T : Traits) (L : Lawful R T) where
     claim = claim-safe;
     back = return-back;
     release = release-order;
-    slots = λ z g s i. slots-right (R .kind) (L .kind-law) z g s (i .shared);
-    picks = λ z g s i. picks-right (R .kind) (L .kind-law) z g s (i .shared);
-    table = λ z g s i. table-right (R .kind) (L .kind-law) z g s (i .shared);
+    slots = λ z g s i. slots-right (R .kind) z g s (i .shared .every);
+    picks = λ z g s i. picks-right (R .kind) z g s (i .shared .every);
+    table = λ z g s i. table-right (R .kind) z g s (i .shared .every);
     state-companions = state-companions;
   }
 

@@ -5,13 +5,16 @@ pub mod Rules
 pub mod Core
 pub mod Grace
 pub mod Single
+pub mod Phases
 pub mod Tallied
 pub mod Entries
 pub mod Moves
 pub mod DamageLaws
 pub mod Invariant
+pub mod GraceInvariant
 pub mod KindLaw
 pub mod Keeps
+pub mod GraceKeeps
 pub mod Sound
 pub mod Calls
 pub mod Decide

@@ -16,7 +16,7 @@ use Rattle.layout.specs.declared.Progress.{Progress}
 use Rattle.layout.specs.Layout.{readers, indicator, readerAt}
 use Rattle.statement.specs.Machine.{State}
 use Rattle.publication_law.specs.Steps.{placeAfter}
-use Rattle.publication_law.specs.Keeps.{waitsAfter}
+use Rattle.publication_law.specs.GraceKeeps.{waitsAfter}
 use Rattle.two_phase_law.specs.Steps.{parity, addedTo, miscounted, watched, progress, lookAt}
 
 -- Each indicator is the number of readers that added to it.

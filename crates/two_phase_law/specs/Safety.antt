@@ -117,7 +117,7 @@ changed-indicator w len r x k low d i = indicator-put (withReader w r x) k (d (i
 -- Each of the kind's own steps keeps the invariant.
 module _ (z : Given) (g : Ghost) (s : State) (i : Good kind (OwnOf detector) z g s) where
   head-long : HEAD ≤ length (s .words)
-  head-long = omega (arith, i .shared .fine .head .long)
+  head-long = omega (arith, i .shared .every .fine .head .long)
 
   -- ENTER from 0, from 1 and from 4: what is counted of reader r.
   out-added : (x : Reader) (k : ℕ) → x .place ≤ 3 → addedTo k x ≡ false
@@ -148,17 +148,17 @@ module _ (z : Given) (g : Ghost) (s : State) (i : Good kind (OwnOf detector) z g
   enter-kept r f =
       let lt : r < readers (s .words) = leb-false _ _ (f .0) in
       let l : reader s r .place ≤ 4 = let q = leb-false 5 (reader s r .place) (f .1 .0) in omega arith in
-      let rf = all-false (readerRows (slots (s .words)) (reader s r)) (i .shared .fine .readers-fine r lt) in
+      let rf = all-false (readerRows (slots (s .words)) (reader s r)) (i .shared .every .fine .readers-fine r lt) in
       let n2 = eqb-false (reader s r .place) 2 (rf .1 .0) in
       let n3 = eqb-false (reader s r .place) 3 (rf .1 .1 .0) in
-      enter-good detector kind law z g s i _ r (entered s r) (enter-moves s (i .shared .fine) r lt)
-      (none-true (readerRows (slots (s .words)) (entered s r)) (onward-fits _ _ _ _ _ _ _ _ (i .shared .fine .head .current-below)))
+      enter-good detector kind law z g s i _ r (entered s r) (enter-moves s (i .shared .every .fine) r lt)
+      (none-true (readerRows (slots (s .words)) (entered s r)) (onward-fits _ _ _ _ _ _ _ _ (i .shared .every .fine .head .current-below)))
       (arrived r _ lt refl l n2 n3) lt (onward-goes _ _ _ _ _ _ _ l n2 n3) (λ four y b. rw (onward-first (version (s .words)) (current (s .words)) (reader s r) four) b)
 
   leave-kept : (r : ℕ) → AllClear (leaveTests s r) → Good kind (OwnOf detector) z (kept.advance g (Leave r) Left) (state (leaveWords s r) (s .entries))
   leave-kept r f =
       let lt : r < readers (s .words) = leb-false _ _ (f .0) in
-      leave-good detector kind law z g s i _ r (leaving (reader s r)) (leave-moves s (i .shared .fine) r lt) refl
+      leave-good detector kind law z g s i _ r (leaving (reader s r)) (leave-moves s (i .shared .every .fine) r lt) refl
       (leaves-counted _ (indicator (s .words)) (readerAt (s .words)) (i .own .readers-are) r lt _ _ (ltb-false _ _ (f .1 .0)) (omega arith)
       (λ k _. changed-indicator (s .words) head-long r _ (parity (reader s r .first)) (omega arith) (λ n. n - 1) k)) refl
 
@@ -184,7 +184,7 @@ module _ (z : Given) (g : Ghost) (s : State) (i : Good kind (OwnOf detector) z g
     -- A reader that is waited for did not add to an indicator that is zero.
     not-added : (k : ℕ) → k < 2 → indicator (s .words) k ≡ 0 → (r : ℕ) → g .pend p r ≡ true → parity (reader s r .first) ≢ k
     not-added k k2 e r q = let a = i .shared .grace .awaited p r q in
-        none-added _ (indicator (s .words)) (readerAt (s .words)) (i .own .readers-are) k k2 e r (i .shared .core .readers r .bound (omega (arith, a .opened))) (a .opened)
+        none-added _ (indicator (s .words)) (readerAt (s .words)) (i .own .readers-are) k k2 e r (i .shared .every .core .readers r .bound (omega (arith, a .opened))) (a .opened)
 
     after-behind : (r : ℕ) → g .pend p r ≡ true → 36 ≤ placeAfter (publisher s p .place) (looksOf s (publisher s p) b .reply) → parity (reader s r .first) ≢ parity (publisher s p .walk .mark)
     after-behind r q l = go turn

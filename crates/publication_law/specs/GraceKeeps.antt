@@ -1,0 +1,192 @@
+-- Each shared step of a kind with sections and grace periods keeps its invariant. Assumes nothing.
+use Prim.Native.Nat.{ℕ, _+_, _<_, _≤_}
+use native.Mathlib.Omega.{arith}
+use mathlib.Core.Path.{_≡_, refl, _∙_}
+use mathlib.Core.Bool.{false}
+use mathlib.Core.List.{List}
+use lib.IntN.{ℤ}
+use borrow.Author.Tests.{eqb-true, leb-false, not-false}
+use Rattle.calls.specs.declared.Call.the-variants.{Enter, Leave, Sync, Raise, Walk, Release}
+use Rattle.calls.specs.declared.Reply.the-variants.{At, Left, Synced, Walked, Freed}
+use Rattle.calls.specs.declared.WalkReply.{WalkReply}
+use Rattle.calls.specs.declared.WalkReply.the-variants.{Waiting, Spent, Quiet, Returned}
+use Rattle.calls.specs.Base.{upd}
+use Rattle.calls.specs.RowLaws.{AllClear}
+use Rattle.calls.specs.Model.{firstTable}
+use Rattle.calls.specs.Tally.{withPhase}
+use Rattle.calls.specs.Tally.Phase.{idle, synchronising, quiet, raised, returned}
+use Rattle.layout.specs.declared.Reader.{Reader}
+use Rattle.layout.specs.declared.Publisher.{Publisher}
+use Rattle.layout.specs.declared.Progress.{Progress}
+use Rattle.layout.specs.Layout.{VERSION-AT, RELEASES-AT, readers, publishers, slots, current, version, releases, noPublisher}
+use Rattle.layout.specs.Laws.{fresh-head}
+use Rattle.statement.specs.Machine.{State, state, Outcome, Given}
+use Rattle.statement.specs.Kept.{Ghost, ghost₀, advance}
+use Rattle.publication_law.specs.Steps.{reader, publisher, atPlace, syncTests, sync, newWalk, raise, placeAfter, walked, walk, releaseTests, release, oneMore, makingTests, made}
+use Rattle.publication_law.specs.Damage.{Kind}
+use Rattle.publication_law.specs.DamageLaws.{PublisherFine}
+use Rattle.publication_law.specs.KindLaw.{KindLaw, fine-publisher, publisher-undamaged}
+use Rattle.publication_law.specs.Core.{Core, Onward, enter-core, leave-core, late-core, release-core}
+use Rattle.publication_law.specs.Core.Hold.{by-swap}
+use Rattle.publication_law.specs.Grace.{enter-grace, leave-grace, early-grace, wait-grace, sync-grace, nobody, release-grace, fresh-grace}
+use Rattle.publication_law.specs.Single.{formerAt, former-same}
+use Rattle.publication_law.specs.Phases.{Phases, place-phases, move-phases, stay-phases}
+use Rattle.publication_law.specs.Tallied.{Tallied, early-tallied, sync-tallied, wait-tallied, late-tallied, release-tallied, fresh-tallied}
+use Rattle.publication_law.specs.Entries.{slotEntry}
+use Rattle.publication_law.specs.Decide.{raise-split}
+use Rattle.publication_law.specs.Moves.{MovesPublisher, MovesReader, publisher-moves, publisher-moves-head}
+use Rattle.publication_law.specs.Invariant.{formers, Invariant, reader-moved, publisher-moved}
+use Rattle.publication_law.specs.GraceInvariant.{GraceInvariant, reader-moved-grace, publisher-moved-grace}
+use Rattle.publication_law.specs.Keeps.{readers-fresh, publishers-fresh}
+use Rattle.publication_law.specs.Keeps as every
+
+-- The waits after a walk's answer.
+abbrev pub waitsAfter : ℕ → WalkReply → ℕ
+waitsAfter n (Waiting r) = n + 1
+waitsAfter n Spent = n
+waitsAfter n Quiet = n
+waitsAfter n (Returned l w) = n
+
+module _ (K : Kind) (z : Given) (g : Ghost) (s : State) (i : GraceInvariant K z g s) where
+  -- ENTER and LEAVE, whatever else of the reader and of the head a kind changes.
+  module _ (w′ : List ℕ) (r : ℕ) (x : Reader) (m : MovesReader (s .words) w′ r x) (ok : K .readerDamaged (slots (s .words)) x ≡ false) where
+    pub enter-keeps : r < readers (s .words) → Onward (current (s .words)) (reader s r .place) (reader s r .picked) (x .place) (x .picked)
+        → GraceInvariant K z (advance g (Enter r) (At (x .place))) (state w′ (s .entries))
+    enter-keeps rn on = reader-moved-grace K z s _ w′ r x m
+        (reader-moved K z g s (i .every) _ w′ r x m ok (enter-core _ _ _ _ _ _ _ _ _ _ _ (i .every .core) r _ _ rn on) (place-phases _ _ _ _ (i .every .phases) r (x .place)))
+        (enter-grace (g .told) _ _ _ _ _ (i .grace) _ r _ _ on (λ p e. i .every .core .publishers p .apart _ (by-swap e) refl)) (i .tallied)
+
+    pub leave-keeps : x .place ≡ 0 → GraceInvariant K z (advance g (Leave r) Left) (state w′ (s .entries))
+    leave-keeps out = reader-moved-grace K z s _ w′ r x m
+        (reader-moved K z g s (i .every) _ w′ r x m ok (rw out (leave-core _ _ _ _ _ _ _ _ _ _ _ (i .every .core) r _ Left)) (rw out (place-phases _ _ _ _ (i .every .phases) r 0)))
+        (rw out (leave-grace (g .told) _ _ _ _ _ (i .grace) r _ Left)) (i .tallied)
+
+  -- CLAIM, WRITE and SWAP: a publisher below 35 before and after, where the same is told of sections, waits and releases. What every kind keeps is shown in Keeps.
+  pub early-keeps : (g′ : Ghost) (w′ : List ℕ) (es′ : List ℤ) (p : ℕ) (y : Publisher) (cur ver : ℕ) → MovesPublisher (s .words) w′ p y cur ver (releases (s .words)) → Invariant K z g′ (state w′ es′)
+      → g′ .told .inside ≡ g .told .inside → g′ .pend ≡ g .pend → g′ .tally .waits ≡ g .tally .waits → g′ .tally .releases ≡ g .tally .releases
+      → publisher s p .place ≤ 34 → y .place ≤ 34 → GraceInvariant K z g′ (state w′ es′)
+  early-keeps g′ w′ es′ p y cur ver m j same-inside same-pend same-waits same-releases old new = publisher-moved-grace K z s g′ w′ es′ p y cur ver _ m j
+      (rw (same-inside, same-pend) (early-grace (g .told) _ _ _ _ _ (i .grace) p _ _ old new)) (rw (same-waits, same-releases) (early-tallied _ _ _ _ _ (i .tallied) p _ _ new))
+
+  pub release-keeps : (p : ℕ) → AllClear (releaseTests s p)
+      → K .publisherDamaged (readers (s .words)) (slots (s .words)) (atPlace (publisher s p) 0) ≡ false
+      → GraceInvariant K z (advance g (Release p) (Freed (publisher s p .held) (oneMore s))) (release s p .after)
+  release-keeps p f ok =
+      let lt = leb-false (publishers (s .words)) p (f .0) in
+      let at38 = eqb-true (publisher s p .place) 38 (not-false _ (f .1 .0)) in
+      let m = publisher-moves-head (i .every .fine) p (atPlace (publisher s p) 0) lt RELEASES-AT (oneMore s) (omega arith) (omega arith) in
+      publisher-moved-grace K z s _ _ _ p _ _ _ _ m
+      (publisher-moved K z g s (i .every) _ _ _ p _ _ _ _ m refl (i .every .fine .head .current-below) (i .every .fine .head .version-fits) ok
+      (release-core _ _ _ _ _ _ _ _ _ _ _ (i .every .core) p _ (Freed (publisher s p .held) (oneMore s)) _ (omega arith) (nobody (g .told) _ _ _ _ _ (i .grace) p at38) (λ y. refl))
+      (move-phases _ _ _ _ (i .every .phases) p 0 idle refl))
+      (release-grace (g .told) _ _ _ _ _ (i .grace) p _ at38) (release-tallied _ _ _ _ _ (i .tallied) p _)
+
+  -- A publisher's phase at an accepted RELEASE, and at 37.
+  pub released-in-order : (p : ℕ) → AllClear (releaseTests s p) → g .tally .phase p ≡ returned
+  released-in-order p f = i .every .phases .phases p ∙ rw (eqb-true (publisher s p .place) 38 (not-false _ (f .1 .0))) refl
+
+  pub raised-in-order : (p : ℕ) → publisher s p .place ≡ 37 → g .tally .phase p ≡ raised
+  raised-in-order p e = i .every .phases .phases p ∙ rw e refl
+
+-- SYNC, RAISE and WALK, from what the shared steps need of a kind.
+module _ (K : Kind) (law : KindLaw K) (z : Given) (g : Ghost) (s : State) (i : GraceInvariant K z g s) where
+  pub publisher-fine : (p : ℕ) → p < publishers (s .words) → PublisherFine (K .versions) (slots (s .words)) (publisher s p)
+  publisher-fine p l = fine-publisher law (readers (s .words)) (slots (s .words)) (publisher s p) (i .every .fine .publishers-fine p l)
+
+  -- A publisher that holds its former slot before and after.
+  late-slots : (p pl : ℕ) → 34 ≤ publisher s p .place → 34 ≤ pl
+      → Core (g .model) (g .told) (readers (s .words)) (publishers (s .words)) (current (s .words)) (λ j. reader s j .place) (λ j. reader s j .picked)
+      (upd (λ q. publisher s q .place) p pl) (upd (λ q. publisher s q .held) p (publisher s p .held)) (upd (λ q. formers (publisher s q)) p (formerAt pl (publisher s p .held))) (slotEntry (s .entries))
+  late-slots p pl low new = late-core _ _ _ _ _ _ _ _ _ _ _ (i .every .core) p pl _ _ (λ a b. omega arith) (λ a b. omega arith) (λ y. former-same (publisher s p .place) pl (publisher s p .held) y low new)
+
+  pub sync-keeps : (p : ℕ) → AllClear (syncTests (K .versions) s p)
+      → law .own (readers (s .words)) (record { place = 35; held = publisher s p .held; walk = newWalk (K .versions .markAt (version (s .words))) }) ≡ false
+      → GraceInvariant K z (advance g (Sync p) (Synced (K .versions .markAt (version (s .words))))) (sync (K .versions) s p .after)
+  sync-keeps p f clear =
+      let lt = leb-false (publishers (s .words)) p (f .0) in
+      let at34 = eqb-true (publisher s p .place) 34 (not-false _ (f .1 .0)) in
+      let y : Publisher = record { place = 35; held = publisher s p .held; walk = newWalk (K .versions .markAt (version (s .words))) } in
+      let ok = publisher-undamaged law (readers (s .words)) (slots (s .words)) y clear (record {
+        held-below = λ _. publisher-fine p lt .held-below (omega arith);
+        mark-fits = λ _. law .versions-law .mark-fits (version (s .words)) (i .every .fine .head .version-fits) (f .1 .1 .0);
+        waits-low = λ _. omega arith;
+      }) in
+      let m = publisher-moves (i .every .fine) p y lt in
+      publisher-moved-grace K z s _ _ _ p _ _ _ _ m
+      (publisher-moved K z g s (i .every) _ _ _ p _ _ _ _ m refl (i .every .fine .head .current-below) (i .every .fine .head .version-fits) ok
+      (late-slots p 35 (omega arith) (omega arith)) (move-phases _ _ _ _ (i .every .phases) p 35 synchronising refl))
+      (sync-grace (g .told) _ _ _ _ _ (i .grace) p _) (sync-tallied _ _ _ _ _ (i .tallied) p)
+
+  -- RAISE, at 35 or 36.
+  module _ (p : ℕ) (lt : p < publishers (s .words)) (low : 35 ≤ publisher s p .place) (high : publisher s p .place ≤ 36) where
+    pub raise-keeps : law .own (readers (s .words)) (atPlace (publisher s p) 37) ≡ false
+        → GraceInvariant K z (advance g (Raise p) (raise (K .versions) s p .reply)) (raise (K .versions) s p .after)
+    raise-keeps clear =
+        let pf = publisher-fine p lt in
+        let ok = publisher-undamaged law (readers (s .words)) (slots (s .words)) (atPlace (publisher s p) 37) clear (record { held-below = λ _. pf .held-below (omega arith); mark-fits = λ _. pf .mark-fits low; waits-low = λ _. pf .waits-low low }) in
+        raise-split (λ (o : Outcome). GraceInvariant K z (advance g (Raise p) (o .reply)) (o .after)) (K .versions) s p
+        (λ e. to _ _ (publisher-moves-head (i .every .fine) p _ lt VERSION-AT (publisher s p .walk .mark) (omega arith) (omega arith)) (law .versions-law .raised-fits _ (pf .mark-fits low)) ok)
+        (to _ _ (publisher-moves (i .every .fine) p _ lt) (i .every .fine .head .version-fits) ok)
+      where
+        to : (w′ : List ℕ) (ver : ℕ) → MovesPublisher (s .words) w′ p (atPlace (publisher s p) 37) (current (s .words)) ver (releases (s .words)) → K .versions .tooLarge ver ≡ false
+            → K .publisherDamaged (readers (s .words)) (slots (s .words)) (atPlace (publisher s p) 37) ≡ false → GraceInvariant K z (record { model = g .model; told = g .told; pend = g .pend; tally = withPhase (g .tally) p raised }) (state w′ (s .entries))
+        to w′ ver m fits ok = publisher-moved-grace K z s _ w′ _ p _ _ ver _ m
+            (publisher-moved K z g s (i .every) _ w′ _ p _ _ ver _ m refl (i .every .fine .head .current-below) fits ok (late-slots p 37 (omega arith) (omega arith)) (move-phases _ _ _ _ (i .every .phases) p 37 raised refl))
+            (wait-grace (g .told) _ _ _ _ _ (i .grace) p 37 _ low (omega arith) (omega arith) (λ e. absurd (omega arith)) (λ y. former-same (publisher s p .place) 37 (publisher s p .held) y (omega arith) (omega arith)))
+            (late-tallied _ _ _ _ _ (i .tallied) p 37 _ low refl)
+
+  -- WALK, at 35 to 37: what it came to keeps the mark and the waits, and where it returns nobody is waited for.
+  module _ (p b : ℕ) (lt : p < publishers (s .words)) (low : 35 ≤ publisher s p .place) (high : publisher s p .place ≤ 37) where
+    walk-phases : (o : WalkReply)
+        → Phases (advance g (Walk p b) (Walked o) .tally .place) (advance g (Walk p b) (Walked o) .tally .phase) (λ j. reader s j .place) (upd (λ q. publisher s q .place) p (placeAfter (publisher s p .place) o))
+    walk-phases (Waiting r) = stay-phases _ _ _ _ (i .every .phases) p (publisher s p .place) refl
+    walk-phases Spent = stay-phases _ _ _ _ (i .every .phases) p (publisher s p .place) refl
+    walk-phases Quiet = move-phases _ _ _ _ (i .every .phases) p 36 quiet refl
+    walk-phases (Returned l w) = move-phases _ _ _ _ (i .every .phases) p 38 returned refl
+
+    walk-tallied : (o : WalkReply) (ws : ℕ) → ws ≡ waitsAfter (publisher s p .walk .waits) o
+        → Tallied (advance g (Walk p b) (Walked o) .tally .waits) (advance g (Walk p b) (Walked o) .tally .releases) (upd (λ q. publisher s q .place) p (placeAfter (publisher s p .place) o)) (upd (λ q. publisher s q .walk .waits) p ws) (releases (s .words))
+    walk-tallied (Waiting r) ws e = rw e (wait-tallied _ _ _ _ _ (i .tallied) p (publisher s p .place) low)
+    walk-tallied Spent ws e = late-tallied _ _ _ _ _ (i .tallied) p (publisher s p .place) ws low e
+    walk-tallied Quiet ws e = late-tallied _ _ _ _ _ (i .tallied) p 36 ws low e
+    walk-tallied (Returned l w) ws e = late-tallied _ _ _ _ _ (i .tallied) p 38 ws low e
+
+    after-low : (o : WalkReply) → 35 ≤ placeAfter (publisher s p .place) o
+    after-low (Waiting r) = low
+    after-low Spent = low
+    after-low Quiet = omega arith
+    after-low (Returned l w) = omega arith
+
+    after-high : (o : WalkReply) → placeAfter (publisher s p .place) o ≤ 38
+    after-high (Waiting r) = omega arith
+    after-high Spent = omega arith
+    after-high Quiet = omega arith
+    after-high (Returned l w) = omega arith
+
+    pub walk-keeps : (k : Progress) → (placeAfter (publisher s p .place) (k .reply) ≡ 38 → (r : ℕ) → g .pend p r ≡ false) → k .walk .waits ≡ waitsAfter (publisher s p .walk .waits) (k .reply)
+        → k .walk .mark ≡ publisher s p .walk .mark → k .walk .waits ≤ k .walk .looks → law .own (readers (s .words)) (walked (publisher s p) k) ≡ false
+        → GraceInvariant K z (advance g (Walk p b) (Walked (k .reply))) (walk s p k .after)
+    walk-keeps k done ws same-mark enough clear =
+        let pf = publisher-fine p lt in
+        let ok = publisher-undamaged law (readers (s .words)) (slots (s .words)) (walked (publisher s p) k) clear (record { held-below = λ _. pf .held-below (omega (arith, low)); mark-fits = λ _. rw same-mark (pf .mark-fits low); waits-low = λ _. enough }) in
+        let l : 35 ≤ placeAfter (publisher s p .place) (k .reply) = after-low (k .reply) in
+        let m = publisher-moves (i .every .fine) p (walked (publisher s p) k) lt in
+        publisher-moved-grace K z s _ _ _ p _ _ _ _ m
+        (publisher-moved K z g s (i .every) _ _ _ p _ _ _ _ m refl (i .every .fine .head .current-below) (i .every .fine .head .version-fits) ok
+        (late-slots p (placeAfter (publisher s p .place) (k .reply)) (omega arith) (omega arith)) (walk-phases (k .reply)))
+        (wait-grace (g .told) _ _ _ _ _ (i .grace) p _ _ low l (after-high (k .reply)) done (λ y. former-same (publisher s p .place) (placeAfter (publisher s p .place) (k .reply)) (publisher s p .held) y (omega arith) (omega arith)))
+        (walk-tallied (k .reply) _ ws)
+
+-- A fresh store.
+pub made-invariant : (K : Kind) (x : Reader) (z : Given) (s : State) → AllClear (makingTests (K .versions) z s) → x .place ≡ 0 → x .picked ≡ 0
+    → K .readerDamaged (z .slots) x ≡ false → K .publisherDamaged (z .readers) (z .slots) noPublisher ≡ false → GraceInvariant K z (ghost₀ firstTable) (made (K .number) x z s)
+made-invariant K x z s f a b reader-ok publisher-ok = record {
+  every = every.made-invariant K x z s f a b reader-ok publisher-ok;
+  grace = rw (
+    readers-fresh (K .number) x z s (λ (y : Reader). y .place) a refl,
+    readers-fresh (K .number) x z s (λ (y : Reader). y .picked) b refl,
+    publishers-fresh (K .number) x z s (λ (y : Publisher). y .place),
+    publishers-fresh (K .number) x z s formers,
+  ) fresh-grace;
+  tallied = rw (fresh-head (K .number) (z .readers) (z .publishers) (z .slots) (z .version) x RELEASES-AT (omega arith), publishers-fresh (K .number) x z s (λ (y : Publisher). y .place), publishers-fresh (K .number) x z s (λ (y : Publisher). y .walk .waits)) fresh-tallied;
+}
