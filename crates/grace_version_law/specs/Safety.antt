@@ -298,6 +298,6 @@ lawful = record {
 
 -- The invariant after every list from fresh.
 pub new-reached : (s : State) (f : Fresh GraceVersion s) (cs : List Call)
-    → Good kind (OwnOf detector) (f .arguments) (kept.nextAll (kept.ghost₀ (traits .first (f .arguments))) (events GraceVersion s cs)) (afterAll GraceVersion s cs)
+    → Good kind (OwnOf detector) (f .arguments) (kept.nextAll (kept.ghost₀ (traits .every .first (f .arguments))) (events GraceVersion s cs)) (afterAll GraceVersion s cs)
 unfolding lawful
 new-reached s f cs = reached fixed traits lawful s f cs

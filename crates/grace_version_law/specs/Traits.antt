@@ -4,19 +4,22 @@ use mathlib.Core.Bool.{true, false}
 use Rattle.calls.specs.Model.{firstTable}
 use Rattle.calls.specs.Tally.{inPhase}
 use Rattle.calls.specs.Tally.Phase.{synchronising, raised}
-use Rattle.statement.specs.Companions.{Traits}
+use Rattle.statement.specs.Companions.{GraceTraits}
 
 -- The last version is 2^64 - 2; a return passes each reader once; a mark is one above the version; RAISE follows SYNC and WALK follows RAISE;
--- ENTER goes 1, 2, 3, 4, 5; readers publish versions; a claim may stand beside others.
-abbrev pub traits : Traits
+-- no call is lacking; ENTER goes 1, 2, 3, 4, 5; readers publish versions; a claim may stand beside others.
+abbrev pub traits : GraceTraits
 traits = record {
-  first = λ z. firstTable;
-  last = 18446744073709551614;
+  every = record {
+    first = λ z. firstTable;
+    last = 18446744073709551614;
+    lacks = λ c. false;
+    exclusive = false;
+    raisesIn = inPhase synchronising;
+    walksIn = inPhase raised;
+  };
   passes = λ z. z .readers;
   successor = λ v. v + 1;
-  raisesIn = inPhase synchronising;
-  walksIn = inPhase raised;
   onward = suc;
   publishes = true;
-  exclusive = false;
 }

@@ -18,9 +18,9 @@ use Rattle.layout.specs.Layout.{WORDS, kind, indicator}
 use Rattle.statement.specs.Machine.{State, state, Given, Fresh, events, afterAll}
 use Rattle.statement.specs.Demand3.{Demand3}
 use Rattle.statement.specs.Frame.{Frame}
-use Rattle.statement.specs.Companions.{MakingAccepts, MakesFresh, RefusedLeaves, Companions}
+use Rattle.statement.specs.Companions.{MakingAccepts, MakesFresh, RefusedLeaves, GraceCompanions}
 use Rattle.statement.specs.FreeSlot.{FindsFreeSlot, finds-free-slot-alike}
-use Rattle.statement.specs.Alike.{fresh-alike, after-alike, events-alike, demand3-alike, companions-alike, making-accepts-alike, makes-fresh-alike}
+use Rattle.statement.specs.Alike.{fresh-alike, after-alike, events-alike, demand3-alike, grace-companions-alike, making-accepts-alike, makes-fresh-alike}
 use Rattle.publication_law.specs.DamageLaws.{zero-damaged}
 use Rattle.publication_law.specs.Steps.{publisher}
 use Rattle.publication_law.specs.Table.{damaged}
@@ -45,15 +45,15 @@ demand3 = by-number (λ n. Demand3 (store n) (λ z. firstTable))
     (λ n none s f. absurd (none s f))
 
 -- Its companions: never damaged, order, counts, whole tables, readers never wait, claims, publishers get on, releases.
-pub companions : (k : Name) → Companions (store (number k)) (traits k)
-companions k = companions-alike (storeOf k) (store (number k)) (alike k) (traits k) (own k .companions)
+pub companions : (k : Name) → GraceCompanions (store (number k)) (traits k)
+companions k = grace-companions-alike (storeOf k) (store (number k)) (alike k) (traits k) (own k .companions)
 
 pub never-damaged : (k : Name) (s : State) → Fresh (store (number k)) s → (cs : List Call) → damaged (rulesOf k) (afterAll (store (number k)) s cs) ≡ false
 never-damaged k s f cs = rw (after-alike (storeOf k) (store (number k)) (alike k) s f cs) (own k .never-damaged s (fresh-alike (storeOf k) (store (number k)) (alike k) s f) cs)
 
 -- A making with every argument in its range is accepted.
-pub making-accepts : (k : Name) → MakingAccepts (store (number k)) (traits k)
-making-accepts k = making-accepts-alike (storeOf k) (store (number k)) (alike k) (traits k) (own k .making-accepts)
+pub making-accepts : (k : Name) → MakingAccepts (store (number k)) (traits k .every)
+making-accepts k = making-accepts-alike (storeOf k) (store (number k)) (alike k) (traits k .every) (own k .making-accepts)
 
 -- A fresh store is document 01's, number by number.
 pub makes-fresh : (k : Name) → MakesFresh (store (number k))
@@ -93,7 +93,7 @@ zero-store-damaged k es = zero-damaged (rulesOf k) es
 pub claim-refusals : (s : State) (p x n : ℕ) → damaged (rulesOf new) s ≡ false → anyStep s (Claim p x) .reply ≡ Refused n → new-promises.ClaimRefusal s p x n
 claim-refusals s p x n fine e = new-promises.new-claim-refusals s p x n fine (rw (step-named new s (Claim p x) (undamaged-fine (rulesOf new) s fine .head .kind-is)) at e)
 
--- With more slots than publishers, a publisher of the new store that holds nothing always finds a free slot, and its claim of that slot is accepted.
+-- With more slots than publishers, an idle publisher of the new store always finds a free slot, and its claim of that slot is accepted.
 pub finds-free-slot : FindsFreeSlot (store (number new))
 finds-free-slot = finds-free-slot-alike (storeOf new) (store (number new)) (alike new) new-promises.new-finds-free-slot
 

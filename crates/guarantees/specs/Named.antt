@@ -18,7 +18,7 @@ use Rattle.calls.specs.Numbers.{KIND-NEW, KIND-OLD}
 use Rattle.statement.specs.Machine.{State, Outcome, Given, Machine, Fresh, afterAll}
 use Rattle.statement.specs.Demand3.{Demand3}
 use Rattle.statement.specs.Frame.{Frame}
-use Rattle.statement.specs.Companions.{Traits, RefusedLeaves}
+use Rattle.statement.specs.Companions.{GraceTraits, RefusedLeaves}
 use Rattle.statement.specs.Alike.{Alike}
 use Rattle.publication_law.specs.Table.{step, making, machine}
 use Rattle.publication_law.specs.Calls.{undamaged-fine}
@@ -36,7 +36,7 @@ use Rattle.kinds_law.specs.Calls.{number-own, step-named, making-named, making-
 abbrev pub storeOf : Name → Machine
 storeOf k = machine (rulesOf k)
 
-abbrev pub traits : Name → Traits
+abbrev pub traits : Name → GraceTraits
 traits new = new-traits.traits
 traits old = old-traits.traits
 

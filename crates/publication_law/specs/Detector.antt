@@ -20,7 +20,7 @@ use Rattle.layout.specs.declared.Progress.{Progress}
 use Rattle.layout.specs.Layout.{READERS-AT, VERSION-AT, readers, publishers, slots, current, version, releases, indicator, readerAt, publisherAt}
 use Rattle.layout.specs.Laws.{fresh-publisher}
 use Rattle.statement.specs.Machine.{State, state, Outcome, Given}
-use Rattle.statement.specs.Companions.{Traits}
+use Rattle.statement.specs.Companions.{GraceTraits}
 use Rattle.statement.specs.Kept.{Pend, Ghost, ghost₀, advance, Back}
 use Rattle.publication_law.specs.Steps.{reader, publisher, atPlace, syncTests, sync, newWalk, raise, placeAfter, walked, walk, made}
 use Rattle.publication_law.specs.Damage.{Kind}
@@ -141,7 +141,7 @@ module _ (D : Detector) where
         own = moved-own g (advance g (Walk p b) (Walked (k .reply))) s _ (s .entries) p _ _ _ _ (i .own) (publisher-moves (i .shared .every .fine) p (walked (publisher s p) k) lt) (λ q r e. refl) still-behind (λ _. counted) (i .own .readers-are);
       }
 
-      pub return-good : (T : Traits) (l w : ℕ) → publisher s p .place ≡ 37 → k .reply ≡ Returned l w → ((r : ℕ) → g .pend p r ≡ false) → l ≡ k .walk .looks → w ≡ k .walk .waits → D .passed (walked (publisher s p) k) ≡ T .passes z → Back T z g p l w
+      pub return-good : (T : GraceTraits) (l w : ℕ) → publisher s p .place ≡ 37 → k .reply ≡ Returned l w → ((r : ℕ) → g .pend p r ≡ false) → l ≡ k .walk .looks → w ≡ k .walk .waits → D .passed (walked (publisher s p) k) ≡ T .passes z → Back T z g p l w
       return-good T l w at37 q none-pending looks waits passes =
           let same-waits : k .walk .waits ≡ publisher s p .walk .waits = waits-are ∙ rw q refl in record {
             none-pending = none-pending;

@@ -10,21 +10,23 @@ use Rattle.calls.specs.Base.{pick}
 use Rattle.calls.specs.RowLaws.{clash, not-both, by-test, or-false, and-not, neither, same, at-or, none-below, no-below, missed}
 use Rattle.calls.specs.Told.{holds, Has}
 use Rattle.calls.specs.Told.Role.{free}
+use Rattle.calls.specs.Tally.Phase.{idle}
 use Rattle.layout.specs.Layout.{publishers, slots, current}
 use Rattle.statement.specs.Machine.{State, Given, events, heldSlot}
-use Rattle.statement.specs.Companions.{Traits}
+use Rattle.statement.specs.Companions.{GraceTraits}
 use Rattle.statement.specs.FreeSlot.{FindsFreeSlot}
-use Rattle.statement.specs.Kept.{Ghost, ghost₀, all-told}
+use Rattle.statement.specs.Kept.{Ghost, ghost₀, all-told, all-tally}
 use Rattle.publication_law.specs.Steps.{publisher, inUse}
 use Rattle.publication_law.specs.Table.{machine}
 use Rattle.publication_law.specs.Rules.{Rules, tableBy}
 use Rattle.publication_law.specs.Damage.{Kind}
+use Rattle.publication_law.specs.Core.{held-bound}
 use Rattle.publication_law.specs.Invariant.{Invariant}
-use Rattle.publication_law.specs.Keeps.{slots-right, idle-told, busy-told}
+use Rattle.publication_law.specs.Keeps.{slots-right, placed}
 use Rattle.publication_law.specs.Lawful.{Good, Lawful, reached, companions-of}
 
 -- For every state. The slot that each publisher takes: its own, and for p, which is at place 0, the current one.
-module _ (s : State) (p : ℕ) (idle : publisher s p .place ≡ 0) where
+module _ (s : State) (p : ℕ) (at-0 : publisher s p .place ≡ 0) where
   taken : ℕ → ℕ
   taken q = pick (eqb q p) (current (s .words)) (publisher s q .held)
 
@@ -33,7 +35,7 @@ module _ (s : State) (p : ℕ) (idle : publisher s p .place ≡ 0) where
   untaken x lt none = neither (eqb (current (s .words)) x) _ (rw (same p) at (none p lt)) (no-below (λ q. heldSlot s q x) (publishers (s .words)) unheld)
     where
       unheld : (q : ℕ) → q < publishers (s .words) → heldSlot s q x ≡ false
-      unheld = at-or p (λ l. rw (eq-eqb (publisher s p .place) 0 idle) refl) (λ q e l. and-not (not (eqb (publisher s q .place) 0)) (eqb (publisher s q .held) x) (λ _. rw e at (none q l)))
+      unheld = at-or p (λ l. rw (eq-eqb (publisher s p .place) 0 at-0) refl) (λ q e l. and-not (not (eqb (publisher s q .place) 0)) (eqb (publisher s q .held) x) (λ _. rw e at (none q l)))
 
   pub spare-slot : p < publishers (s .words) → publishers (s .words) < slots (s .words) → (x : ℕ) × (x < slots (s .words)) × (inUse s x ≡ false)
   spare-slot lt room = let z = missed taken (publishers (s .words)) (slots (s .words)) room in (z .0, z .1, untaken (z .0) lt (z .2))
@@ -44,24 +46,24 @@ unused-told K z g s i x e =
     let recorded = slots-right K z g s i in
     let parts = or-false (eqb (current (s .words)) x) _ e in
     let unheld : (q : ℕ) → q < publishers (s .words) → holds (g .told) q x ≡ false = λ q l. sym (recorded .held q x) ∙ none-below (λ q. heldSlot s q x) (publishers (s .words)) q (parts .1) l in
-    (rw (recorded .current) (parts .0), λ q. by-test (holds (g .told) q x) (λ h. not-both _ h (unheld q (busy-told K z g s i q x h .0))))
+    (rw (recorded .current) (parts .0), λ q. by-test (holds (g .told) q x) (λ h. not-both _ h (unheld q (held-bound _ _ _ _ _ _ _ _ _ _ _ (i .core) q x h))))
 
-module _ (R : Rules) (T : Traits) (L : Lawful R T) where
-  told-free : (z : Given) (g : Ghost) (s : State) → Good (R .kind) (L .Own) z g s → z .publishers < z .slots → (p : ℕ) → p < z .publishers → ((x : ℕ) → holds (g .told) p x ≡ false)
+module _ (R : Rules) (T : GraceTraits) (L : Lawful R T) where
+  told-free : (z : Given) (g : Ghost) (s : State) → Good (R .kind) (L .Own) z g s → z .publishers < z .slots → (p : ℕ) → p < z .publishers → g .tally .phase p ≡ idle
       → (x : ℕ) × (x < z .slots) × Has (g .told) x free
-  told-free z g s i room p pn idle =
+  told-free z g s i room p pn idle-now =
       let n = i .shared .every .sized in
-      let y = spare-slot s p (idle-told (R .kind) z g s (i .shared .every) p idle) (omega (arith, n .publishers-are)) (omega (arith, n .publishers-are, n .slots-are)) in
+      let y = spare-slot s p (placed (R .kind) z g s (i .shared .every) p idle idle-now) (omega (arith, n .publishers-are)) (omega (arith, n .publishers-are, n .slots-are)) in
       (y .0, omega (arith, n .slots-are, y .1), unused-told (R .kind) z g s (i .shared .every) (y .0) (y .2))
 
   -- Of a kind whose claims are not exclusive.
-  pub finds-free-slot-of : T .exclusive ≡ false → FindsFreeSlot (machine (tableBy R))
-  finds-free-slot-of shared s f cs room p pn idle =
-      let t = all-told (ghost₀ (T .first (f .arguments))) (events (machine (tableBy R)) s cs) in
-      let x = told-free (f .arguments) _ _ (reached R T L s f cs) room p pn (rw t idle) in
+  pub finds-free-slot-of : T .every .exclusive ≡ false → FindsFreeSlot (machine (tableBy R))
+  finds-free-slot-of shared s f cs room p pn idle-now =
+      let t = all-told (ghost₀ (T .every .first (f .arguments))) (events (machine (tableBy R)) s cs) in
+      let x = told-free (f .arguments) _ _ (reached R T L s f cs) room p pn (rw (all-tally (ghost₀ (T .every .first (f .arguments))) (events (machine (tableBy R)) s cs)) idle-now) in
       let found = rw t at (x .2) in record {
         slot = x .0;
         below = x .1;
         is-free = found;
-        claimed = companions-of R T L s f cs .state-companions .claims p (x .0) pn (x .1) found idle (λ e. clash (sym e ∙ shared));
+        claimed = companions-of R T L s f cs .every .state-companions .claims p (x .0) pn (x .1) found idle-now (λ e. clash (sym e ∙ shared));
       }

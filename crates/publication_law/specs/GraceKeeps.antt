@@ -1,11 +1,11 @@
 -- Each shared step of a kind with sections and grace periods keeps its invariant. Assumes nothing.
 use Prim.Native.Nat.{ℕ, _+_, _<_, _≤_}
 use native.Mathlib.Omega.{arith}
-use mathlib.Core.Path.{_≡_, refl, _∙_}
+use mathlib.Core.Path.{_≡_, refl, sym, _∙_}
 use mathlib.Core.Bool.{false}
 use mathlib.Core.List.{List}
 use lib.IntN.{ℤ}
-use borrow.Author.Tests.{eqb-true, leb-false, not-false}
+use borrow.Author.Tests.{eqb-true, eq-eqb, leb-false, not-false}
 use Rattle.calls.specs.declared.Call.the-variants.{Enter, Leave, Sync, Raise, Walk, Release}
 use Rattle.calls.specs.declared.Reply.the-variants.{At, Left, Synced, Walked, Freed}
 use Rattle.calls.specs.declared.WalkReply.{WalkReply}
@@ -13,6 +13,7 @@ use Rattle.calls.specs.declared.WalkReply.the-variants.{Waiting, Spent, Quiet, 
 use Rattle.calls.specs.Base.{upd}
 use Rattle.calls.specs.RowLaws.{AllClear}
 use Rattle.calls.specs.Model.{firstTable}
+use Rattle.calls.specs.Told.{holds}
 use Rattle.calls.specs.Tally.{withPhase}
 use Rattle.calls.specs.Tally.Phase.{idle, synchronising, quiet, raised, returned}
 use Rattle.layout.specs.declared.Reader.{Reader}
@@ -37,7 +38,7 @@ use Rattle.publication_law.specs.Decide.{raise-split}
 use Rattle.publication_law.specs.Moves.{MovesPublisher, MovesReader, publisher-moves, publisher-moves-head}
 use Rattle.publication_law.specs.Invariant.{formers, Invariant, reader-moved, publisher-moved}
 use Rattle.publication_law.specs.GraceInvariant.{GraceInvariant, reader-moved-grace, publisher-moved-grace}
-use Rattle.publication_law.specs.Keeps.{readers-fresh, publishers-fresh}
+use Rattle.publication_law.specs.Keeps.{held-told, placed, readers-fresh, publishers-fresh}
 use Rattle.publication_law.specs.Keeps as every
 
 -- The waits after a walk's answer.
@@ -87,6 +88,10 @@ module _ (K : Kind) (z : Given) (g : Ghost) (s : State) (i : GraceInvariant K z 
 
   pub raised-in-order : (p : ℕ) → publisher s p .place ≡ 37 → g .tally .phase p ≡ raised
   raised-in-order p e = i .every .phases .phases p ∙ rw e refl
+
+  -- Who is idle is told to hold nothing.
+  pub idle-empty : (p : ℕ) → g .tally .phase p ≡ idle → (x : ℕ) → holds (g .told) p x ≡ false
+  idle-empty p e x = sym (held-told K z g s (i .every) p x) ∙ rw (eq-eqb (publisher s p .place) 0 (placed K z g s (i .every) p idle e)) refl
 
 -- SYNC, RAISE and WALK, from what the shared steps need of a kind.
 module _ (K : Kind) (law : KindLaw K) (z : Given) (g : Ghost) (s : State) (i : GraceInvariant K z g s) where

@@ -1,7 +1,7 @@
 -- CLAIM, WRITE and SWAP keep what every kind keeps, where the slot held is one of the store; and what that gives at the end of a list. Assumes nothing.
 use Prim.Native.Nat.{ℕ, _+_, _-_, _*_, _<_, _≤_}
 use native.Mathlib.Omega.{arith}
-use mathlib.Core.Path.{_≡_, refl, sym, ap, _∙_, fun-ext}
+use mathlib.Core.Path.{_≡_, refl, sym, ap, _∙_, subst, fun-ext}
 use mathlib.Core.Logic.{_≢_}
 use mathlib.Core.Bool.{Bool, true, false, not}
 use mathlib.Core.List.{List}
@@ -9,16 +9,17 @@ use mathlib.Core.Option.{some}
 use lib.IntN.{ℤ, pos}
 use lib.ListN.{getD, set, length, length-set, replicate, length-replicate}
 use lib.Dec.{ltb, eqb}
-use borrow.Author.Tests.{eqb-true, eqb-false, leb-false, le-leb, ltb-false, lt-ltb, not-true, not-false}
+use borrow.Author.Tests.{eqb-true, eqb-false, leb-false, le-leb, ltb-false, lt-ltb, not-false}
 use Rattle.calls.specs.declared.Call.the-variants.{Claim, Write, Swap}
 use Rattle.calls.specs.declared.Reply.the-variants.{Claimed, Written, Swapped}
 use Rattle.calls.specs.Base.{pick}
 use Rattle.calls.specs.Numbers.{READERS-MAX, PUBLISHERS-MAX, SLOTS-MIN, SLOTS-MAX, TABLE, FEATHERED}
-use Rattle.calls.specs.RowLaws.{not-both, and-true, or-false, within, none-below, no-below, pick-split, same, AllClear}
+use Rattle.calls.specs.RowLaws.{not-both, or-false, within, none-below, no-below, pick-split, same, AllClear}
 use Rattle.calls.specs.Model.{entry, firstTable}
 use Rattle.calls.specs.Told.{holds, Has}
 use Rattle.calls.specs.Told.Role.{free}
-use Rattle.calls.specs.Tally.Phase.{writing, swapped}
+use Rattle.calls.specs.Tally.{Phase}
+use Rattle.calls.specs.Tally.Phase.{idle, writing, swapped}
 use Rattle.layout.specs.declared.Reader.{Reader}
 use Rattle.layout.specs.declared.Publisher.{Publisher}
 use Rattle.layout.specs.Layout.{HEAD, KIND-AT, READERS-AT, PUBLISHERS-AT, SLOTS-AT, CURRENT-AT, VERSION-AT, readers, publishers, slots, current, entryAt, fresh, noReader, noPublisher}
@@ -31,7 +32,7 @@ use Rattle.publication_law.specs.Damage.{Kind}
 use Rattle.publication_law.specs.DamageLaws.{Fine}
 use Rattle.publication_law.specs.Core.{Hold, claim-core, swap-core, write-core, held-is, held-bound, role-core, safe-core, free-core, fresh-core}
 use Rattle.publication_law.specs.Single.{former-early, former-swap, single, single-free}
-use Rattle.publication_law.specs.Phases.{phase-writing, move-phases, stay-phases, fresh-phases}
+use Rattle.publication_law.specs.Phases.{phase-writing, InPhase, in-phase, move-phases, stay-phases, fresh-phases}
 use Rattle.publication_law.specs.Entries.{slotEntry, set-entry, entry-same, slot-same}
 use Rattle.publication_law.specs.Moves.{publisher-moves, publisher-moves-head}
 use Rattle.publication_law.specs.Invariant.{formers, Invariant, publisher-moved}
@@ -112,17 +113,31 @@ module _ (K : Kind) (z : Given) (g : Ghost) (s : State) (i : Invariant K z g s) 
   pub table-right : length (g .model .table) ≡ TABLE
   table-right = i .core .whole
 
-  -- A publisher that is told to hold nothing is at place 0.
-  pub idle-told : (p : ℕ) → ((x : ℕ) → holds (g .told) p x ≡ false) → publisher s p .place ≡ 0
+  -- A publisher's place, by its phase.
+  pub placed : (p : ℕ) (x : Phase) → g .tally .phase p ≡ x → InPhase (publisher s p .place) x
+  placed p x e = subst (InPhase (publisher s p .place)) (sym (i .phases .phases p) ∙ e) (in-phase (publisher s p .place))
+
+  -- Who is at a place other than 0 is told to hold a slot.
+  holding : (p : ℕ) → eqb (publisher s p .place) 0 ≡ false → holds (g .told) p (publisher s p .held) ≡ true
+  holding p e = sym (held-told p (publisher s p .held)) ∙ rw (e, same (publisher s p .held)) refl
+
+  at-0 : (p : ℕ) → eqb (publisher s p .place) 0 ≡ true → g .tally .phase p ≡ idle
+  at-0 p e = i .phases .phases p ∙ rw e refl
+
+  -- Who is told to hold nothing is idle; and who is not idle is a publisher of the store, at a place other than 0.
+  pub idle-told : (p : ℕ) → ((x : ℕ) → holds (g .told) p x ≡ false) → g .tally .phase p ≡ idle
   idle-told p f = go (eqb (publisher s p .place) 0) refl
     where
-      go : (b : Bool) → eqb (publisher s p .place) 0 ≡ b → publisher s p .place ≡ 0
-      go true e = eqb-true _ _ e
-      go false e = absurd (not-both (heldSlot s p (publisher s p .held)) (rw (e, same (publisher s p .held)) refl) (held-told p (publisher s p .held) ∙ f (publisher s p .held)))
+      go : (b : Bool) → eqb (publisher s p .place) 0 ≡ b → g .tally .phase p ≡ idle
+      go true e = at-0 p e
+      go false e = absurd (not-both _ (holding p e) (f (publisher s p .held)))
 
-  -- Who is told to hold a slot is a publisher of the store, and not at place 0.
-  pub busy-told : (p x : ℕ) → holds (g .told) p x ≡ true → (p < publishers (s .words)) × (eqb (publisher s p .place) 0 ≡ false)
-  busy-told p x e = (held-bound _ _ _ _ _ _ _ _ _ _ _ (i .core) p x e, not-true _ (and-true (not (eqb (publisher s p .place) 0)) (eqb (publisher s p .held) x) (held-told p x ∙ e) .0))
+  pub busy-told : (p : ℕ) → g .tally .phase p ≢ idle → (p < publishers (s .words)) × (eqb (publisher s p .place) 0 ≡ false)
+  busy-told p ne = go (eqb (publisher s p .place) 0) refl
+    where
+      go : (b : Bool) → eqb (publisher s p .place) 0 ≡ b → (p < publishers (s .words)) × (eqb (publisher s p .place) 0 ≡ false)
+      go true e = absurd (ne (at-0 p e))
+      go false e = (held-bound _ _ _ _ _ _ _ _ _ _ _ (i .core) p (publisher s p .held) (holding p e), e)
 
   -- The slot that a publisher at 34 to 38 holds is told to be a former one of its.
   pub former-told : (p : ℕ) → 34 ≤ publisher s p .place → g .told .former p (publisher s p .held) ≡ true

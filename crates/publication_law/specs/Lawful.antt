@@ -12,7 +12,7 @@ use lib.Signed.{ltZ}
 use lib.ListN.{getD, length, length-set, replicate}
 use lib.Seq.{getD-set-same, getD-set-other}
 use lib.Dec.{leb, eqb}
-use borrow.Author.Tests.{eqb-true, eq-eqb, ne-eqb, leb-false, lt-leb, lt-ltb, ltb-false, le-ltb, not-false}
+use borrow.Author.Tests.{eqb-true, eqb-false, eq-eqb, ne-eqb, leb-false, lt-leb, lt-ltb, ltb-false, le-ltb, not-true, not-false}
 use Rattle.calls.specs.declared.Call.{Call}
 use Rattle.calls.specs.declared.Call.the-variants.{Enter, Look, Leave, Claim, Write, Swap, Sync, Raise, Walk, Release}
 use Rattle.calls.specs.declared.Reply.{Reply}
@@ -25,7 +25,6 @@ use Rattle.calls.specs.AnswerLaws.{Proper}
 use Rattle.calls.specs.Events.{accepted}
 use Rattle.calls.specs.Events.Event.{_⇒_}
 use Rattle.calls.specs.Model.{entry, firstTable}
-use Rattle.calls.specs.Told.{holds}
 use Rattle.calls.specs.Tally.{Phase, firstPlace}
 use Rattle.calls.specs.Tally.Phase.{idle, writing, swapped, returned}
 use Rattle.layout.specs.declared.Reader.{Reader}
@@ -35,19 +34,19 @@ use Rattle.layout.specs.Laws.{publisher-back, fresh-head, fresh-long, fresh-ind
 use Rattle.statement.specs.Machine.{State, state, Outcome, outcome, Given, Fresh, events, afterAll}
 use Rattle.statement.specs.Demand3.{Demand3}
 use Rattle.statement.specs.Frame.{PlaceAndOne, LeaveStays, nextEntry, Writes}
-use Rattle.statement.specs.Companions.{Traits, IsFresh, MakesFresh, MakingAccepts, InTurn, StateCompanions, Companions}
-use Rattle.statement.specs.Kept.{Ghost, ghost₀, advance, next, nextAll, Back, Kept, kept-after, demand3, companions}
+use Rattle.statement.specs.Companions.{GraceTraits, IsFresh, MakesFresh, MakingAccepts, InTurn, StateCompanions, GraceStateCompanions, GraceCompanions}
+use Rattle.statement.specs.Kept.{Ghost, ghost₀, advance, next, nextAll, Back, GraceKept, kept-after, grace-demand3, grace-companions}
 use Rattle.publication_law.specs.Steps.{reader, publisher, atPlace, anotherBusy, enterTests, leaveTests, syncTests, sync, raise, walk, oneMore, makingTests, made}
 use Rattle.publication_law.specs.Damage.{Kind, sharedDamage}
 use Rattle.publication_law.specs.Table.{damaged, rows, step, making, machine}
 use Rattle.publication_law.specs.Rules.{Rules, tableBy}
 use Rattle.publication_law.specs.DamageLaws.{Fine, fine-to, publisher-below}
 use Rattle.publication_law.specs.Moves.{MovesPublisher, MovesReader, publisher-moves, publisher-moves-head}
-use Rattle.publication_law.specs.Phases.{phaseAt, phase-writing, InPhase, in-phase, phase-turn}
+use Rattle.publication_law.specs.Phases.{phaseAt, phase-writing, phase-turn}
 use Rattle.publication_law.specs.GraceInvariant.{GraceInvariant}
 use Rattle.publication_law.specs.KindLaw.{KindLaw, places, fine-publisher, early-fits}
-use Rattle.publication_law.specs.Keeps.{claim-keeps, claim-unpicked, write-keeps, swap-keeps, look-right, slots-right, picks-right, table-right, idle-told, busy-told, former-told, free-told}
-use Rattle.publication_law.specs.GraceKeeps.{early-keeps, release-keeps, publisher-fine, released-in-order, made-invariant}
+use Rattle.publication_law.specs.Keeps.{claim-keeps, claim-unpicked, write-keeps, swap-keeps, look-right, slots-right, picks-right, table-right, placed, idle-told, busy-told, former-told, free-told}
+use Rattle.publication_law.specs.GraceKeeps.{early-keeps, release-keeps, released-in-order, idle-empty, publisher-fine, made-invariant}
 use Rattle.publication_law.specs.TableLaws.{Acted, ActLaws, only-damaged}
 use Rattle.publication_law.specs.Calls.{undamaged-fine}
 use Rattle.publication_law.specs.Decide.{raise-split, decided, decide-accepts}
@@ -58,17 +57,17 @@ pub record Good (K : Kind) (Own : Ghost → State → Type 0) (z : Given) (g : G
   pub shared : GraceInvariant K z g s
   pub own : Own g s
 
-pub record Lawful (R : Rules) (T : Traits) : Type 1 where
+pub record Lawful (R : Rules) (T : GraceTraits) : Type 1 where
   pub kind-law : KindLaw (R .kind)
   -- what is said of the kind beside its rules
-  pub first-is : T .first ≡ (λ z. firstTable)
-  pub exclusive-is : T .exclusive ≡ R .exclusive
+  pub first-is : T .every .first ≡ (λ z. firstTable)
+  pub exclusive-is : T .every .exclusive ≡ R .exclusive
   pub successor-is : T .successor ≡ R .kind .versions .markAt
-  pub raises-in : (x : Phase) → T .raisesIn x ≡ R .raisesAt (firstPlace x)
-  pub walks-in : (x : Phase) → T .walksIn x ≡ R .walksAt (firstPlace x)
+  pub raises-in : (x : Phase) → T .every .raisesIn x ≡ R .raisesAt (firstPlace x)
+  pub walks-in : (x : Phase) → T .every .walksIn x ≡ R .walksAt (firstPlace x)
   -- versions up to the last fit, and below it a SYNC is not refused
-  pub last-fits : (v : ℕ) → v ≤ T .last → R .kind .versions .tooLarge v ≡ false
-  pub below-last : (v : ℕ) → v < T .last → R .kind .versions .isLast v ≡ false
+  pub last-fits : (v : ℕ) → v ≤ T .every .last → R .kind .versions .tooLarge v ≡ false
+  pub below-last : (v : ℕ) → v < T .every .last → R .kind .versions .isLast v ≡ false
   pub Own : Ghost → State → Type 0
   pub start-own : (z : Given) (s : State) → AllClear (makingTests (R .kind .versions) z s) → Own (ghost₀ firstTable) (made (R .kind .number) (R .freshReader) z s)
   pub fresh-is : R .freshReader ≡ blankReader NOT-READING
@@ -105,7 +104,7 @@ pub record Lawful (R : Rules) (T : Traits) : Type 1 where
   pub return-shown : (z : Given) (g : Ghost) (s : State) → Good (R .kind) Own z g s → (p b l w : ℕ) → p < publishers (s .words) → R .walksAt (publisher s p .place) ≡ true
       → R .looks s p b .reply ≡ Returned l w → Back T z g p l w
 
-module _ (R : Rules) (T : Traits) (L : Lawful R T) where
+module _ (R : Rules) (T : GraceTraits) (L : Lawful R T) where
   -- What each call's rows and act show of themselves.
   numbers : (s : State) (c : Call) → allAbove DAMAGED (tableBy R .tests s c) ≡ true
   numbers s (Enter r) = refl
@@ -284,60 +283,56 @@ module _ (R : Rules) (T : Traits) (L : Lawful R T) where
     named-slot : (x : ℕ) → x < z .slots → leb (slots (s .words)) x ≡ false
     named-slot x l = lt-leb (slots (s .words)) x (omega (arith, i .shared .every .sized .slots-are))
 
-    idle-turn : (p : ℕ) → ((x : ℕ) → holds (g .told) p x ≡ false) → not (eqb (publisher s p .place) 0) ≡ false
-    idle-turn p f = negated _ (eq-eqb (publisher s p .place) 0 (idle-told (R .kind) z g s (i .shared .every) p f))
+    idle-turn : (p : ℕ) → g .tally .phase p ≡ idle → not (eqb (publisher s p .place) 0) ≡ false
+    idle-turn p e = negated _ (eq-eqb (publisher s p .place) 0 (placed (R .kind) z g s (i .shared .every) p idle e))
 
-    nobody-busy : (p : ℕ) → (R .exclusive ≡ true → (q x : ℕ) → holds (g .told) q x ≡ false) → (R .exclusive && anotherBusy s p) ≡ false
-    nobody-busy p f = and-not (R .exclusive) (anotherBusy s p) (λ e. no-below _ (publishers (s .words)) (λ q l. and-not (not (eqb q p)) (not (eqb (publisher s q .place) 0)) (λ _. idle-turn q (f e q))))
+    nobody-busy : (p : ℕ) → (R .exclusive ≡ true → (q : ℕ) → q ≢ p → g .tally .phase q ≡ idle) → (R .exclusive && anotherBusy s p) ≡ false
+    nobody-busy p f = and-not (R .exclusive) (anotherBusy s p) (λ e. no-below _ (publishers (s .words)) (λ q l. and-not (not (eqb q p)) (not (eqb (publisher s q .place) 0)) (λ d. idle-turn q (f e q (eqb-false q p (not-true _ d))))))
 
-    refused-busy : R .exclusive ≡ true → (p x q y : ℕ) → p < z .publishers → x < z .slots → ((y : ℕ) → holds (g .told) p y ≡ false) → q ≢ p → holds (g .told) q y ≡ true
+    refused-busy : R .exclusive ≡ true → (p x q : ℕ) → p < z .publishers → x < z .slots → g .tally .phase p ≡ idle → q ≢ p → g .tally .phase q ≢ idle
         → step (tableBy R) s (Claim p x) .reply ≡ Refused BUSY
     unfolding step
-    refused-busy e p x q y pn xn f ne held =
-        let b = busy-told (R .kind) z g s (i .shared .every) q y held in
+    refused-busy e p x q pn xn idle-now ne busy =
+        let b = busy-told (R .kind) z g s (i .shared .every) q busy in
         let another : anotherBusy s p ≡ true = some-below (λ q. not (eqb q p) && not (eqb (publisher s q .place) 0)) (publishers (s .words)) q (b .0) (rw (ne-eqb q p ne, b .1) refl) in
-        rw (undamaged-now, named-publisher p pn, named-slot x xn, idle-turn p f, e, another) refl
-
-    -- A publisher's place, by its phase.
-    placed : (p : ℕ) (x : Phase) → g .tally .phase p ≡ x → InPhase (publisher s p .place) x
-    placed p x e = subst (InPhase (publisher s p .place)) (sym (i .shared .every .phases .phases p) ∙ e) (in-phase (publisher s p .place))
+        rw (undamaged-now, named-publisher p pn, named-slot x xn, idle-turn p idle-now, e, another) refl
 
     writes-on : (p : ℕ) (v : ℤ) → p < z .publishers → g .tally .phase p ≡ writing → length (g .model .draft p) < TABLE → ltZ v PITCH-LOW ≡ false → ltZ PITCH-HIGH v ≡ false
         → step (tableBy R) s (Write p v) .reply ≡ Written (length (g .model .draft p) + 1)
     writes-on p v pn ph short low high =
-        let at = placed p writing ph in
+        let at = placed (R .kind) z g s (i .shared .every) p writing ph in
         let pl = i .shared .every .core .publishers p .drafted (at .0) (at .1) in
         let turn : outside 1 32 (publisher s p .place) ≡ false = not-outside 1 32 (publisher s p .place) (at .0) (omega arith) in
         rw (accepts (Write p v) (named-publisher p pn, (neither (ltZ v PITCH-LOW) (ltZ PITCH-HIGH v) low high, (turn, tt)))) (ap Written (sym pl))
 
     swaps-on : (p : ℕ) → p < z .publishers → g .tally .phase p ≡ writing → length (g .model .draft p) ≡ TABLE → (x : ℕ) × (g .told .current ≡ some x) × (step (tableBy R) s (Swap p) .reply ≡ Swapped x)
     swaps-on p pn ph all =
-        let at = placed p writing ph in
+        let at = placed (R .kind) z g s (i .shared .every) p writing ph in
         let pl = i .shared .every .core .publishers p .drafted (at .0) (at .1) in
         let turn : not (eqb (publisher s p .place) 33) ≡ false = negated _ (eq-eqb (publisher s p .place) 33 (omega arith)) in
         (current (s .words), i .shared .every .core .current-is, rw (accepts (Swap p) (named-publisher p pn, (turn, tt))) refl)
 
-    syncs-on : (p : ℕ) → p < z .publishers → g .tally .phase p ≡ swapped → version (s .words) < T .last → accepted (step (tableBy R) s (Sync p) .reply) ≡ true
-    syncs-on p pn ph low = rw (accepts (Sync p) (named-publisher p pn, (negated _ (eq-eqb (publisher s p .place) 34 (placed p swapped ph)), (L .below-last (version (s .words)) low, tt)))) refl
+    syncs-on : (p : ℕ) → p < z .publishers → g .tally .phase p ≡ swapped → version (s .words) < T .every .last → accepted (step (tableBy R) s (Sync p) .reply) ≡ true
+    syncs-on p pn ph low = rw (accepts (Sync p) (named-publisher p pn, (negated _ (eq-eqb (publisher s p .place) 34 (placed (R .kind) z g s (i .shared .every) p swapped ph)), (L .below-last (version (s .words)) low, tt)))) refl
 
     -- Whether RAISE and WALK are in turn is told by the phase.
     turn-told : (f : ℕ → Bool) → ((pl : ℕ) → pl ≤ 34 → f pl ≡ false) → (p : ℕ) → p < publishers (s .words) → f (firstPlace (g .tally .phase p)) ≡ f (publisher s p .place)
     turn-told f early p lt = rw (i .shared .every .phases .phases p)
         (phase-turn f early (publisher s p .place) (places (L .kind-law) (readers (s .words)) (slots (s .words)) (publisher s p) (i .shared .every .fine .publishers-fine p lt)))
 
-    raise-told : (p : ℕ) → p < publishers (s .words) → T .raisesIn (g .tally .phase p) ≡ R .raisesAt (publisher s p .place)
+    raise-told : (p : ℕ) → p < publishers (s .words) → T .every .raisesIn (g .tally .phase p) ≡ R .raisesAt (publisher s p .place)
     raise-told p lt = L .raises-in (g .tally .phase p) ∙ turn-told (R .raisesAt) (L .raises-late) p lt
 
-    walk-told : (p : ℕ) → p < publishers (s .words) → T .walksIn (g .tally .phase p) ≡ R .walksAt (publisher s p .place)
+    walk-told : (p : ℕ) → p < publishers (s .words) → T .every .walksIn (g .tally .phase p) ≡ R .walksAt (publisher s p .place)
     walk-told p lt = L .walks-in (g .tally .phase p) ∙ turn-told (R .walksAt) (L .walks-late) p lt
 
-    raises-on : (p : ℕ) → p < z .publishers → T .raisesIn (g .tally .phase p) ≡ true → accepted (step (tableBy R) s (Raise p) .reply) ≡ true
+    raises-on : (p : ℕ) → p < z .publishers → T .every .raisesIn (g .tally .phase p) ≡ true → accepted (step (tableBy R) s (Raise p) .reply) ≡ true
     raises-on p pn e =
         let turn : R .raisesAt (publisher s p .place) ≡ true = sym (raise-told p (leb-false _ _ (named-publisher p pn))) ∙ e in
         let f : AllClear (tableBy R .tests s (Raise p)) = (named-publisher p pn, (negated _ turn, tt)) in
         rw (accepts (Raise p) f) (acted s (Raise p) (undamaged-now, f) .accepts)
 
-    walks-on : (p b : ℕ) → p < z .publishers → T .walksIn (g .tally .phase p) ≡ true → publisher s p .walk .looks + b ≤ NUMBER-MAX → accepted (step (tableBy R) s (Walk p b) .reply) ≡ true
+    walks-on : (p b : ℕ) → p < z .publishers → T .every .walksIn (g .tally .phase p) ≡ true → publisher s p .walk .looks + b ≤ NUMBER-MAX → accepted (step (tableBy R) s (Walk p b) .reply) ≡ true
     walks-on p b pn e few-looks =
         let turn : R .walksAt (publisher s p .place) ≡ true = sym (walk-told p (leb-false _ _ (named-publisher p pn))) ∙ e in
         rw (accepts (Walk p b) (named-publisher p pn, (negated _ turn, (le-ltb NUMBER-MAX (publisher s p .walk .looks + b) few-looks, tt)))) refl
@@ -346,7 +341,7 @@ module _ (R : Rules) (T : Traits) (L : Lawful R T) where
     at-phase : (p pl : ℕ) (x : Phase) → eqb (publisher s p .place) pl ≡ true → phaseAt pl ≡ x → g .tally .phase p ≡ x
     at-phase p pl x e q = i .shared .every .phases .phases p ∙ (ap phaseAt (eqb-true (publisher s p .place) pl e) ∙ q)
 
-    turn-clear : (c : Call) → AllClear (tableBy R .tests s c) → InTurn T (g .model) (g .tally) c
+    turn-clear : (c : Call) → AllClear (tableBy R .tests s c) → InTurn (T .every) (g .model) (g .tally) c
     turn-clear (Enter r) f = let l = leb-false 5 (reader s r .place) (f .1 .0) in omega (arith, i .shared .every .phases .places r)
     turn-clear (Look r k) f = i .shared .every .phases .places r ∙ eqb-true (reader s r .place) 5 (not-false _ (f .1 .1 .0))
     turn-clear (Leave r) f = let l = ltb-false (reader s r .place) 4 (f .1 .0) in omega (arith, i .shared .every .phases .places r)
@@ -364,36 +359,42 @@ module _ (R : Rules) (T : Traits) (L : Lawful R T) where
     turn-clear (Walk p b) f = walk-told p (leb-false _ _ (f .0)) ∙ not-false _ (f .1 .0)
     turn-clear (Release p) f = released-in-order (R .kind) z g s (i .shared) p f
 
-    turn-right : (c : Call) → accepted (step (tableBy R) s c .reply) ≡ true → InTurn T (g .model) (g .tally) c
+    turn-right : (c : Call) → accepted (step (tableBy R) s c .reply) ≡ true → InTurn (T .every) (g .model) (g .tally) c
     unfolding step
-    turn-right c = decided (λ (o : Outcome). accepted (o .reply) ≡ true → InTurn T (g .model) (g .tally) c) (rows (tableBy R) s c) (tableBy R .act s c) s (all-numbers s c)
+    turn-right c = decided (λ (o : Outcome). accepted (o .reply) ≡ true → InTurn (T .every) (g .model) (g .tally) c) (rows (tableBy R) s c) (tableBy R .act s c) s (all-numbers s c)
         (λ f ok. turn-clear c (f .1)) (λ ok. clash (sym ok))
 
     frees-on : (p : ℕ) → p < z .publishers → g .tally .phase p ≡ returned
         → (x : ℕ) × (g .told .former p x ≡ true) × (step (tableBy R) s (Release p) .reply ≡ Freed x ((g .tally .releases + 1) % MODULUS))
     frees-on p pn ph =
-        let at = placed p returned ph in
+        let at = placed (R .kind) z g s (i .shared .every) p returned ph in
         let top = places (L .kind-law) (readers (s .words)) (slots (s .words)) (publisher s p) (i .shared .every .fine .publishers-fine p (leb-false _ _ (named-publisher p pn))) in
         let turn : not (eqb (publisher s p .place) 38) ≡ false = negated _ (eq-eqb (publisher s p .place) 38 (omega arith)) in
         let n : oneMore s ≡ (g .tally .releases + 1) % MODULUS = omega (arith, i .shared .tallied .releases-are) in
         (publisher s p .held, former-told (R .kind) z g s (i .shared .every) p (omega arith), rw (accepts (Release p) (named-publisher p pn, (turn, tt)), n) refl)
 
-    state-companions : StateCompanions (machine (tableBy R)) T z (g .model) (g .told) (g .tally) s
+    state-companions : StateCompanions (machine (tableBy R)) (T .every) z (g .model) (g .told) (g .tally) s
     state-companions = record {
-      undamaged = not-damaged;
+      undamaged = λ c _. not-damaged c;
       in-turn = turn-right;
+      looks = λ r k rn k32 five.
+          rw (accepts (Look r k) (named-reader r rn, (le-ltb 31 k (omega arith), (negated _ (eq-eqb (reader s r .place) 5 (sym (i .shared .every .phases .places r) ∙ five)), tt)))) refl;
+      claims = λ p x pn xn fr idle-now others.
+          rw (accepts (Claim p x) (named-publisher p pn, (named-slot x xn, (idle-turn p idle-now, (nobody-busy p (rw (L .exclusive-is) at others), (free-told (R .kind) z g s (i .shared .every) x fr, tt)))))) refl;
+      busy = λ e. refused-busy (sym (L .exclusive-is) ∙ e);
+      idle-if = idle-told (R .kind) z g s (i .shared .every);
+      writes = writes-on;
+      swaps = swaps-on;
+    }
+
+    grace-state-companions : GraceStateCompanions (machine (tableBy R)) T z (g .model) (g .told) (g .tally) s
+    grace-state-companions = record {
       enters = λ r rn low.
           let pl : g .tally .place r ≡ reader s r .place = i .shared .every .phases .places r in
           let rs : r < readers (s .words) = omega (arith, i .shared .every .sized .readers-are) in
           rw (accepts (Enter r) (named-reader r rn, (lt-leb 5 (reader s r .place) (omega arith), tt)), pl) (ap At (L .enter-place s (i .shared .every .fine) r rs (omega arith)));
-      looks = λ r k rn k32 five.
-          rw (accepts (Look r k) (named-reader r rn, (le-ltb 31 k (omega arith), (negated _ (eq-eqb (reader s r .place) 5 (sym (i .shared .every .phases .places r) ∙ five)), tt)))) refl;
       leaves = λ r rn four. rw (accepts (Leave r) (named-reader r rn, (le-ltb (reader s r .place) 4 (omega (arith, i .shared .every .phases .places r)), tt))) refl;
-      claims = λ p x pn xn fr idle others.
-          rw (accepts (Claim p x) (named-publisher p pn, (named-slot x xn, (idle-turn p idle, (nobody-busy p (rw (L .exclusive-is) at others), (free-told (R .kind) z g s (i .shared .every) x fr, tt)))))) refl;
-      busy = λ e. refused-busy (sym (L .exclusive-is) ∙ e);
-      writes = writes-on;
-      swaps = swaps-on;
+      idle-only-if = idle-empty (R .kind) z g s (i .shared);
       syncs = syncs-on;
       raises = raises-on;
       walks = walks-on;
@@ -443,31 +444,34 @@ module _ (R : Rules) (T : Traits) (L : Lawful R T) where
       (λ e. absurd (let q = outcome-parts _ _ _ e .0 in let y : _≡_ {A = ℕ} 0 1 = cc in omega arith))
       (f .made)
 
-  kept : Kept (machine (tableBy R)) T
+  kept : GraceKept (machine (tableBy R)) T
   kept = record {
-    Inv = Good (R .kind) (L .Own);
-    start = λ s f. rw (L .first-is) (start s f);
-    keep = stepped;
-    look = look-shelf;
-    claim = claim-safe;
+    every = record {
+      Inv = Good (R .kind) (L .Own);
+      start = λ s f. rw (L .first-is) (start s f);
+      keep = stepped;
+      look = look-shelf;
+      claim = claim-safe;
+      slots = λ z g s i. slots-right (R .kind) z g s (i .shared .every);
+      picks = λ z g s i. picks-right (R .kind) z g s (i .shared .every);
+      table = λ z g s i. table-right (R .kind) z g s (i .shared .every);
+      state-companions = state-companions;
+    };
     back = return-back;
     release = release-order;
-    slots = λ z g s i. slots-right (R .kind) z g s (i .shared .every);
-    picks = λ z g s i. picks-right (R .kind) z g s (i .shared .every);
-    table = λ z g s i. table-right (R .kind) z g s (i .shared .every);
-    state-companions = state-companions;
+    state-companions = grace-state-companions;
   }
 
   -- What the invariant gives after every list from fresh.
-  pub reached : (s : State) (f : Fresh (machine (tableBy R)) s) (cs : List Call) → Good (R .kind) (L .Own) (f .arguments) (nextAll (ghost₀ (T .first (f .arguments))) (events (machine (tableBy R)) s cs)) (afterAll (machine (tableBy R)) s cs)
+  pub reached : (s : State) (f : Fresh (machine (tableBy R)) s) (cs : List Call) → Good (R .kind) (L .Own) (f .arguments) (nextAll (ghost₀ (T .every .first (f .arguments))) (events (machine (tableBy R)) s cs)) (afterAll (machine (tableBy R)) s cs)
   unfolding kept
-  reached s f cs = kept-after (machine (tableBy R)) T kept (f .arguments) (ghost₀ (T .first (f .arguments))) s (kept .start s f) cs
+  reached s f cs = kept-after (machine (tableBy R)) (T .every) (kept .every) (f .arguments) (ghost₀ (T .every .first (f .arguments))) s (kept .every .start s f) cs
 
-  pub demand3-of : Demand3 (machine (tableBy R)) (T .first)
-  demand3-of = demand3 (machine (tableBy R)) T kept
+  pub demand3-of : Demand3 (machine (tableBy R)) (T .every .first)
+  demand3-of = grace-demand3 (machine (tableBy R)) T kept
 
-  pub companions-of : Companions (machine (tableBy R)) T
-  companions-of = companions (machine (tableBy R)) T kept
+  pub companions-of : GraceCompanions (machine (tableBy R)) T
+  companions-of = grace-companions (machine (tableBy R)) T kept
 
   -- The damage test is false after every list from fresh.
   pub never-damaged-of : (s : State) → Fresh (machine (tableBy R)) s → (cs : List Call) → damaged (tableBy R) (afterAll (machine (tableBy R)) s cs) ≡ false
@@ -478,7 +482,7 @@ module _ (R : Rules) (T : Traits) (L : Lawful R T) where
       go g u i (c ∷ cs) = go (next g (c ⇒ step (tableBy R) u c .reply)) (step (tableBy R) u c .after) (stepped (f .arguments) g u i c) cs
 
   -- A making with every argument in its range is accepted.
-  pub making-accepts-of : MakingAccepts (machine (tableBy R)) T
+  pub making-accepts-of : MakingAccepts (machine (tableBy R)) (T .every)
   unfolding making
   making-accepts-of g s long rl rh pl ph sl sh len low = rw (decide-accepts (makingTests (R .kind .versions) g s) (outcome Made (made (R .kind .number) (R .freshReader) g s)) s
       (negated _ (eq-eqb _ _ long), (not-outside 1 READERS-MAX _ rl rh, (not-outside 1 PUBLISHERS-MAX _ pl ph, (not-outside SLOTS-MIN SLOTS-MAX _ sl sh, (negated _ (eq-eqb _ _ len), (L .last-fits _ low, tt))))))) refl

@@ -22,7 +22,7 @@ use Rattle.layout.specs.Layout.{VERSION-AT, publishers, version, publisherAt}
 use Rattle.statement.specs.Machine.{State, Outcome, Given, Fresh, afterAll}
 use Rattle.statement.specs.Demand3.{Demand3}
 use Rattle.statement.specs.Frame.{Frame}
-use Rattle.statement.specs.Companions.{Traits, MakingAccepts, MakesFresh, RefusedLeaves, Companions}
+use Rattle.statement.specs.Companions.{GraceTraits, MakingAccepts, MakesFresh, RefusedLeaves, GraceCompanions}
 use Rattle.publication_law.specs.Steps.{publisher, atPlace, raise, walked}
 use Rattle.publication_law.specs.Table.{Table, damaged, rows, step, making, machine}
 use Rattle.publication_law.specs.Rules.{Rules, tableBy}
@@ -46,12 +46,12 @@ pub record RaiseFacts (successor : ℕ → ℕ) (s : State) (p : ℕ) (o : Outco
   pub shared : successor (version (s .words)) ≢ publisher s p .walk .mark → (o .reply ≡ Shared) × (version (o .after .words) ≡ version (s .words))
   pub record-is : publisher (o .after) p ≡ record { place = 37; held = publisher s p .held; walk = publisher s p .walk }
 
-pub record Promises (R : Table) (T : Traits) : Type 0 where
-  pub demand3 : Demand3 (machine R) (T .first)
-  pub companions : Companions (machine R) T
+pub record Promises (R : Table) (T : GraceTraits) : Type 0 where
+  pub demand3 : Demand3 (machine R) (T .every .first)
+  pub companions : GraceCompanions (machine R) T
   -- the damage test is false after every list from fresh
   pub never-damaged : (s : State) → Fresh (machine R) s → (cs : List Call) → damaged R (afterAll (machine R) s cs) ≡ false
-  pub making-accepts : MakingAccepts (machine R) T
+  pub making-accepts : MakingAccepts (machine R) (T .every)
   pub refused-leaves : RefusedLeaves (machine R)
   pub frame : Frame (λ s. T .publishes) (machine R)
   -- a fresh store is document 01's, number by number
@@ -65,7 +65,7 @@ pub record Promises (R : Table) (T : Traits) : Type 0 where
   -- a WALK with no looks that replies spent leaves the whole state as it was
   pub walk-zero : (s : State) (p : ℕ) → step R s (Walk p 0) .reply ≡ Walked Spent → step R s (Walk p 0) .after ≡ s
 
-module _ (R : Rules) (T : Traits) (L : Lawful R T) where
+module _ (R : Rules) (T : GraceTraits) (L : Lawful R T) where
   own-record : (s : State) (w′ : List ℕ) (p : ℕ) (y : Publisher) (cur ver rel : ℕ) → MovesPublisher (s .words) w′ p y cur ver rel → publisherAt w′ p ≡ y
   own-record s w′ p y cur ver rel m = ap (λ (f : ℕ → Publisher). f p) (m .publishers-are) ∙ rw (same p) refl
 
@@ -107,7 +107,7 @@ module _ (R : Rules) (T : Traits) (L : Lawful R T) where
           go true d = leb-true 35 pl d
           go false d = absurd (not-both _ e (L .raises-late pl (let q = leb-false 35 pl d in omega arith)))
 
-pub promises-of : (R : Rules) (T : Traits) → Lawful R T → Promises (tableBy R) T
+pub promises-of : (R : Rules) (T : GraceTraits) → Lawful R T → Promises (tableBy R) T
 promises-of R T L = record {
   demand3 = demand3-of R T L;
   companions = companions-of R T L;

@@ -15,7 +15,7 @@ use Rattle.calls.specs.Told.{Told}
 use Rattle.calls.specs.Tally.{Tally}
 use Rattle.statement.specs.Machine.{State, outcome, Given, Machine, Fresh, events, afterAll}
 use Rattle.statement.specs.Demand3.{Demand3}
-use Rattle.statement.specs.Companions.{Traits, MakingAccepts, MakesFresh, StateCompanions, Companions}
+use Rattle.statement.specs.Companions.{Traits, GraceTraits, MakingAccepts, MakesFresh, StateCompanions, GraceStateCompanions, Companions, GraceCompanions}
 use Rattle.statement.specs.Examples.{lentFor, replies, repliesAfter, played, answers, leadTo, Example, Holds, AllHold}
 use Rattle.statement.specs.Examples.Example.{shows, unchanged, makes, each}
 
@@ -78,23 +78,30 @@ module _ (M N : Machine) where
   led-same ok s e [] cs = rw (replies-same s e cs) refl
   led-same ok s e (d ∷ ds) cs = rw (e [] d) (led-same (ok && accepted (M .step s d .reply)) (M .step s d .after) (λ es c. e (d ∷ es) c) ds cs)
 
-  state-same : (T : Traits) (g : Given) (h : Model) (t : Told) (y : Tally) (s : State) → ((c : Call) → N .step s c ≡ M .step s c) → StateCompanions M T g h t y s → StateCompanions N T g h t y s
-  state-same T g h t y s e x = record {
-    undamaged = λ c. rw (e c) (x .undamaged c);
-    in-turn = λ c. rw (e c) (x .in-turn c);
-    enters = λ r. rw (e (Enter r)) (x .enters r);
-    looks = λ r k. rw (e (Look r k)) (x .looks r k);
-    leaves = λ r. rw (e (Leave r)) (x .leaves r);
-    claims = λ p z. rw (e (Claim p z)) (x .claims p z);
-    busy = λ q p z. rw (e (Claim p z)) (x .busy q p z);
-    writes = λ p v. rw (e (Write p v)) (x .writes p v);
-    swaps = λ p. rw (e (Swap p)) (x .swaps p);
-    syncs = λ p. rw (e (Sync p)) (x .syncs p);
-    raises = λ p. rw (e (Raise p)) (x .raises p);
-    walks = λ p b. rw (e (Walk p b)) (x .walks p b);
-    frees = λ p. rw (e (Release p)) (x .frees p);
-    counted = x .counted;
-  }
+  module _ (g : Given) (h : Model) (t : Told) (y : Tally) (s : State) (e : (c : Call) → N .step s c ≡ M .step s c) where
+    state-same : (T : Traits) → StateCompanions M T g h t y s → StateCompanions N T g h t y s
+    state-same T x = record {
+      undamaged = λ c has. rw (e c) (x .undamaged c has);
+      in-turn = λ c. rw (e c) (x .in-turn c);
+      looks = λ r k. rw (e (Look r k)) (x .looks r k);
+      claims = λ p z. rw (e (Claim p z)) (x .claims p z);
+      busy = λ q p z. rw (e (Claim p z)) (x .busy q p z);
+      idle-if = x .idle-if;
+      writes = λ p v. rw (e (Write p v)) (x .writes p v);
+      swaps = λ p. rw (e (Swap p)) (x .swaps p);
+    }
+
+    grace-state-same : (T : GraceTraits) → GraceStateCompanions M T g h t y s → GraceStateCompanions N T g h t y s
+    grace-state-same T x = record {
+      enters = λ r. rw (e (Enter r)) (x .enters r);
+      leaves = λ r. rw (e (Leave r)) (x .leaves r);
+      idle-only-if = x .idle-only-if;
+      syncs = λ p. rw (e (Sync p)) (x .syncs p);
+      raises = λ p. rw (e (Raise p)) (x .raises p);
+      walks = λ p b. rw (e (Walk p b)) (x .walks p b);
+      frees = λ p. rw (e (Release p)) (x .frees p);
+      counted = x .counted;
+    }
 
   module _ (A : Alike M N) where
     abbrev pub fresh-alike : (s : State) → Fresh N s → Fresh M s
@@ -119,10 +126,17 @@ module _ (M N : Machine) where
 
     pub companions-alike : (T : Traits) → Companions M T → Companions N T
     companions-alike T d s f cs =
+        let x = d s (fresh-alike s f) cs in record {
+          state-companions = rw (events-alike s f cs, after-alike s f cs) (state-same (f .arguments) _ _ _ (afterAll M s cs) (A .steps s (fresh-alike s f) cs) T (x .state-companions));
+          tables = rw (events-alike s f cs) (x .tables);
+        }
+
+    pub grace-companions-alike : (T : GraceTraits) → GraceCompanions M T → GraceCompanions N T
+    grace-companions-alike T d s f cs =
         let x = d s (fresh-alike s f) cs in
         let q = sym (events-alike s f cs) in record {
-          state-companions = rw (events-alike s f cs, after-alike s f cs) (state-same T (f .arguments) _ _ _ (afterAll M s cs) (A .steps s (fresh-alike s f) cs) (x .state-companions));
-          tables = rw (events-alike s f cs) (x .tables);
+          every = companions-alike (T .every) (λ u h ds. d u h ds .every) s f cs;
+          state-companions = rw (events-alike s f cs, after-alike s f cs) (grace-state-same (f .arguments) _ _ _ (afterAll M s cs) (A .steps s (fresh-alike s f) cs) T (x .state-companions));
           returns-after = λ pre post p b l w e. x .returns-after pre post p b l w (q ∙ e);
           releases-after = λ pre post p a e. x .releases-after pre post p a (q ∙ e);
           looks-are = λ pre post p b l w e. x .looks-are pre post p b l w (q ∙ e);

@@ -1,4 +1,4 @@
--- The companions of demand 3, without which a store of no use would meet it.
+-- The companions of demand 3, without which a store of no use would meet it: what every kind serves, and what a kind with sections and grace periods serves besides.
 use Prim.Native.Nat.{ℕ, _+_, _*_, _%_, _<_, _≤_}
 use mathlib.Core.Path.{_≡_}
 use mathlib.Core.Logic.{_≢_}
@@ -30,19 +30,25 @@ pub record Traits : Type 0 where
   pub first : Given → List ℤ
   -- the last version
   pub last : ℕ
+  -- the calls that it lacks
+  pub lacks : Call → Bool
+  -- whether a claim needs that every other publisher is idle
+  pub exclusive : Bool
+  -- the phases in which RAISE and WALK are in turn; a kind without them has none
+  pub raisesIn : Phase → Bool
+  pub walksIn : Phase → Bool
+
+-- In what the kinds with sections and grace periods differ besides.
+pub record GraceTraits : Type 0 where
+  pub every : Traits
   -- how many looks of a walk pass before it returns
   pub passes : Given → ℕ
   -- the mark of a synchronise at a version: the version's successor
   pub successor : ℕ → ℕ
-  -- the phases in which RAISE and WALK are in turn
-  pub raisesIn : Phase → Bool
-  pub walksIn : Phase → Bool
   -- the place that follows a reader's place
   pub onward : ℕ → ℕ
   -- whether readers publish versions, so that a LEAVE publishes too
   pub publishes : Bool
-  -- whether a claim needs that nobody else holds a slot
-  pub exclusive : Bool
 
 -- A making with every argument in its range, and lent words and entries of the right lengths, is accepted.
 abbrev pub MakingAccepts : Machine → Traits → Type 0
@@ -87,38 +93,51 @@ InTurn T h y (Release p) = y .phase p ≡ returned
 
 -- What holds of a state after a list of calls that told h, t and y.
 pub record StateCompanions (M : Machine) (T : Traits) (g : Given) (h : Model) (t : Told) (y : Tally) (s : State) : Type 0 where
-  -- never damaged: no call is refused with 1
-  pub undamaged : (c : Call) → M .step s c .reply ≢ Refused DAMAGED
+  -- never damaged: no call that the kind has is refused with 1
+  pub undamaged : (c : Call) → T .lacks c ≡ false → M .step s c .reply ≢ Refused DAMAGED
   -- order: a call is accepted in its turn alone
   pub in-turn : (c : Call) → accepted (M .step s c .reply) ≡ true → InTurn T h y c
-  -- readers never wait: the next ENTER replies the next place, whatever stands between;
-  -- LOOK is accepted after the pick, and LEAVE in an open section
-  pub enters : (r : ℕ) → r < g .readers → y .place r < 5 → M .step s (Enter r) .reply ≡ At (T .onward (y .place r))
+  -- LOOK is accepted after the pick
   pub looks : (r k : ℕ) → r < g .readers → k < TABLE → y .place r ≡ 5 → accepted (M .step s (Look r k) .reply) ≡ true
-  pub leaves : (r : ℕ) → r < g .readers → 4 ≤ y .place r → M .step s (Leave r) .reply ≡ Left
-  -- a claim of a slot told free by a publisher that holds nothing, both in range, is accepted (exclusive: if nobody else holds one, else 31)
-  pub claims : (p x : ℕ) → p < g .publishers → x < g .slots → Has t x free → ((z : ℕ) → holds t p z ≡ false)
-      → (T .exclusive ≡ true → (q z : ℕ) → holds t q z ≡ false) → M .step s (Claim p x) .reply ≡ Claimed x
-  pub busy : T .exclusive ≡ true → (p x q z : ℕ) → p < g .publishers → x < g .slots → ((z : ℕ) → holds t p z ≡ false) → q ≢ p → holds t q z ≡ true
+  -- a claim of a slot told free by an idle publisher, both in range, is accepted (exclusive: if every other one is idle too, else 31)
+  pub claims : (p x : ℕ) → p < g .publishers → x < g .slots → Has t x free → y .phase p ≡ idle
+      → (T .exclusive ≡ true → (q : ℕ) → q ≢ p → y .phase q ≡ idle) → M .step s (Claim p x) .reply ≡ Claimed x
+  pub busy : T .exclusive ≡ true → (p x q : ℕ) → p < g .publishers → x < g .slots → y .phase p ≡ idle → q ≢ p → y .phase q ≢ idle
       → M .step s (Claim p x) .reply ≡ Refused BUSY
-  -- a publisher gets on: it writes 32 entries, then swaps, then synchronises unless the version is the last,
-  -- raises and walks each in its phases, a WALK unless its looks could pass 2^64 - 1 (33), and releases what it held
+  -- who is told to hold nothing is idle: so claims speaks of every publisher that holds nothing
+  pub idle-if : (p : ℕ) → ((x : ℕ) → holds t p x ≡ false) → y .phase p ≡ idle
+  -- a publisher gets on: it writes 32 entries, then swaps
   pub writes : (p : ℕ) (v : ℤ) → p < g .publishers → y .phase p ≡ writing → length (h .draft p) < TABLE → ltZ v PITCH-LOW ≡ false → ltZ PITCH-HIGH v ≡ false
       → M .step s (Write p v) .reply ≡ Written (length (h .draft p) + 1)
   pub swaps : (p : ℕ) → p < g .publishers → y .phase p ≡ writing → length (h .draft p) ≡ TABLE → (x : ℕ) × (t .current ≡ some x) × (M .step s (Swap p) .reply ≡ Swapped x)
-  pub syncs : (p : ℕ) → p < g .publishers → y .phase p ≡ swapped → version (s .words) < T .last → accepted (M .step s (Sync p) .reply) ≡ true
-  pub raises : (p : ℕ) → p < g .publishers → T .raisesIn (y .phase p) ≡ true → accepted (M .step s (Raise p) .reply) ≡ true
-  pub walks : (p b : ℕ) → p < g .publishers → T .walksIn (y .phase p) ≡ true → publisherAt (s .words) p .walk .looks + b ≤ NUMBER-MAX → accepted (M .step s (Walk p b) .reply) ≡ true
+
+-- What holds of it besides, in a kind with sections and grace periods.
+pub record GraceStateCompanions (M : Machine) (T : GraceTraits) (g : Given) (h : Model) (t : Told) (y : Tally) (s : State) : Type 0 where
+  -- readers never wait: the next ENTER replies the next place, whatever stands between; LEAVE is accepted in an open section
+  pub enters : (r : ℕ) → r < g .readers → y .place r < 5 → M .step s (Enter r) .reply ≡ At (T .onward (y .place r))
+  pub leaves : (r : ℕ) → r < g .readers → 4 ≤ y .place r → M .step s (Leave r) .reply ≡ Left
+  -- who is idle is told to hold nothing: so busy speaks of every other publisher that holds a slot; with idle-if, told idle is told to hold nothing
+  pub idle-only-if : (p : ℕ) → y .phase p ≡ idle → (x : ℕ) → holds t p x ≡ false
+  -- a publisher gets on: after its SWAP it synchronises unless the version is the last,
+  -- raises and walks each in its phases, a WALK unless its looks could pass 2^64 - 1 (33), and releases what it held
+  pub syncs : (p : ℕ) → p < g .publishers → y .phase p ≡ swapped → version (s .words) < T .every .last → accepted (M .step s (Sync p) .reply) ≡ true
+  pub raises : (p : ℕ) → p < g .publishers → T .every .raisesIn (y .phase p) ≡ true → accepted (M .step s (Raise p) .reply) ≡ true
+  pub walks : (p b : ℕ) → p < g .publishers → T .every .walksIn (y .phase p) ≡ true → publisherAt (s .words) p .walk .looks + b ≤ NUMBER-MAX → accepted (M .step s (Walk p b) .reply) ≡ true
   pub frees : (p : ℕ) → p < g .publishers → y .phase p ≡ returned
       → (x : ℕ) × (t .former p x ≡ true) × (M .step s (Release p) .reply ≡ Freed x ((y .releases + 1) % MODULUS))
   -- releases is the number of accepted RELEASEs modulo 2^64
   pub counted : releases (s .words) ≡ y .releases % MODULUS
 
--- What stands beside demand 3 after every list of calls on a fresh state.
+-- What stands beside demand 3 after every list of calls on a fresh state ..
 pub record ListCompanions (M : Machine) (T : Traits) (g : Given) (s : State) (cs : List Call) : Type 0 where
   pub state-companions : StateCompanions M T g (modelOf (T .first g) (events M s cs)) (toldBy (events M s cs)) (tallyOf (events M s cs)) (afterAll M s cs)
   -- whole tables: the model's table always has 32 entries
   pub tables : length (modelOf (T .first g) (events M s cs) .table) ≡ TABLE
+
+-- .. and in a kind with sections and grace periods.
+pub record GraceListCompanions (M : Machine) (T : GraceTraits) (g : Given) (s : State) (cs : List Call) : Type 0 where
+  pub every : ListCompanions M (T .every) g s cs
+  pub state-companions : GraceStateCompanions M T g (modelOf (T .every .first g) (events M s cs)) (toldBy (events M s cs)) (tallyOf (events M s cs)) (afterAll M s cs)
   -- order: of a publisher's CLAIM, SWAP, SYNC, quiet, RAISE, return and RELEASE the last one before a return is a RAISE ..
   pub returns-after : (pre post : List Event) (p b l w : ℕ) → events M s cs ≡ pre ++ (Walk p b ⇒ Walked (Returned l w)) ∷ post → tallyOf pre .phase p ≡ raised
   -- .. and the last one before an accepted RELEASE is a return
@@ -129,3 +148,6 @@ pub record ListCompanions (M : Machine) (T : Traits) (g : Given) (s : State) (cs
 
 abbrev pub Companions : Machine → Traits → Type 0
 Companions M T = (s : State) (f : Fresh M s) (cs : List Call) → ListCompanions M T (f .arguments) s cs
+
+abbrev pub GraceCompanions : Machine → GraceTraits → Type 0
+GraceCompanions M T = (s : State) (f : Fresh M s) (cs : List Call) → GraceListCompanions M T (f .arguments) s cs

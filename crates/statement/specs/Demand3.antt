@@ -37,15 +37,18 @@ pub record Slots (t : Told) (s : State) : Type 0 where
 abbrev pub Picks : Told → Type 0
 Picks t = (r x : ℕ) → t .picked r ≡ some x → ¬ Has t x free
 
+-- Each synchronise that returned did so after every section open at its call had been left.
+abbrev pub Returns : Machine → State → List Call → Type 0
+Returns M s cs = (pre mid post : List Event) (p b l w r : ℕ) (a : Reply)
+    → events M s cs ≡ pre ++ (Sync p ⇒ a) ∷ (mid ++ (Walk p b ⇒ Walked (Returned l w)) ∷ post) → accepted a ≡ true
+    → toldBy pre .inside r ≡ true → LeftIn r mid
+
 -- What is due after the list cs of calls on the fresh state s, where `first` is the first table.
 pub record Due (M : Machine) (first : List ℤ) (s : State) (cs : List Call) : Type 0 where
   -- Every accepted look gave the pitch that the plain shelf gives: the entry of the table last swapped in (the first table if none was) before that reader's pick.
   pub looks : (pre post : List Event) (r k : ℕ) (a : Reply) → events M s cs ≡ pre ++ (Look r k ⇒ a) ∷ post → accepted a ≡ true
       → (v : ℤ) × (a ≡ Pitch v) × (entry (modelOf first pre .note r) k ≡ some v)
-  -- Each synchronise that returned did so after every section open at its call had been left.
-  pub returns : (pre mid post : List Event) (p b l w r : ℕ) (a : Reply)
-      → events M s cs ≡ pre ++ (Sync p ⇒ a) ∷ (mid ++ (Walk p b ⇒ Walked (Returned l w)) ∷ post) → accepted a ≡ true
-      → toldBy pre .inside r ≡ true → LeftIn r mid
+  pub returns : Returns M s cs
   pub slots : Slots (toldBy (events M s cs)) (afterAll M s cs)
   pub picks : Picks (toldBy (events M s cs))
   -- By the calls alone: no accepted CLAIM is of a slot that a reader has picked and not yet dropped.

@@ -1,13 +1,14 @@
 -- With more slots than publishers a publisher always finds a free slot: the statement, and that it holds of machines that are alike. Assumes nothing.
 use Prim.Native.Nat.{ℕ, _<_}
 use mathlib.Core.Path.{_≡_}
-use mathlib.Core.Bool.{false}
 use mathlib.Core.List.{List}
 use Rattle.calls.specs.declared.Call.{Call}
 use Rattle.calls.specs.declared.Call.the-variants.{Claim}
 use Rattle.calls.specs.declared.Reply.the-variants.{Claimed}
-use Rattle.calls.specs.Told.{Told, toldBy, holds, Has}
+use Rattle.calls.specs.Told.{Told, toldBy, Has}
 use Rattle.calls.specs.Told.Role.{free}
+use Rattle.calls.specs.Tally.{tallyOf}
+use Rattle.calls.specs.Tally.Phase.{idle}
 use Rattle.statement.specs.Machine.{State, Given, Machine, Fresh, events, afterAll}
 use Rattle.statement.specs.Alike.{Alike, fresh-alike, after-alike, events-alike}
 
@@ -18,15 +19,15 @@ pub record FreeSlot (M : Machine) (g : Given) (t : Told) (s : State) (p : ℕ) :
   pub is-free : Has t slot free
   pub claimed : M .step s (Claim p slot) .reply ≡ Claimed slot
 
--- After every list of calls from fresh: where there are more slots than publishers, a publisher that is told to hold nothing has such a slot.
+-- After every list of calls from fresh: where there are more slots than publishers, an idle publisher has such a slot. Who is told to hold nothing is idle.
 abbrev pub FindsFreeSlot : Machine → Type 0
 FindsFreeSlot M = (s : State) (f : Fresh M s) (cs : List Call) → f .arguments .publishers < f .arguments .slots
-    → (p : ℕ) → p < f .arguments .publishers → ((x : ℕ) → holds (toldBy (events M s cs)) p x ≡ false)
+    → (p : ℕ) → p < f .arguments .publishers → tallyOf (events M s cs) .phase p ≡ idle
     → FreeSlot M (f .arguments) (toldBy (events M s cs)) (afterAll M s cs) p
 
 pub finds-free-slot-alike : (M N : Machine) → Alike M N → FindsFreeSlot M → FindsFreeSlot N
-finds-free-slot-alike M N A d s f cs room p pn idle =
-    let x = d s (fresh-alike M N A s f) cs room p pn (rw (events-alike M N A s f cs) at idle) in record {
+finds-free-slot-alike M N A d s f cs room p pn idle-now =
+    let x = d s (fresh-alike M N A s f) cs room p pn (rw (events-alike M N A s f cs) at idle-now) in record {
       slot = x .slot;
       below = x .below;
       is-free = rw (events-alike M N A s f cs) (x .is-free);

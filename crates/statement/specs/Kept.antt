@@ -1,4 +1,4 @@
--- Demand 3 and its companions from an invariant that each step keeps, once for every kind of store.
+-- Demand 3 and its companions from an invariant that each step keeps, once for every kind of store; what grace periods add, once for every kind that has them.
 -- The ghost is what the calls told so far; one lemma carries an invariant of ghost and state to any split of the events. Assumes nothing.
 use Prim.Native.Nat.{ℕ, _+_}
 use native.Mathlib.Omega.{arith}
@@ -26,8 +26,8 @@ use Rattle.calls.specs.Told.{Told, told₀, tell, entered}
 use Rattle.calls.specs.Tally.{Tally, tally₀, tally}
 use Rattle.calls.specs.Tally.Phase.{raised, returned}
 use Rattle.statement.specs.Machine.{State, Given, Machine, Fresh, events, afterAll}
-use Rattle.statement.specs.Demand3.{LeftIn, Slots, Picks, Due, Demand3}
-use Rattle.statement.specs.Companions.{Traits, StateCompanions, ListCompanions, Companions}
+use Rattle.statement.specs.Demand3.{LeftIn, Slots, Picks, Returns, Due, Demand3}
+use Rattle.statement.specs.Companions.{Traits, GraceTraits, StateCompanions, GraceStateCompanions, ListCompanions, GraceListCompanions, Companions, GraceCompanions}
 
 -- For which readers the last synchronise of a publisher has still to wait: open at it, and not left since.
 abbrev pub Pend : Type 0
@@ -85,7 +85,7 @@ pub all-tally : (g : Ghost) (es : List Event) → nextAll g es .tally ≡ foldEv
 all-tally = all-part (λ g. g .tally) tally (λ g c a. refl)
 
 -- What a return shows.
-pub record Back (T : Traits) (z : Given) (g : Ghost) (p l w : ℕ) : Type 0 where
+pub record Back (T : GraceTraits) (z : Given) (g : Ghost) (p l w : ℕ) : Type 0 where
   pub none-pending : (r : ℕ) → g .pend p r ≡ false
   pub in-order : g .tally .phase p ≡ raised
   pub looks-are : l ≡ T .passes z + w
@@ -100,12 +100,17 @@ pub record Kept (M : Machine) (T : Traits) : Type 1 where
       → accepted (M .step s (Look r k) .reply) ≡ true → (v : ℤ) × (M .step s (Look r k) .reply ≡ Pitch v) × (entry (g .model .note r) k ≡ some v)
   pub claim : (z : Given) (g : Ghost) (s : State) → Inv z g s → (p x r : ℕ)
       → accepted (M .step s (Claim p x) .reply) ≡ true → ¬ (g .told .picked r ≡ some x)
-  pub back : (z : Given) (g : Ghost) (s : State) → Inv z g s → (p b l w : ℕ) → M .step s (Walk p b) .reply ≡ Walked (Returned l w) → Back T z g p l w
-  pub release : (z : Given) (g : Ghost) (s : State) → Inv z g s → (p : ℕ) → accepted (M .step s (Release p) .reply) ≡ true → g .tally .phase p ≡ returned
   pub slots : (z : Given) (g : Ghost) (s : State) → Inv z g s → Slots (g .told) s
   pub picks : (z : Given) (g : Ghost) (s : State) → Inv z g s → Picks (g .told)
   pub table : (z : Given) (g : Ghost) (s : State) → Inv z g s → length (g .model .table) ≡ TABLE
   pub state-companions : (z : Given) (g : Ghost) (s : State) → Inv z g s → StateCompanions M T z (g .model) (g .told) (g .tally) s
+
+-- What it gives besides of a kind with sections and grace periods.
+pub record GraceKept (M : Machine) (T : GraceTraits) : Type 1 where
+  pub every : Kept M (T .every)
+  pub back : (z : Given) (g : Ghost) (s : State) → every .Inv z g s → (p b l w : ℕ) → M .step s (Walk p b) .reply ≡ Walked (Returned l w) → Back T z g p l w
+  pub release : (z : Given) (g : Ghost) (s : State) → every .Inv z g s → (p : ℕ) → accepted (M .step s (Release p) .reply) ≡ true → g .tally .phase p ≡ returned
+  pub state-companions : (z : Given) (g : Ghost) (s : State) → every .Inv z g s → GraceStateCompanions M T z (g .model) (g .told) (g .tally) s
 
 no-cons : {A : Type 0} (x : A) (l : List A) → [] ≡ x ∷ l → ⊥
 no-cons x l e = let z : _≡_ {A = ℕ} 0 1 = cc in omega arith
@@ -204,33 +209,21 @@ or-left A b (inr f) e = absurd (not-both b f e)
 still-synced : (g : Ghost) (p r : ℕ) (a : Reply) → accepted a ≡ true → g .told .inside r ≡ true → Still (next g (Sync p ⇒ a)) p r
 still-synced g p r a ok e = rw ok (record { awaited = rw (same p) e; opened = e })
 
--- The two theorems.
+-- What an invariant gives after every list from fresh.
 module _ (M : Machine) (T : Traits) (K : Kept M T) (s : State) (f : Fresh M s) (cs : List Call) where
-  z : Given
-  z = f .arguments
-
-  g : Ghost
-  g = ghost₀ (T .first (f .arguments))
-
   to : (pre : List Event) (c : Call) (a : Reply) (post : List Event) → events M s cs ≡ pre ++ (c ⇒ a) ∷ post → Reach M T K (f .arguments) (ghost₀ (T .first (f .arguments))) pre c a post
   to pre c a post e = reach M T K (f .arguments) (ghost₀ (T .first (f .arguments))) s (K .start s f) cs pre c a post e
 
   ending : K .Inv (f .arguments) (nextAll (ghost₀ (T .first (f .arguments))) (events M s cs)) (afterAll M s cs)
   ending = kept-after M T K (f .arguments) (ghost₀ (T .first (f .arguments))) s (K .start s f) cs
 
-  due : Due M (T .first (f .arguments)) s cs
-  due = record {
+  due : Returns M s cs → Due M (T .first (f .arguments)) s cs
+  due returns = record {
     looks = λ pre post r k a e ok.
         let x = to pre (Look r k) a post e in
         let y = K .look _ _ (x .at-state) (x .inv) r k (rw (x .reply-is) at ok) in
         (y .0, x .reply-is ∙ y .1, rw (← all-model (ghost₀ (T .first (f .arguments))) pre) (y .2));
-    returns = λ pre mid post p b l w r a e ok inside.
-        let x = to pre (Sync p) a (mid ++ (Walk p b ⇒ Walked (Returned l w)) ∷ post) e in
-        let q = M .step (x .at-state) (Sync p) .reply in
-        let y = reach M T K (f .arguments) _ (M .step (x .at-state) (Sync p) .after) (K .keep _ _ (x .at-state) (x .inv) (Sync p)) (x .rest) mid (Walk p b) (Walked (Returned l w)) post (x .post-is) in
-        or-left (LeftIn r mid) _
-        (still _ p r (still-synced (nextAll (ghost₀ (T .first (f .arguments))) pre) p r q (rw (x .reply-is) at ok) (rw (all-told (ghost₀ (T .first (f .arguments))) pre) inside)) mid)
-        (K .back _ _ (y .at-state) (y .inv) p b l w (sym (y .reply-is)) .none-pending r);
+    returns = returns;
     slots = rw (← all-told (ghost₀ (T .first (f .arguments))) (events M s cs)) (K .slots _ _ _ ending);
     picks = rw (← all-told (ghost₀ (T .first (f .arguments))) (events M s cs)) (K .picks _ _ _ ending);
     claims = λ pre post p c r a e ok picked.
@@ -242,18 +235,51 @@ module _ (M : Machine) (T : Traits) (K : Kept M T) (s : State) (f : Fresh M s) (
   list-companions = record {
     state-companions = rw (← all-model (ghost₀ (T .first (f .arguments))) (events M s cs), ← all-told (ghost₀ (T .first (f .arguments))) (events M s cs), ← all-tally (ghost₀ (T .first (f .arguments))) (events M s cs)) (K .state-companions _ _ _ ending);
     tables = rw (← all-model (ghost₀ (T .first (f .arguments))) (events M s cs)) (K .table _ _ _ ending);
-    returns-after = λ pre post p b l w e. let x = to pre (Walk p b) (Walked (Returned l w)) post e in
-        rw (← all-tally (ghost₀ (T .first (f .arguments))) pre) (K .back _ _ (x .at-state) (x .inv) p b l w (sym (x .reply-is)) .in-order);
-    releases-after = λ pre post p a e ok. let x = to pre (Release p) a post e in
-        rw (← all-tally (ghost₀ (T .first (f .arguments))) pre) (K .release _ _ (x .at-state) (x .inv) p (rw (x .reply-is) at ok));
-    looks-are = λ pre post p b l w e. let x = to pre (Walk p b) (Walked (Returned l w)) post e in
-        K .back _ _ (x .at-state) (x .inv) p b l w (sym (x .reply-is)) .looks-are;
-    waits-are = λ pre post p b l w e. let x = to pre (Walk p b) (Walked (Returned l w)) post e in
-        rw (← all-tally (ghost₀ (T .first (f .arguments))) pre) (K .back _ _ (x .at-state) (x .inv) p b l w (sym (x .reply-is)) .waits-are);
   }
 
-pub demand3 : (M : Machine) (T : Traits) → Kept M T → Demand3 M (T .first)
-demand3 M T K s f cs = due M T K s f cs
+  -- Returns, where a return shows that nobody is waited for any more; and of a machine that accepts no SYNC.
+  pub returns-waited : ((z : Given) (g : Ghost) (s : State) → K .Inv z g s → (p b l w : ℕ) → M .step s (Walk p b) .reply ≡ Walked (Returned l w) → (r : ℕ) → g .pend p r ≡ false) → Returns M s cs
+  returns-waited none-pending pre mid post p b l w r a e ok inside =
+      let x = to pre (Sync p) a (mid ++ (Walk p b ⇒ Walked (Returned l w)) ∷ post) e in
+      let q = M .step (x .at-state) (Sync p) .reply in
+      let y = reach M T K (f .arguments) _ (M .step (x .at-state) (Sync p) .after) (K .keep _ _ (x .at-state) (x .inv) (Sync p)) (x .rest) mid (Walk p b) (Walked (Returned l w)) post (x .post-is) in
+      or-left (LeftIn r mid) _
+      (still _ p r (still-synced (nextAll (ghost₀ (T .first (f .arguments))) pre) p r q (rw (x .reply-is) at ok) (rw (all-told (ghost₀ (T .first (f .arguments))) pre) inside)) mid)
+      (none-pending _ _ (y .at-state) (y .inv) p b l w (sym (y .reply-is)) r)
+
+  pub returns-never : ((s : State) (p : ℕ) → accepted (M .step s (Sync p) .reply) ≡ false) → Returns M s cs
+  returns-never no-sync pre mid post p b l w r a e ok inside =
+      let x = to pre (Sync p) a (mid ++ (Walk p b ⇒ Walked (Returned l w)) ∷ post) e in
+      absurd (not-both _ (rw (x .reply-is) at ok) (no-sync (x .at-state) p))
+
+-- The theorems. Demand 3 asks, beside what every kind keeps, for its returns.
+pub demand3 : (M : Machine) (T : Traits) → Kept M T → ((s : State) → Fresh M s → (cs : List Call) → Returns M s cs) → Demand3 M (T .first)
+demand3 M T K returns s f cs = due M T K s f cs (returns s f cs)
 
 pub companions : (M : Machine) (T : Traits) → Kept M T → Companions M T
 companions M T K s f cs = list-companions M T K s f cs
+
+-- .. and of a kind with sections and grace periods.
+module _ (M : Machine) (T : GraceTraits) (K : GraceKept M T) (s : State) (f : Fresh M s) (cs : List Call) where
+  waited : Returns M s cs
+  waited = returns-waited M (T .every) (K .every) s f cs (λ z g u i p b l w e. K .back z g u i p b l w e .none-pending)
+
+  grace-list-companions : GraceListCompanions M T (f .arguments) s cs
+  grace-list-companions = record {
+    every = companions M (T .every) (K .every) s f cs;
+    state-companions = rw (← all-model (ghost₀ (T .every .first (f .arguments))) (events M s cs), ← all-told (ghost₀ (T .every .first (f .arguments))) (events M s cs), ← all-tally (ghost₀ (T .every .first (f .arguments))) (events M s cs)) (K .state-companions _ _ _ (ending M (T .every) (K .every) s f cs));
+    returns-after = λ pre post p b l w e. let x = to M (T .every) (K .every) s f cs pre (Walk p b) (Walked (Returned l w)) post e in
+        rw (← all-tally (ghost₀ (T .every .first (f .arguments))) pre) (K .back _ _ (x .at-state) (x .inv) p b l w (sym (x .reply-is)) .in-order);
+    releases-after = λ pre post p a e ok. let x = to M (T .every) (K .every) s f cs pre (Release p) a post e in
+        rw (← all-tally (ghost₀ (T .every .first (f .arguments))) pre) (K .release _ _ (x .at-state) (x .inv) p (rw (x .reply-is) at ok));
+    looks-are = λ pre post p b l w e. let x = to M (T .every) (K .every) s f cs pre (Walk p b) (Walked (Returned l w)) post e in
+        K .back _ _ (x .at-state) (x .inv) p b l w (sym (x .reply-is)) .looks-are;
+    waits-are = λ pre post p b l w e. let x = to M (T .every) (K .every) s f cs pre (Walk p b) (Walked (Returned l w)) post e in
+        rw (← all-tally (ghost₀ (T .every .first (f .arguments))) pre) (K .back _ _ (x .at-state) (x .inv) p b l w (sym (x .reply-is)) .waits-are);
+  }
+
+pub grace-demand3 : (M : Machine) (T : GraceTraits) → GraceKept M T → Demand3 M (T .every .first)
+grace-demand3 M T K = demand3 M (T .every) (K .every) (waited M T K)
+
+pub grace-companions : (M : Machine) (T : GraceTraits) → GraceKept M T → GraceCompanions M T
+grace-companions M T K s f cs = grace-list-companions M T K s f cs

@@ -6,19 +6,22 @@ use Rattle.calls.specs.Base.{pick}
 use Rattle.calls.specs.Model.{firstTable}
 use Rattle.calls.specs.Tally.{inPhase}
 use Rattle.calls.specs.Tally.Phase.{synchronising, quiet, raised}
-use Rattle.statement.specs.Companions.{Traits}
+use Rattle.statement.specs.Companions.{GraceTraits}
 
 -- The last version is 2^63 - 1; a return passes two looks; a mark is one above the version; WALK follows SYNC, RAISE follows a quiet and WALK follows RAISE;
--- ENTER goes 1, 4, 5; readers publish no version; a claim needs that nobody else holds a slot.
-abbrev pub traits : Traits
+-- no call is lacking; ENTER goes 1, 4, 5; readers publish no version; a claim needs that every other publisher is idle.
+abbrev pub traits : GraceTraits
 traits = record {
-  first = λ z. firstTable;
-  last = 9223372036854775807;
+  every = record {
+    first = λ z. firstTable;
+    last = 9223372036854775807;
+    lacks = λ c. false;
+    exclusive = true;
+    raisesIn = inPhase quiet;
+    walksIn = λ x. inPhase synchronising x || inPhase raised x;
+  };
   passes = λ z. 2;
   successor = λ v. v + 1;
-  raisesIn = inPhase quiet;
-  walksIn = λ x. inPhase synchronising x || inPhase raised x;
   onward = λ place. pick (eqb place 0) 1 (pick (eqb place 1) 4 5);
   publishes = false;
-  exclusive = true;
 }
