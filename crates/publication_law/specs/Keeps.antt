@@ -15,7 +15,7 @@ use Rattle.calls.specs.declared.Reply.the-variants.{At, Left, Claimed, Written,
 use Rattle.calls.specs.declared.WalkReply.{WalkReply}
 use Rattle.calls.specs.declared.WalkReply.the-variants.{Waiting, Spent, Quiet, Returned}
 use Rattle.calls.specs.Base.{pick, upd}
-use Rattle.calls.specs.Numbers.{READERS-MAX, PUBLISHERS-MAX, SLOTS-MIN, SLOTS-MAX, TABLE, FEATHERED}
+use Rattle.calls.specs.Numbers.{READERS-MAX, TABLE, FEATHERED}
 use Rattle.calls.specs.RowLaws.{not-both, and-true, or-false, within, none-below, no-below, pick-split, same, AllClear}
 use Rattle.calls.specs.Model.{entry, firstTable}
 use Rattle.calls.specs.Told.{holds, Has}
@@ -30,7 +30,8 @@ use Rattle.layout.specs.Laws.{fresh-long, fresh-head, fresh-reader, fresh-publi
 use Rattle.statement.specs.Machine.{State, state, Outcome, Given, heldSlot}
 use Rattle.statement.specs.Demand3.{Slots, Picks}
 use Rattle.statement.specs.Kept.{Ghost, ghost₀, advance}
-use Rattle.publication_law.specs.Steps.{reader, publisher, atPlace, lookTests, claimTests, claim, inUse, writeTests, write, swapTests, swap, syncTests, sync, newWalk, raise, placeAfter, walked, walk, releaseTests, release, oneMore, makingTests, made}
+use Rattle.publication_law.specs.Steps.{reader, publisher, atPlace, lookTests, claim, inUse, writeTests, write, swapTests, swap, syncTests, sync, newWalk, raise, placeAfter, walked, walk, releaseTests, release, oneMore, made}
+use Rattle.publication_law.specs.Clear.{MakingClear, ClaimClear}
 use Rattle.publication_law.specs.Damage.{Kind}
 use Rattle.publication_law.specs.DamageLaws.{Fine, PublisherFine}
 use Rattle.publication_law.specs.KindLaw.{KindLaw, fine-publisher, publisher-undamaged}
@@ -78,13 +79,13 @@ module _ (K : Kind) (law : KindLaw K) (z : Given) (g : Ghost) (s : State) (i : I
         (rw out (leave-grace _ _ _ _ _ (i .grace) (g .told) r _))
         (rw out (place-tallied _ _ _ _ _ (i .tallied) r 0))
 
-  pub claim-keeps : (e : Bool) (p x : ℕ) → AllClear (claimTests e s p x)
+  pub claim-keeps : (e : Bool) (p x : ℕ) → ClaimClear e s p x
       → K .publisherDamaged (readers (s .words)) (slots (s .words)) (record { place = 1; held = x; walk = publisher s p .walk }) ≡ false
       → Invariant K z (advance g (Claim p x) (Claimed x)) (claim s p x .after)
   claim-keeps e p x f ok =
-      let lt = leb-false (publishers (s .words)) p (f .0) in
-      let idle-now = eqb-true (publisher s p .place) 0 (not-false _ (f .1 .1 .0)) in
-      let free-slot = f .1 .1 .1 .1 .0 in
+      let lt = f .publisher-named in
+      let idle-now = f .in-turn in
+      let free-slot = f .unused in
       publisher-moved K z g s i _ _ _ p _ _ _ _ (publisher-moves (i .fine) p _ lt) refl (i .fine .head .current-below) (i .fine .head .version-fits) ok
       (claim-core _ _ _ _ _ _ _ _ _ _ _ (i .core) p x (Claimed x) _ lt (λ a b. omega arith) (not-current x free-slot) (unheld x free-slot)
       (λ y. sym (former-early (publisher s p .place) (publisher s p .held) y (omega arith))))
@@ -92,8 +93,8 @@ module _ (K : Kind) (law : KindLaw K) (z : Given) (g : Ghost) (s : State) (i : I
       (phase-tallied _ _ _ _ _ (i .tallied) p 1 _ writing refl (omega arith))
 
   -- No accepted CLAIM is of a picked slot.
-  pub claim-unpicked : (e : Bool) (p x : ℕ) → AllClear (claimTests e s p x) → (r : ℕ) → ¬ (g .told .picked r ≡ some x)
-  claim-unpicked e p x f r d = let free-slot = f .1 .1 .1 .1 .0 in
+  pub claim-unpicked : (e : Bool) (p x : ℕ) → ClaimClear e s p x → (r : ℕ) → ¬ (g .told .picked r ≡ some x)
+  claim-unpicked e p x f r d = let free-slot = f .unused in
       safe-core _ _ _ _ _ _ _ _ _ _ _ (i .core) r x d (free-core _ _ _ _ _ _ _ _ _ _ _ (i .core) x (not-current x free-slot) (unheld x free-slot))
 
   pub write-keeps : (p : ℕ) (v : ℤ) → AllClear (writeTests s p v)
@@ -266,16 +267,7 @@ module _ (K : Kind) (law : KindLaw K) (z : Given) (g : Ghost) (s : State) (i : I
       current-not = rw (i .core .current-is) at (f .0)
 
 -- A fresh store.
-module _ (K : Kind) (x : Reader) (z : Given) (s : State) (f : AllClear (makingTests (K .versions) z s)) where
-  rs : (1 ≤ z .readers) × (z .readers ≤ READERS-MAX)
-  rs = within 1 READERS-MAX (z .readers) (f .1 .0)
-
-  ps : (1 ≤ z .publishers) × (z .publishers ≤ PUBLISHERS-MAX)
-  ps = within 1 PUBLISHERS-MAX (z .publishers) (f .1 .1 .0)
-
-  ss : (SLOTS-MIN ≤ z .slots) × (z .slots ≤ SLOTS-MAX)
-  ss = within SLOTS-MIN SLOTS-MAX (z .slots) (f .1 .1 .1 .0)
-
+module _ (K : Kind) (x : Reader) (z : Given) (s : State) (f : MakingClear (K .versions) z s) where
   w : List ℕ
   w = fresh (K .number) (z .readers) (z .publishers) (z .slots) (z .version) x
 
@@ -284,7 +276,7 @@ module _ (K : Kind) (x : Reader) (z : Given) (s : State) (f : AllClear (makingTe
   head j l = fresh-head (K .number) (z .readers) (z .publishers) (z .slots) (z .version) x j l
 
   entries-long : length (replicate (length (s .entries)) FEATHERED) ≡ z .slots * TABLE
-  entries-long = length-replicate (length (s .entries)) FEATHERED ∙ eqb-true _ _ (not-false _ (f .1 .1 .1 .1 .0))
+  entries-long = length-replicate (length (s .entries)) FEATHERED ∙ f .entries-are
 
   made-fine : K .readerDamaged (z .slots) x ≡ false → K .publisherDamaged (z .readers) (z .slots) noPublisher ≡ false → Fine K (made (K .number) x z s)
   unfolding w
@@ -292,18 +284,18 @@ module _ (K : Kind) (x : Reader) (z : Given) (s : State) (f : AllClear (makingTe
     head = record {
       long = fresh-long (K .number) (z .readers) (z .publishers) (z .slots) (z .version) x;
       kind-is = head KIND-AT (omega arith);
-      readers-low = rw (head READERS-AT (omega arith)) (rs .0);
-      readers-high = rw (head READERS-AT (omega arith)) (rs .1);
-      publishers-low = rw (head PUBLISHERS-AT (omega arith)) (ps .0);
-      publishers-high = rw (head PUBLISHERS-AT (omega arith)) (ps .1);
-      slots-low = rw (head SLOTS-AT (omega arith)) (ss .0);
-      slots-high = rw (head SLOTS-AT (omega arith)) (ss .1);
+      readers-low = rw (head READERS-AT (omega arith)) (f .readers-low);
+      readers-high = rw (head READERS-AT (omega arith)) (f .readers-high);
+      publishers-low = rw (head PUBLISHERS-AT (omega arith)) (f .publishers-low);
+      publishers-high = rw (head PUBLISHERS-AT (omega arith)) (f .publishers-high);
+      slots-low = rw (head SLOTS-AT (omega arith)) (f .slots-low);
+      slots-high = rw (head SLOTS-AT (omega arith)) (f .slots-high);
       entries-are = rw (head SLOTS-AT (omega arith)) entries-long;
-      current-below = rw (head SLOTS-AT (omega arith), head CURRENT-AT (omega arith)) (omega (arith, ss .0));
-      version-fits = rw (head VERSION-AT (omega arith)) (f .1 .1 .1 .1 .1 .0);
+      current-below = rw (head SLOTS-AT (omega arith), head CURRENT-AT (omega arith)) (omega (arith, f .slots-low));
+      version-fits = rw (head VERSION-AT (omega arith)) (f .version-fits);
     };
     readers-fine = rw (head READERS-AT (omega arith), head SLOTS-AT (omega arith))
-        (λ r l. rw (fresh-reader (K .number) (z .readers) (z .publishers) (z .slots) (z .version) x r, lt-ltb r READERS-MAX (omega (arith, rs .1))) reader-ok);
+        (λ r l. rw (fresh-reader (K .number) (z .readers) (z .publishers) (z .slots) (z .version) x r, lt-ltb r READERS-MAX (omega (arith, f .readers-high))) reader-ok);
     publishers-fine = rw (head READERS-AT (omega arith), head PUBLISHERS-AT (omega arith), head SLOTS-AT (omega arith))
         (λ p l. rw (fresh-publisher (K .number) (z .readers) (z .publishers) (z .slots) (z .version) x p) publisher-ok);
   }
@@ -333,7 +325,7 @@ module _ (K : Kind) (x : Reader) (z : Given) (s : State) (f : AllClear (makingTe
       publisher-none formers,
     )
         (fresh-core firstTable _ _ (slotEntry (replicate (length (s .entries)) FEATHERED)) refl
-        (λ k l. entry-same TABLE k FEATHERED l ∙ ap some (sym (slot-same (length (s .entries)) k FEATHERED l (omega (arith, eqb-true (length (s .entries)) (z .slots * TABLE) (not-false _ (f .1 .1 .1 .1 .0)), ss .0))))));
+        (λ k l. entry-same TABLE k FEATHERED l ∙ ap some (sym (slot-same (length (s .entries)) k FEATHERED l (omega (arith, f .entries-are, f .slots-low))))));
     grace = rw (reader-zero (λ (y : Reader). y .place) a refl, reader-zero (λ (y : Reader). y .picked) b refl, publisher-none (λ (y : Publisher). y .place), publisher-none formers) fresh-grace;
     tallied = rw (head RELEASES-AT (omega arith), reader-zero (λ (y : Reader). y .place) a refl, publisher-none (λ (y : Publisher). y .place), publisher-none (λ (y : Publisher). y .walk .waits)) fresh-tallied;
   }
