@@ -16,7 +16,7 @@ use Rattle.calls.specs.declared.WalkReply.the-variants.{Waiting, Spent, Quiet, 
 use Rattle.calls.specs.Base.{upd}
 use Rattle.calls.specs.Numbers.{READERS-MAX, NOT-READING, KIND-NEW}
 use Rattle.calls.specs.Rows.{anyTrue}
-use Rattle.calls.specs.RowLaws.{clash, by-test, within, or-none, and-false, and-not, or-false, all-false, none-true, pick-split, same, at-or, AllClear, AllFalse}
+use Rattle.calls.specs.RowLaws.{clash, by-test, or-none, and-false, and-not, or-false, all-false, none-true, pick-split, same, at-or, AllClear, AllFalse}
 use Rattle.layout.specs.declared.Reader.{Reader}
 use Rattle.layout.specs.declared.Publisher.{Publisher}
 use Rattle.layout.specs.declared.Walk.{Walk as WalkNumbers}
@@ -275,7 +275,7 @@ lawful = record {
   mark-stays = λ s p b. looks-mark (s .words) (readers (s .words)) (publisher s p .walk .mark) (publisher s p .walk .waits) b (publisher s p .walk .next) (publisher s p .walk .looks);
   no-looks = no-looks;
   Own = OwnOf detector;
-  start-own = λ z s f. start-own detector KIND-NEW freshReader z s (start-shown z s (within 1 READERS-MAX (z .readers) (f .1 .0) .1));
+  start-own = λ z s f. start-own detector KIND-NEW freshReader z s (start-shown z s (f .readers-high));
   fresh-is = refl;
   fresh-reader-fits = λ ss. refl;
   no-further = λ z g s i. refl;

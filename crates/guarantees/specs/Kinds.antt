@@ -35,8 +35,8 @@ use Rattle.two_phase_law.specs.Promises as old-promises
 use Rattle.two_phase_law.specs.Readers as old-readers
 use Rattle.kinds_law.specs.Kinds.{Name, rulesOf, number, named, anyStep, anyMaking, store}
 use Rattle.kinds_law.specs.Kinds.Name.{new, old}
-use Rattle.kinds_law.specs.Calls.{step-named}
-use Rattle.guarantees.specs.Named.{storeOf, traits, own, own-demand3, alike, by-number, publishesOf, chosen-refused-leaves, chosen-frame, chosen-proper, chosen-proper-making}
+use Rattle.kinds_law.specs.Calls.{step-named, any-making-leaves}
+use Rattle.guarantees.specs.Named.{storeOf, traits, own, own-demand3, alike, by-number, publishesOf, chosen-leaves, chosen-frame, chosen-proper, chosen-proper-making}
 
 -- Demand 3: after every list of calls from every accepted making, of whatever kind, looks, returns, slots and picks are as document 01 tells them.
 pub demand3 : (n : ℕ) → Demand3 (store n) (λ z. firstTable)
@@ -61,11 +61,8 @@ makes-fresh k = makes-fresh-alike (storeOf k) (store (number k)) (alike k) (own 
 
 -- Demand 1 on the steps: a refused call or making changes nothing, whatever the words hold.
 pub refused-leaves : (n : ℕ) → RefusedLeaves (store n)
-unfolding anyStep anyMaking
-refused-leaves n = record {
-  step = λ s. chosen-refused-leaves (named (kind (s .words))) .step s;
-  making = chosen-refused-leaves (named n) .making;
-}
+unfolding anyStep
+refused-leaves n = record { step = λ s. chosen-leaves (named (kind (s .words))) s; making = any-making-leaves n }
 
 -- A call moves the numbers that its step names, of the record that it names and perhaps one of the head, and nothing else; of the entries a WRITE moves one.
 pub frame : (n : ℕ) → Frame (λ s. publishesOf (named (kind (s .words)))) (store n)

@@ -10,6 +10,7 @@ use lib.ListN.{getD}
 use lib.Dec.{eqb}
 use borrow.Author.Tests.{eqb-true, eqb-false}
 use Rattle.calls.specs.declared.Call.{Call}
+use Rattle.calls.specs.declared.Reply.the-variants.{Refused}
 use Rattle.calls.specs.Events.{accepted}
 use Rattle.calls.specs.Model.{firstTable}
 use Rattle.calls.specs.RowLaws.{clash}
@@ -18,7 +19,7 @@ use Rattle.calls.specs.Numbers.{KIND-NEW, KIND-OLD}
 use Rattle.statement.specs.Machine.{State, Outcome, Given, Machine, Fresh, afterAll}
 use Rattle.statement.specs.Demand3.{Demand3}
 use Rattle.statement.specs.Frame.{Frame}
-use Rattle.statement.specs.Companions.{GraceTraits, RefusedLeaves}
+use Rattle.statement.specs.Companions.{GraceTraits}
 use Rattle.statement.specs.Alike.{Alike}
 use Rattle.publication_law.specs.Table.{step, making, machine}
 use Rattle.publication_law.specs.Calls.{undamaged-fine}
@@ -72,9 +73,9 @@ by-number Q f g n = go (eqb n KIND-NEW) (eqb n KIND-OLD) refl refl
 abbrev pub Chosen : Option Name → Machine
 Chosen o = record { making = makingOf o; step = stepOf o }
 
-pub chosen-refused-leaves : (o : Option Name) → RefusedLeaves (Chosen o)
-chosen-refused-leaves none = record { step = λ s c n e. refl; making = λ g s n e. refl }
-chosen-refused-leaves (some k) = own k .refused-leaves
+pub chosen-leaves : (o : Option Name) (s : State) (c : Call) (n : ℕ) → stepOf o s c .reply ≡ Refused n → stepOf o s c .after ≡ s
+chosen-leaves none s c n e = refl
+chosen-leaves (some k) s c n e = own k .refused-leaves .step s c n e
 
 -- Whether readers publish versions; words of no kind have none.
 abbrev pub publishesOf : Option Name → Bool

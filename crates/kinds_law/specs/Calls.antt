@@ -12,10 +12,11 @@ use Rattle.calls.specs.Numbers.{KIND-NEW, KIND-OLD, DAMAGED}
 use Rattle.layout.specs.Layout.{WORDS, kind}
 use Rattle.statement.specs.Machine.{State, outcome, Given}
 use Rattle.publication_law.specs.Table.{step, making}
+use Rattle.publication_law.specs.TableLaws.{making-leaves}
 use Rattle.publication_law.specs.Calls.{step-damaged, damaged-head}
 use Rattle.grace_version_law.specs.Steps as new-store
 use Rattle.two_phase_law.specs.Steps as old-store
-use Rattle.kinds_law.specs.Kinds.{Name, rulesOf, number, named, stepOf, anyStep, anyMaking}
+use Rattle.kinds_law.specs.Kinds.{Name, rulesOf, number, named, stepOf, anyStep, makingOf, anyMaking}
 use Rattle.kinds_law.specs.Kinds.Name.{new, old}
 
 -- A kind's number names it, and it is the number in the kind's own damage test.
@@ -73,3 +74,12 @@ making-old n g s e = rw e (sym (making-named old g s))
 pub making-unknown : (n : ℕ) (g : Given) (s : State) → n ≢ KIND-NEW → n ≢ KIND-OLD → outcome (Refused DAMAGED) s ≡ anyMaking n g s
 unfolding anyMaking
 making-unknown n g s a b = rw (named-none n a b) refl
+
+-- A refused making leaves words and entries as they were lent, of whatever kind.
+pub any-making-leaves : (k : ℕ) (g : Given) (s : State) (n : ℕ) → anyMaking k g s .reply ≡ Refused n → anyMaking k g s .after ≡ s
+unfolding anyMaking
+any-making-leaves k g s n = go (named k)
+  where
+    go : (o : Option Name) → makingOf o g s .reply ≡ Refused n → makingOf o g s .after ≡ s
+    go none e = refl
+    go (some k) e = making-leaves (rulesOf k) g s n e

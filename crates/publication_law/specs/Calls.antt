@@ -1,7 +1,7 @@
 -- What an accepted shared call comes to, from what its code has come to know: the rows that do not apply, the record that it read, the words that it wrote.
 -- Assumes nothing.
 use native.Mathlib.Omega.{arith}
-use Prim.Native.Nat.{ℕ, _+_, _*_, _-_, _%_, _<_, _≤_}
+use Prim.Native.Nat.{ℕ, _+_, _-_, _%_, _<_, _≤_}
 use mathlib.Core.Path.{_≡_, refl, sym, ap, _∙_}
 use mathlib.Core.Logic.{_≢_}
 use mathlib.Core.Bool.{Bool, true, false, not, _&&_, _||_}
@@ -10,23 +10,24 @@ use lib.IntN.{ℤ, pos}
 use lib.Signed.{ltZ}
 use lib.ListN.{getD, set, length, replicate}
 use lib.Dec.{ltb, eqb}
-use borrow.Author.Tests.{eqb-true, eqb-false, eq-eqb, ne-eqb, lt-leb, lt-ltb, le-ltb, not-false}
+use borrow.Author.Tests.{eqb-true, eqb-false, eq-eqb, ne-eqb, lt-leb, lt-ltb, le-ltb}
 use Rattle.calls.specs.declared.Call.{Call}
 use Rattle.calls.specs.declared.Call.the-variants.{Enter, Leave, Raise, Walk}
 use Rattle.calls.specs.declared.Reply.the-variants.{Made, Pitch, Claimed, Written, Swapped, Synced, Raised, Shared, Walked, Freed, Refused}
-use Rattle.calls.specs.Numbers.{TABLE, FEATHERED, PITCH-LOW, PITCH-HIGH, MODULUS, NUMBER-MAX, DAMAGED}
+use Rattle.calls.specs.Numbers.{FEATHERED, PITCH-LOW, PITCH-HIGH, MODULUS, NUMBER-MAX, DAMAGED}
 use Rattle.calls.specs.Rows.{firstOf, anyTrue}
 use Rattle.calls.specs.Rows.Test.{_gives_}
-use Rattle.calls.specs.RowLaws.{not-both, or-false, or-right, or-none, neither, negated, not-outside, clear}
+use Rattle.calls.specs.RowLaws.{not-both, or-false, or-right, or-none, neither, negated, not-outside}
 use Rattle.layout.specs.declared.Reader.{Reader}
 use Rattle.layout.specs.declared.Publisher.{Publisher}
 use Rattle.layout.specs.declared.Progress.{Progress}
-use Rattle.layout.specs.Layout.{WORDS, readers, publishers, slots, current, version, releases, readerAt, publisherAt, withPublisher, withCurrent, withVersion, withReleases, entryAt, fresh}
+use Rattle.layout.specs.Layout.{readers, publishers, slots, current, version, releases, readerAt, publisherAt, withPublisher, withCurrent, withVersion, withReleases, entryAt, fresh}
 use Rattle.statement.specs.Machine.{State, state, Outcome, outcome, given}
 use Rattle.publication_law.specs.Steps.{Versions, upTo, decide, reader, publisher, atPlace, newWalk, anotherBusy, inUse, lookTests, look, claimTests, claim, writeTests, write, swapTests, swap, syncTests, sync, raise, placeAfter, walk, releaseTests, release, makingTests, made}
 use Rattle.publication_law.specs.Damage.{headRows, sharedDamage, readersTest, publishersTest}
 use Rattle.publication_law.specs.DamageLaws.{Fine, fine-of, tests-shared, readers-test-fine, publishers-test-fine}
 use Rattle.publication_law.specs.Decide.{decide-accepts}
+use Rattle.publication_law.specs.Clear.{claim-rows}
 use Rattle.publication_law.specs.Table.{Table, damaged, step}
 use Rattle.publication_law.specs.Rules.{Rules, tableBy}
 
@@ -116,7 +117,8 @@ module _ (w : List ℕ) (p : ℕ) (y : Publisher) (named : p < publishers w) (is
       → v ≡ withPublisher w p (record { place = 1; held = x; walk = y .walk })
       → (es : List ℤ) → outcome (Claimed x) (state v es) ≡ decide (claimTests exclusive (state w es) p x) (claim (state w es) p x) (state w es)
   claim-is v exclusive x slot turn busy used put es =
-      rw (put, is) (sym (decide-accepts (claimTests exclusive (state w es) p x) (claim (state w es) p x) (state w es) (lt-leb _ _ named, (lt-leb _ _ slot, (not-at _ 0 (rw is at turn), (busy es, (used es, tt)))))))
+      rw (put, is) (sym (decide-accepts (claimTests exclusive (state w es) p x) (claim (state w es) p x) (state w es)
+      (claim-rows exclusive (state w es) p x (record { publisher-named = named; slot-named = slot; in-turn = rw is at turn; nobody-busy = busy es; unused = used es }))))
 
   pub write-is : (v : List ℕ) (es : List ℤ) (a : ℤ) → (ltZ a PITCH-LOW || ltZ PITCH-HIGH a) ≡ false → 1 ≤ y .place → y .place ≤ 32
       → v ≡ withPublisher w p (atPlace y (y .place + 1))
@@ -155,12 +157,6 @@ module _ (w : List ℕ) (p : ℕ) (y : Publisher) (named : p < publishers w) (is
 
 -- Making, by the number of its first row that applies.
 module _ (vs : Versions) (w : List ℕ) (es : List ℤ) (kind rs ps ss ver : ℕ) (x : Reader) where
-  pub making-clear : firstOf (makingTests vs (given rs ps ss ver) (state w es)) ≡ 0 → length w ≡ WORDS
-  making-clear e = eqb-true _ _ (not-false _ (clear (makingTests vs (given rs ps ss ver) (state w es)) refl e .0))
-
-  pub making-entries : firstOf (makingTests vs (given rs ps ss ver) (state w es)) ≡ 0 → length es ≡ ss * TABLE
-  making-entries e = eqb-true _ _ (not-false _ (clear (makingTests vs (given rs ps ss ver) (state w es)) refl e .1 .1 .1 .1 .0))
-
   pub make-is : (v : List ℕ) (fs : List ℤ) → firstOf (makingTests vs (given rs ps ss ver) (state w es)) ≡ 0 → v ≡ fresh kind rs ps ss ver x → fs ≡ replicate (length es) FEATHERED
       → outcome Made (state v fs) ≡ decide (makingTests vs (given rs ps ss ver) (state w es)) (outcome Made (made kind x (given rs ps ss ver) (state w es))) (state w es)
   make-is v fs e put fill = rw (put, fill, e) refl

@@ -22,7 +22,8 @@ use Rattle.layout.specs.Layout.{HEAD, CURRENT-AT, VERSION-AT, RELEASES-AT, publ
 use Rattle.layout.specs.Laws.{publisher-put, head-publisher}
 use Rattle.statement.specs.Machine.{State, Outcome}
 use Rattle.statement.specs.Frame.{readerNamed, publisherNamed, headNamed, One, PlaceAndOne, HeldAndWalkStay, OwnStays, Framed}
-use Rattle.publication_law.specs.Steps.{Versions, publisher, atPlace, claim, claimTests, write, writeTests, swap, swapTests, sync, syncTests, raise, walk, walked, release, releaseTests, oneMore}
+use Rattle.publication_law.specs.Clear.{ClaimClear}
+use Rattle.publication_law.specs.Steps.{Versions, publisher, atPlace, claim, write, writeTests, swap, swapTests, sync, syncTests, raise, walk, walked, release, releaseTests, oneMore}
 use Rattle.publication_law.specs.Damage.{Kind}
 use Rattle.publication_law.specs.DamageLaws.{Fine, publisher-below}
 use Rattle.publication_law.specs.Decide.{raise-split}
@@ -103,8 +104,8 @@ module _ (b : Bool) (K : Kind) (s : State) (f : Fine K s) where
   head-framed c p y j v lt low high e named own = publisher-framed b c _ _ p _ _ _ _ (publisher-moves-head f p y lt j v low high) e own
       (λ k l n. getD-set-other (withPublisher (s .words) p y) j k v 0 (eqb-false k j (sym (ap (λ (g : ℕ → Bool). g k) named) ∙ n)) ∙ head-publisher (s .words) p y k l) (one-moved (s .words) (withPublisher (s .words) p y) j v (head-publisher (s .words) p y))
 
-  pub claim-framed : (e : Bool) (p x : ℕ) → AllClear (claimTests e s p x) → Framed b (Claim p x) (s .words) (claim s p x .after .words)
-  claim-framed e p x c = record-framed (Claim p x) p _ (leb-false _ _ (c .0)) refl (ap (λ (u : Publisher). u .walk))
+  pub claim-framed : (e : Bool) (p x : ℕ) → ClaimClear e s p x → Framed b (Claim p x) (s .words) (claim s p x .after .words)
+  claim-framed e p x c = record-framed (Claim p x) p _ (c .publisher-named) refl (ap (λ (u : Publisher). u .walk))
 
   pub write-framed : (p : ℕ) (v : ℤ) → AllClear (writeTests s p v) → Framed b (Write p v) (s .words) (write s p v .after .words)
   write-framed p v c = record-framed (Write p v) p _ (leb-false _ _ (c .0)) refl (place-only _ _ _)

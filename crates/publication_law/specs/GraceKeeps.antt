@@ -23,7 +23,8 @@ use Rattle.layout.specs.Layout.{VERSION-AT, RELEASES-AT, readers, publishers, s
 use Rattle.layout.specs.Laws.{fresh-head}
 use Rattle.statement.specs.Machine.{State, state, Outcome, Given}
 use Rattle.statement.specs.Kept.{Ghost, ghost₀, advance}
-use Rattle.publication_law.specs.Steps.{reader, publisher, atPlace, syncTests, sync, newWalk, raise, placeAfter, walked, walk, releaseTests, release, oneMore, makingTests, made}
+use Rattle.publication_law.specs.Steps.{reader, publisher, atPlace, syncTests, sync, newWalk, raise, placeAfter, walked, walk, releaseTests, release, oneMore, made}
+use Rattle.publication_law.specs.Clear.{MakingClear}
 use Rattle.publication_law.specs.Damage.{Kind}
 use Rattle.publication_law.specs.DamageLaws.{PublisherFine}
 use Rattle.publication_law.specs.KindLaw.{KindLaw, fine-publisher, publisher-undamaged}
@@ -183,7 +184,7 @@ module _ (K : Kind) (law : KindLaw K) (z : Given) (g : Ghost) (s : State) (i : G
         (walk-tallied (k .reply) _ ws)
 
 -- A fresh store.
-pub made-invariant : (K : Kind) (x : Reader) (z : Given) (s : State) → AllClear (makingTests (K .versions) z s) → x .place ≡ 0 → x .picked ≡ 0
+pub made-invariant : (K : Kind) (x : Reader) (z : Given) (s : State) → MakingClear (K .versions) z s → x .place ≡ 0 → x .picked ≡ 0
     → K .readerDamaged (z .slots) x ≡ false → K .publisherDamaged (z .readers) (z .slots) noPublisher ≡ false → GraceInvariant K z (ghost₀ firstTable) (made (K .number) x z s)
 made-invariant K x z s f a b reader-ok publisher-ok = record {
   every = every.made-invariant K x z s f a b reader-ok publisher-ok;

@@ -13,7 +13,7 @@ use borrow.Author.Tests.{eqb-true, eqb-false, leb-false, le-leb, ltb-false, lt-l
 use Rattle.calls.specs.declared.Call.the-variants.{Claim, Write, Swap}
 use Rattle.calls.specs.declared.Reply.the-variants.{Claimed, Written, Swapped}
 use Rattle.calls.specs.Base.{pick}
-use Rattle.calls.specs.Numbers.{READERS-MAX, PUBLISHERS-MAX, SLOTS-MIN, SLOTS-MAX, TABLE, FEATHERED}
+use Rattle.calls.specs.Numbers.{READERS-MAX, TABLE, FEATHERED}
 use Rattle.calls.specs.RowLaws.{not-both, or-false, within, none-below, no-below, pick-split, same, AllClear}
 use Rattle.calls.specs.Model.{entry, firstTable}
 use Rattle.calls.specs.Told.{holds, Has}
@@ -27,7 +27,8 @@ use Rattle.layout.specs.Laws.{fresh-long, fresh-head, fresh-reader, fresh-publi
 use Rattle.statement.specs.Machine.{State, Given, heldSlot}
 use Rattle.statement.specs.Demand3.{Slots, Picks}
 use Rattle.statement.specs.Kept.{Ghost, ghost₀, advance}
-use Rattle.publication_law.specs.Steps.{reader, publisher, atPlace, lookTests, claimTests, claim, inUse, writeTests, write, swapTests, swap, makingTests, made}
+use Rattle.publication_law.specs.Steps.{reader, publisher, atPlace, lookTests, claim, inUse, writeTests, write, swapTests, swap, made}
+use Rattle.publication_law.specs.Clear.{MakingClear, ClaimClear}
 use Rattle.publication_law.specs.Damage.{Kind}
 use Rattle.publication_law.specs.DamageLaws.{Fine}
 use Rattle.publication_law.specs.Core.{Hold, claim-core, swap-core, write-core, held-is, held-bound, role-core, safe-core, free-core, fresh-core}
@@ -46,21 +47,21 @@ module _ (K : Kind) (z : Given) (g : Ghost) (s : State) (i : Invariant K z g s) 
   not-current : (x : ℕ) → inUse s x ≡ false → current (s .words) ≢ x
   not-current x e = eqb-false _ _ (or-false (eqb (current (s .words)) x) _ e .0)
 
-  pub claim-keeps : (e : Bool) (p x : ℕ) → AllClear (claimTests e s p x)
+  pub claim-keeps : (e : Bool) (p x : ℕ) → ClaimClear e s p x
       → K .publisherDamaged (readers (s .words)) (slots (s .words)) (record { place = 1; held = x; walk = publisher s p .walk }) ≡ false
       → Invariant K z (advance g (Claim p x) (Claimed x)) (claim s p x .after)
   claim-keeps e p x f ok =
-      let lt = leb-false (publishers (s .words)) p (f .0) in
-      let idle-now = eqb-true (publisher s p .place) 0 (not-false _ (f .1 .1 .0)) in
-      let free-slot = f .1 .1 .1 .1 .0 in
+      let lt = f .publisher-named in
+      let idle-now = f .in-turn in
+      let free-slot = f .unused in
       publisher-moved K z g s i _ _ _ p _ _ _ _ (publisher-moves (i .fine) p _ lt) refl (i .fine .head .current-below) (i .fine .head .version-fits) ok
       (claim-core _ _ _ _ _ _ _ _ _ _ _ (i .core) p x (Claimed x) _ lt (λ a b. omega arith) (not-current x free-slot) (unheld x free-slot)
       (λ y. sym (former-early (publisher s p .place) (publisher s p .held) y (omega arith))))
       (move-phases _ _ _ _ (i .phases) p 1 writing refl)
 
   -- No accepted CLAIM is of a picked slot.
-  pub claim-unpicked : (e : Bool) (p x : ℕ) → AllClear (claimTests e s p x) → (r : ℕ) → ¬ (g .told .picked r ≡ some x)
-  claim-unpicked e p x f r d = let free-slot = f .1 .1 .1 .1 .0 in
+  pub claim-unpicked : (e : Bool) (p x : ℕ) → ClaimClear e s p x → (r : ℕ) → ¬ (g .told .picked r ≡ some x)
+  claim-unpicked e p x f r d = let free-slot = f .unused in
       safe-core _ _ _ _ _ _ _ _ _ _ _ (i .core) r x d (free-core _ _ _ _ _ _ _ _ _ _ _ (i .core) x (not-current x free-slot) (unheld x free-slot))
 
   pub write-keeps : (p : ℕ) (v : ℤ) → AllClear (writeTests s p v) → publisher s p .held < slots (s .words)
@@ -159,16 +160,7 @@ module _ (k : ℕ) (x : Reader) (z : Given) (s : State) where
   publishers-fresh h = fun-ext (λ p. ap h (fresh-publisher k (z .readers) (z .publishers) (z .slots) (z .version) x p))
 
 -- .. and that it has the invariant.
-module _ (K : Kind) (x : Reader) (z : Given) (s : State) (f : AllClear (makingTests (K .versions) z s)) where
-  rs : (1 ≤ z .readers) × (z .readers ≤ READERS-MAX)
-  rs = within 1 READERS-MAX (z .readers) (f .1 .0)
-
-  ps : (1 ≤ z .publishers) × (z .publishers ≤ PUBLISHERS-MAX)
-  ps = within 1 PUBLISHERS-MAX (z .publishers) (f .1 .1 .0)
-
-  ss : (SLOTS-MIN ≤ z .slots) × (z .slots ≤ SLOTS-MAX)
-  ss = within SLOTS-MIN SLOTS-MAX (z .slots) (f .1 .1 .1 .0)
-
+module _ (K : Kind) (x : Reader) (z : Given) (s : State) (f : MakingClear (K .versions) z s) where
   w : List ℕ
   w = fresh (K .number) (z .readers) (z .publishers) (z .slots) (z .version) x
 
@@ -177,7 +169,7 @@ module _ (K : Kind) (x : Reader) (z : Given) (s : State) (f : AllClear (makingTe
   head j l = fresh-head (K .number) (z .readers) (z .publishers) (z .slots) (z .version) x j l
 
   entries-long : length (replicate (length (s .entries)) FEATHERED) ≡ z .slots * TABLE
-  entries-long = length-replicate (length (s .entries)) FEATHERED ∙ eqb-true _ _ (not-false _ (f .1 .1 .1 .1 .0))
+  entries-long = length-replicate (length (s .entries)) FEATHERED ∙ f .entries-are
 
   made-fine : K .readerDamaged (z .slots) x ≡ false → K .publisherDamaged (z .readers) (z .slots) noPublisher ≡ false → Fine K (made (K .number) x z s)
   unfolding w
@@ -185,18 +177,18 @@ module _ (K : Kind) (x : Reader) (z : Given) (s : State) (f : AllClear (makingTe
     head = record {
       long = fresh-long (K .number) (z .readers) (z .publishers) (z .slots) (z .version) x;
       kind-is = head KIND-AT (omega arith);
-      readers-low = rw (head READERS-AT (omega arith)) (rs .0);
-      readers-high = rw (head READERS-AT (omega arith)) (rs .1);
-      publishers-low = rw (head PUBLISHERS-AT (omega arith)) (ps .0);
-      publishers-high = rw (head PUBLISHERS-AT (omega arith)) (ps .1);
-      slots-low = rw (head SLOTS-AT (omega arith)) (ss .0);
-      slots-high = rw (head SLOTS-AT (omega arith)) (ss .1);
+      readers-low = rw (head READERS-AT (omega arith)) (f .readers-low);
+      readers-high = rw (head READERS-AT (omega arith)) (f .readers-high);
+      publishers-low = rw (head PUBLISHERS-AT (omega arith)) (f .publishers-low);
+      publishers-high = rw (head PUBLISHERS-AT (omega arith)) (f .publishers-high);
+      slots-low = rw (head SLOTS-AT (omega arith)) (f .slots-low);
+      slots-high = rw (head SLOTS-AT (omega arith)) (f .slots-high);
       entries-are = rw (head SLOTS-AT (omega arith)) entries-long;
-      current-below = rw (head SLOTS-AT (omega arith), head CURRENT-AT (omega arith)) (omega (arith, ss .0));
-      version-fits = rw (head VERSION-AT (omega arith)) (f .1 .1 .1 .1 .1 .0);
+      current-below = rw (head SLOTS-AT (omega arith), head CURRENT-AT (omega arith)) (omega (arith, f .slots-low));
+      version-fits = rw (head VERSION-AT (omega arith)) (f .version-fits);
     };
     readers-fine = rw (head READERS-AT (omega arith), head SLOTS-AT (omega arith))
-        (λ r l. rw (fresh-reader (K .number) (z .readers) (z .publishers) (z .slots) (z .version) x r, lt-ltb r READERS-MAX (omega (arith, rs .1))) reader-ok);
+        (λ r l. rw (fresh-reader (K .number) (z .readers) (z .publishers) (z .slots) (z .version) x r, lt-ltb r READERS-MAX (omega (arith, f .readers-high))) reader-ok);
     publishers-fine = rw (head READERS-AT (omega arith), head PUBLISHERS-AT (omega arith), head SLOTS-AT (omega arith))
         (λ p l. rw (fresh-publisher (K .number) (z .readers) (z .publishers) (z .slots) (z .version) x p) publisher-ok);
   }
@@ -218,6 +210,6 @@ module _ (K : Kind) (x : Reader) (z : Given) (s : State) (f : AllClear (makingTe
       publishers-fresh (K .number) x z s formers,
     )
         (fresh-core firstTable _ _ (slotEntry (replicate (length (s .entries)) FEATHERED)) refl
-        (λ k l. entry-same TABLE k FEATHERED l ∙ ap some (sym (slot-same (length (s .entries)) k FEATHERED l (omega (arith, eqb-true (length (s .entries)) (z .slots * TABLE) (not-false _ (f .1 .1 .1 .1 .0)), ss .0))))));
+        (λ k l. entry-same TABLE k FEATHERED l ∙ ap some (sym (slot-same (length (s .entries)) k FEATHERED l (omega (arith, f .entries-are, f .slots-low))))));
     phases = rw (readers-fresh (K .number) x z s (λ (y : Reader). y .place) a refl, publishers-fresh (K .number) x z s (λ (y : Publisher). y .place)) fresh-phases;
   }

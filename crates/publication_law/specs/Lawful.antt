@@ -1,6 +1,6 @@
 -- Demand 3 and its companions of a kind with the ten calls, from what only that kind can show: its own invariant, and that its
 -- ENTER, LEAVE, SYNC, RAISE and WALK keep it. Assumes nothing.
-use Prim.Native.Nat.{ℕ, _+_, _*_, _%_, _<_, _≤_}
+use Prim.Native.Nat.{ℕ, _+_, _%_, _<_, _≤_}
 use native.Mathlib.Omega.{arith}
 use mathlib.Core.Path.{_≡_, refl, sym, ap, _∙_, subst}
 use mathlib.Core.Logic.{_≢_}
@@ -18,7 +18,7 @@ use Rattle.calls.specs.declared.Call.the-variants.{Enter, Look, Leave, Claim, W
 use Rattle.calls.specs.declared.Reply.{Reply}
 use Rattle.calls.specs.declared.Reply.the-variants.{Made, At, Pitch, Left, Written, Swapped, Synced, Walked, Freed, Refused}
 use Rattle.calls.specs.declared.WalkReply.the-variants.{Spent, Returned}
-use Rattle.calls.specs.Numbers.{READERS-MAX, PUBLISHERS-MAX, SLOTS-MIN, SLOTS-MAX, TABLE, PITCH-LOW, PITCH-HIGH, FEATHERED, NUMBER-MAX, NOT-READING, MODULUS, DAMAGED, BUSY}
+use Rattle.calls.specs.Numbers.{READERS-MAX, TABLE, PITCH-LOW, PITCH-HIGH, FEATHERED, NUMBER-MAX, NOT-READING, MODULUS, DAMAGED, BUSY}
 use Rattle.calls.specs.Rows.{outside}
 use Rattle.calls.specs.RowLaws.{clash, and-not, neither, negated, within, not-outside, no-below, some-below, AllClear, allAbove, all-above}
 use Rattle.calls.specs.AnswerLaws.{Proper}
@@ -37,6 +37,7 @@ use Rattle.statement.specs.Frame.{PlaceAndOne, LeaveStays, nextEntry, Writes}
 use Rattle.statement.specs.Companions.{GraceTraits, IsFresh, MakesFresh, MakingAccepts, InTurn, StateCompanions, GraceStateCompanions, GraceCompanions}
 use Rattle.statement.specs.Kept.{Ghost, ghost₀, advance, next, nextAll, Back, GraceKept, kept-after, grace-demand3, grace-companions}
 use Rattle.publication_law.specs.Steps.{reader, publisher, atPlace, anotherBusy, enterTests, leaveTests, syncTests, sync, raise, walk, oneMore, makingTests, made}
+use Rattle.publication_law.specs.Clear.{MakingClear, making-clear, making-rows, claim-clear, claim-rows}
 use Rattle.publication_law.specs.Damage.{Kind, sharedDamage}
 use Rattle.publication_law.specs.Table.{damaged, rows, step, making, machine}
 use Rattle.publication_law.specs.Rules.{Rules, tableBy}
@@ -69,7 +70,7 @@ pub record Lawful (R : Rules) (T : GraceTraits) : Type 1 where
   pub last-fits : (v : ℕ) → v ≤ T .every .last → R .kind .versions .tooLarge v ≡ false
   pub below-last : (v : ℕ) → v < T .every .last → R .kind .versions .isLast v ≡ false
   pub Own : Ghost → State → Type 0
-  pub start-own : (z : Given) (s : State) → AllClear (makingTests (R .kind .versions) z s) → Own (ghost₀ firstTable) (made (R .kind .number) (R .freshReader) z s)
+  pub start-own : (z : Given) (s : State) → MakingClear (R .kind .versions) z s → Own (ghost₀ firstTable) (made (R .kind .number) (R .freshReader) z s)
   pub fresh-is : R .freshReader ≡ blankReader NOT-READING
   pub fresh-reader-fits : (ss : ℕ) → R .kind .readerDamaged ss (R .freshReader) ≡ false
   pub no-further : (z : Given) (g : Ghost) (s : State) → Good (R .kind) Own z g s → R .further s ≡ false
@@ -134,7 +135,7 @@ module _ (R : Rules) (T : GraceTraits) (L : Lawful R T) where
         (λ e. subst (λ (x : Reader). LeaveStays (T .publishes) (reader s r) x) (sym e) (L .leave-stays s r));
     entries-stay = λ _. refl;
   }
-  acted s (Claim p x) f = record { accepts = refl; proper = λ _. tt; framed = claim-framed (T .publishes) (R .kind) s (undamaged-fine (tableBy R) s (f .0)) (R .exclusive) p x (f .1); entries-stay = λ _. refl }
+  acted s (Claim p x) f = record { accepts = refl; proper = λ _. tt; framed = claim-framed (T .publishes) (R .kind) s (undamaged-fine (tableBy R) s (f .0)) (R .exclusive) p x (claim-clear (R .exclusive) s p x (f .1)); entries-stay = λ _. refl }
   acted s (Write p v) f = record { accepts = refl; proper = λ _. tt; framed = write-framed (T .publishes) (R .kind) s (undamaged-fine (tableBy R) s (f .0)) p v (f .1); entries-stay = λ ne. absurd (ne p v refl) }
   acted s (Swap p) f = record { accepts = refl; proper = λ _. tt; framed = swap-framed (T .publishes) (R .kind) s (undamaged-fine (tableBy R) s (f .0)) p (f .1); entries-stay = λ _. refl }
   acted s (Sync p) f = record { accepts = refl; proper = λ _. tt; framed = sync-framed (T .publishes) (R .kind) s (undamaged-fine (tableBy R) s (f .0)) (R .kind .versions) p (f .1); entries-stay = λ _. refl }
@@ -176,11 +177,12 @@ module _ (R : Rules) (T : GraceTraits) (L : Lawful R T) where
     claim-kept : (p x : ℕ) → AllClear (tableBy R .tests s (Claim p x)) → After (Claim p x) (tableBy R .act s (Claim p x))
     unfolding After
     claim-kept p x f =
+        let c = claim-clear (R .exclusive) s p x f in
         let y : Publisher = record { place = 1; held = x; walk = publisher s p .walk } in
-        let idle-now : publisher s p .place ≡ 0 = eqb-true _ _ (not-false _ (f .1 .1 .0)) in
-        let m = publisher-moves (i .shared .every .fine) p y (leb-false _ _ (f .0)) in record {
+        let idle-now : publisher s p .place ≡ 0 = c .in-turn in
+        let m = publisher-moves (i .shared .every .fine) p y (c .publisher-named) in record {
           shared = early-keeps (R .kind) z g s (i .shared) _ _ _ p y _ _ m
-              (claim-keeps (R .kind) z g s (i .shared .every) (R .exclusive) p x f (early-fits (L .kind-law) (readers (s .words)) (slots (s .words)) y (omega arith) (λ _. leb-false _ _ (f .1 .0))))
+              (claim-keeps (R .kind) z g s (i .shared .every) (R .exclusive) p x c (early-fits (L .kind-law) (readers (s .words)) (slots (s .words)) y (omega arith) (λ _. c .slot-named)))
               refl refl refl refl (omega arith) (omega arith);
           own = L .early-own g _ s _ _ p y _ _ (i .own) refl m refl (omega arith);
         }
@@ -254,7 +256,7 @@ module _ (R : Rules) (T : GraceTraits) (L : Lawful R T) where
     claim-safe : (p x r : ℕ) → accepted (step (tableBy R) s (Claim p x) .reply) ≡ true → ¬ (g .told .picked r ≡ some x)
     unfolding step
     claim-safe p x r = decided (λ (o : Outcome). accepted (o .reply) ≡ true → ¬ (g .told .picked r ≡ some x)) (rows (tableBy R) s (Claim p x)) (tableBy R .act s (Claim p x)) s refl
-        (λ f ok. claim-unpicked (R .kind) z g s (i .shared .every) (R .exclusive) p x (f .1) r) (λ ok. clash (sym ok))
+        (λ f ok. claim-unpicked (R .kind) z g s (i .shared .every) (R .exclusive) p x (claim-clear (R .exclusive) s p x (f .1)) r) (λ ok. clash (sym ok))
 
     return-back : (p b l w : ℕ) → step (tableBy R) s (Walk p b) .reply ≡ Walked (Returned l w) → Back T z g p l w
     unfolding step
@@ -345,7 +347,7 @@ module _ (R : Rules) (T : GraceTraits) (L : Lawful R T) where
     turn-clear (Enter r) f = let l = leb-false 5 (reader s r .place) (f .1 .0) in omega (arith, i .shared .every .phases .places r)
     turn-clear (Look r k) f = i .shared .every .phases .places r ∙ eqb-true (reader s r .place) 5 (not-false _ (f .1 .1 .0))
     turn-clear (Leave r) f = let l = ltb-false (reader s r .place) 4 (f .1 .0) in omega (arith, i .shared .every .phases .places r)
-    turn-clear (Claim p x) f = at-phase p 0 idle (not-false _ (f .1 .1 .0)) refl
+    turn-clear (Claim p x) f = i .shared .every .phases .phases p ∙ ap phaseAt (claim-clear (R .exclusive) s p x f .in-turn)
     turn-clear (Write p v) f =
         let range = within 1 32 (publisher s p .place) (f .1 .1 .0) in
         let drafted = i .shared .every .core .publishers p .drafted (range .0) (omega (arith, range .1)) in
@@ -380,7 +382,13 @@ module _ (R : Rules) (T : GraceTraits) (L : Lawful R T) where
       looks = λ r k rn k32 five.
           rw (accepts (Look r k) (named-reader r rn, (le-ltb 31 k (omega arith), (negated _ (eq-eqb (reader s r .place) 5 (sym (i .shared .every .phases .places r) ∙ five)), tt)))) refl;
       claims = λ p x pn xn fr idle-now others.
-          rw (accepts (Claim p x) (named-publisher p pn, (named-slot x xn, (idle-turn p idle-now, (nobody-busy p (rw (L .exclusive-is) at others), (free-told (R .kind) z g s (i .shared .every) x fr, tt)))))) refl;
+          rw (accepts (Claim p x) (claim-rows (R .exclusive) s p x (record {
+            publisher-named = leb-false _ _ (named-publisher p pn);
+            slot-named = leb-false _ _ (named-slot x xn);
+            in-turn = placed (R .kind) z g s (i .shared .every) p idle idle-now;
+            nobody-busy = nobody-busy p (rw (L .exclusive-is) at others);
+            unused = free-told (R .kind) z g s (i .shared .every) x fr;
+          }))) refl;
       busy = λ e. refused-busy (sym (L .exclusive-is) ∙ e);
       idle-if = idle-told (R .kind) z g s (i .shared .every);
       writes = writes-on;
@@ -411,14 +419,14 @@ module _ (R : Rules) (T : GraceTraits) (L : Lawful R T) where
   start s f = decided (λ (o : Outcome). o ≡ outcome Made s → Good (R .kind) (L .Own) (f .arguments) (ghost₀ firstTable) s) (makingTests (R .kind .versions) (f .arguments) (f .lent))
       (outcome Made (made (R .kind .number) (R .freshReader) (f .arguments) (f .lent))) (f .lent) refl
       (λ c e. subst (λ (u : State). Good (R .kind) (L .Own) (f .arguments) (ghost₀ firstTable) u) (outcome-parts _ _ _ e .1) (record {
-        shared = made-invariant (R .kind) (R .freshReader) (f .arguments) (f .lent) c (ap (λ (x : Reader). x .place) (L .fresh-is)) (ap (λ (x : Reader). x .picked) (L .fresh-is)) (L .fresh-reader-fits _) (early-fits (L .kind-law) (f .arguments .readers) (f .arguments .slots) noPublisher (omega arith) (λ l. absurd (omega arith)));
-        own = L .start-own (f .arguments) (f .lent) c;
+        shared = made-invariant (R .kind) (R .freshReader) (f .arguments) (f .lent) (making-clear (R .kind .versions) (f .arguments) (f .lent) c) (ap (λ (x : Reader). x .place) (L .fresh-is)) (ap (λ (x : Reader). x .picked) (L .fresh-is)) (L .fresh-reader-fits _) (early-fits (L .kind-law) (f .arguments .readers) (f .arguments .slots) noPublisher (omega arith) (λ l. absurd (omega arith)));
+        own = L .start-own (f .arguments) (f .lent) (making-clear (R .kind .versions) (f .arguments) (f .lent) c);
       }))
       (λ e. absurd (let q = outcome-parts _ _ _ e .0 in let y : _≡_ {A = ℕ} 0 1 = cc in omega arith))
       (f .made)
 
   -- A fresh store is document 01's, number by number.
-  made-is : (z : Given) (s : State) → AllClear (makingTests (R .kind .versions) z s) → IsFresh z (made (R .kind .number) (R .freshReader) z s)
+  made-is : (z : Given) (s : State) → MakingClear (R .kind .versions) z s → IsFresh z (made (R .kind .number) (R .freshReader) z s)
   made-is z s c =
       let k = R .kind .number in
       let x = R .freshReader in
@@ -433,14 +441,14 @@ module _ (R : Rules) (T : GraceTraits) (L : Lawful R T) where
         indicators-are = fresh-indicator k (z .readers) (z .publishers) (z .slots) (z .version) x;
         readers-are = λ r l. fresh-reader k (z .readers) (z .publishers) (z .slots) (z .version) x r ∙ rw (lt-ltb r READERS-MAX l) (L .fresh-is);
         publishers-are = fresh-publisher k (z .readers) (z .publishers) (z .slots) (z .version) x;
-        entries-are = let e : length (s .entries) ≡ z .slots * TABLE = eqb-true _ _ (not-false _ (c .1 .1 .1 .1 .0)) in ap (λ (n : ℕ). replicate n FEATHERED) e;
+        entries-are = ap (λ (n : ℕ). replicate n FEATHERED) (c .entries-are);
       }
 
   pub makes-fresh-of : MakesFresh (machine (tableBy R))
   unfolding making
   makes-fresh-of s f = decided (λ (o : Outcome). o ≡ outcome Made s → IsFresh (f .arguments) s) (makingTests (R .kind .versions) (f .arguments) (f .lent))
       (outcome Made (made (R .kind .number) (R .freshReader) (f .arguments) (f .lent))) (f .lent) refl
-      (λ c e. subst (IsFresh (f .arguments)) (outcome-parts _ _ _ e .1) (made-is (f .arguments) (f .lent) c))
+      (λ c e. subst (IsFresh (f .arguments)) (outcome-parts _ _ _ e .1) (made-is (f .arguments) (f .lent) (making-clear (R .kind .versions) (f .arguments) (f .lent) c)))
       (λ e. absurd (let q = outcome-parts _ _ _ e .0 in let y : _≡_ {A = ℕ} 0 1 = cc in omega arith))
       (f .made)
 
@@ -485,7 +493,17 @@ module _ (R : Rules) (T : GraceTraits) (L : Lawful R T) where
   pub making-accepts-of : MakingAccepts (machine (tableBy R)) (T .every)
   unfolding making
   making-accepts-of g s long rl rh pl ph sl sh len low = rw (decide-accepts (makingTests (R .kind .versions) g s) (outcome Made (made (R .kind .number) (R .freshReader) g s)) s
-      (negated _ (eq-eqb _ _ long), (not-outside 1 READERS-MAX _ rl rh, (not-outside 1 PUBLISHERS-MAX _ pl ph, (not-outside SLOTS-MIN SLOTS-MAX _ sl sh, (negated _ (eq-eqb _ _ len), (L .last-fits _ low, tt))))))) refl
+      (making-rows (R .kind .versions) g s (record {
+        long = long;
+        readers-low = rl;
+        readers-high = rh;
+        publishers-low = pl;
+        publishers-high = ph;
+        slots-low = sl;
+        slots-high = sh;
+        entries-are = len;
+        version-fits = L .last-fits _ low;
+      }))) refl
 
   -- A WALK with no looks that replies spent leaves the whole state as it was.
   pub walk-zero-of : (s : State) (p : ℕ) → step (tableBy R) s (Walk p 0) .reply ≡ Walked Spent → step (tableBy R) s (Walk p 0) .after ≡ s

@@ -2,6 +2,7 @@ pub mod Steps
 pub mod Damage
 pub mod Table
 pub mod Rules
+pub mod Clear
 pub mod Core
 pub mod Grace
 pub mod Single

@@ -5,7 +5,7 @@ use Prim.Native.Nat.{ℕ, _+_, _*_, _<_, _≤_}
 use native.Mathlib.Omega.{arith}
 use mathlib.Core.Path.{_≡_, refl, sym, ap, _∙_}
 use mathlib.Core.Bool.{Bool, true, false}
-use mathlib.Core.Option.{Option, none, some}
+use mathlib.Core.Option.{none}
 use mathlib.Core.List.{List, [], _∷_, _++_, flatten, append-assoc}
 use lib.Dec.{eqb, ltb}
 use lib.ListN.{length, take, length-append, length-take, take-append-drop}
@@ -13,13 +13,12 @@ use lib.Seq.{take-all, take-append-le}
 use borrow.Author.Tests.{lt-ltb, ltb-true, ltb-false}
 use Rattle.calls.specs.RowLaws.{pick-split}
 use Rattle.calls.specs.declared.Call.{Call}
-use Rattle.calls.specs.declared.Reply.the-variants.{Made, Refused}
+use Rattle.calls.specs.declared.Reply.the-variants.{Refused}
 use Rattle.calls.specs.Numbers.{TABLE, NUMBER-MAX, DAMAGED}
 use Rattle.layout.specs.Layout.{kind}
-use Rattle.statement.specs.Machine.{State, state, outcome, Given, given}
-use Rattle.publication_law.specs.Table.{Table, making}
-use Rattle.publication_law.specs.Decide.{decide-leaves}
-use Rattle.kinds_law.specs.Kinds.{Name, rulesOf, named, anyStep, makingOf, anyMaking}
+use Rattle.statement.specs.Machine.{State, state, outcome, given}
+use Rattle.kinds_law.specs.Kinds.{named, anyStep}
+use Rattle.kinds_law.specs.Calls.{any-making-leaves}
 use Rattle.sheet_law.specs.declared.Command.the-variants.{Make, Run}
 use Rattle.sheet_law.specs.declared.Line.{Line}
 use Rattle.sheet_law.specs.declared.Line.the-variants.{Read, Unread}
@@ -126,17 +125,9 @@ pub before-made : (c : Call) → played unmade (Run c) ≡ outcome (Refused DAMA
 unfolding played anyStep named
 before-made c = refl
 
--- A refused making leaves what was lent, and a refused `store` leaves the one before.
-rules-leave : (T : Table) (g : Given) (s : State) (n : ℕ) → making T g s .reply ≡ Refused n → making T g s .after ≡ s
-unfolding making
-rules-leave T g s n = decide-leaves (T .makingRows g s) (outcome Made (T .fresh g s)) s n refl
-
-making-leaves : (o : Option Name) (g : Given) (s : State) (n : ℕ) → makingOf o g s .reply ≡ Refused n → makingOf o g s .after ≡ s
-making-leaves none g s n e = refl
-making-leaves (some k) g s n e = rules-leave (rulesOf k) g s n e
-
+-- A refused `store` leaves the one before, since a refused making leaves what was lent.
 pub refused-store : (s : State) (k rs ps ss v n : ℕ) → played s (Make k rs ps ss v) .reply ≡ Refused n → played s (Make k rs ps ss v) .after ≡ s
-unfolding played anyMaking
+unfolding played
 refused-store s k rs ps ss v n e =
-    let q = making-leaves (named k) (given rs ps ss v) (state (s .words) (take (ss * TABLE) (s .entries))) n e in
+    let q = any-making-leaves k (given rs ps ss v) (state (s .words) (take (ss * TABLE) (s .entries))) n e in
     rw (q, take-append-drop (ss * TABLE) (s .entries)) refl

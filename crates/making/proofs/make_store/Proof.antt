@@ -1,13 +1,12 @@
 -- `make_store` meets its contract: a refusal is the first row that applies; an accepted making is `make-is`. Assumes nothing.
 use borrow.Author.Needs.{needs}
-use lib.ListN.{length}
-use mathlib.Core.Path.{_≡_, refl, sym, _∙_}
+use mathlib.Core.Path.{refl, sym, _∙_}
 use mathlib.Core.Bool.{Bool}
-use Prim.Native.Nat.{_*_}
-use Rattle.calls.specs.Numbers.{TABLE}
-use Rattle.layout.specs.Layout.{WORDS, blankReader}
+use Rattle.layout.specs.Layout.{blankReader}
+use Rattle.statement.specs.Machine.{state, given}
 use Rattle.publication_law.specs.Steps.{Versions}
-use Rattle.publication_law.specs.Calls.{making-clear, making-entries, make-is, make-refused}
+use Rattle.publication_law.specs.Clear.{MakingClear, making-unrefused}
+use Rattle.publication_law.specs.Calls.{make-is, make-refused}
 use Rattle.making.proofs.make_store.Statement.{statement}
 use Rattle.making.proofs.make_store.Tie as tie
 use Rattle.making.proofs.make_store.Reads as reads
@@ -20,15 +19,9 @@ use Rattle.making.proofs.first_refusal.Reads as first-refusal-reads
 some : Bool → Versions
 some large = record { tooLarge = λ v. large; isLast = λ v. large; wrongMark = λ m. large; markAt = λ v. v; beforeMark = λ m. m }
 
-long : (c : tie.Else1) → length (c .before .before .before .args .words .now) ≡ WORDS
+fits : (c : tie.Else1) → let a = c .before .before .before .args in MakingClear (some (a .large)) (given (a .readers) (a .publishers) (a .slots) (a .version)) (state (a .words .now) (a .entries .now))
 unfolding some
-long c = making-clear (some (c .before .before .before .args .large)) (c .before .before .before .args .words .now) (c .before .before .before .args .entries .now) (c .before .before .before .args .kind) (c .before .before .before .args .readers) (c .before .before .before .args .publishers) (c .before .before .before .args .slots) (c .before .before .before .args .version) (blankReader (c .before .before .before .args .published))
-    (sym (c .before .first-refusal .ensures (some (c .before .before .before .args .large)) (c .before .before .before .args .words .now) (c .before .before .before .args .entries .now) (c .before .before .before .args .version) refl refl refl) ∙ c .if1 .left)
-
-whole : (c : tie.Else1) → length (c .before .before .before .args .entries .now) ≡ c .before .before .before .args .slots * TABLE
-unfolding some
-whole c = making-entries (some (c .before .before .before .args .large)) (c .before .before .before .args .words .now) (c .before .before .before .args .entries .now) (c .before .before .before .args .kind) (c .before .before .before .args .readers) (c .before .before .before .args .publishers) (c .before .before .before .args .slots) (c .before .before .before .args .version) (blankReader (c .before .before .before .args .published))
-    (sym (c .before .first-refusal .ensures (some (c .before .before .before .args .large)) (c .before .before .before .args .words .now) (c .before .before .before .args .entries .now) (c .before .before .before .args .version) refl refl refl) ∙ c .if1 .left)
+fits c = making-unrefused _ _ _ (sym (c .before .first-refusal .ensures (some (c .before .before .before .args .large)) (c .before .before .before .args .words .now) (c .before .before .before .args .entries .now) (c .before .before .before .args .version) refl refl refl) ∙ c .if1 .left)
 
 first-refusal-requires : tie.Need-first-refusal-requires
 first-refusal-requires c κs = search needs
@@ -38,10 +31,10 @@ returns c = λ vs e. make-refused vs (c .before .before .before .args .words .no
     (c .before .first-refusal .ensures vs (c .before .before .before .args .words .now) (c .before .before .before .args .entries .now) (c .before .before .before .args .version) refl refl e)
 
 put-fresh-requires : tie.Need-put-fresh-requires
-put-fresh-requires c κs = long (c .before)
+put-fresh-requires c κs = fits (c .before) .long
 
 feather-requires : tie.Need-feather-requires
-feather-requires c κs = whole (c .before .before .before .before .before)
+feather-requires c κs = fits (c .before .before .before .before .before) .entries-are
 
 same-length : tie.Need-same-length
 same-length c = search needs
