@@ -5,16 +5,15 @@ use mathlib.Core.Bool.{true}
 use borrow.Author.Tests.{leb-false}
 use Rattle.calls.specs.declared.Call.the-variants.{Enter, Leave}
 use Rattle.calls.specs.declared.Reply.the-variants.{At, Left}
-use Rattle.calls.specs.Base.{upd}
-use Rattle.calls.specs.RowLaws.{clash, same}
+use Rattle.calls.specs.RowLaws.{clash}
 use Rattle.calls.specs.Events.{accepted}
 use Rattle.layout.specs.declared.Reader.{Reader}
-use Rattle.layout.specs.Layout.{readers, current, version, readerAt}
+use Rattle.layout.specs.Layout.{readers, current, version}
 use Rattle.statement.specs.Machine.{State, Outcome}
 use Rattle.publication_law.specs.Steps.{reader}
 use Rattle.publication_law.specs.Rules.{act, rows, step}
 use Rattle.publication_law.specs.Calls.{undamaged-fine}
-use Rattle.publication_law.specs.Moves.{reader-moves}
+use Rattle.publication_law.specs.Moves.{reader-moves, reader-written}
 use Rattle.publication_law.specs.Decide.{decided}
 use Rattle.grace_version_law.specs.Steps.{entered, leaving, rules}
 use Rattle.grace_version_law.specs.Calls.{published-of, onward-loads, onward-publishes, onward-loads-again, onward-publishes-second, onward-picks}
@@ -44,7 +43,7 @@ unfolding step
 new-enter-facts s r = decided (λ (o : Outcome). accepted (o .reply) ≡ true → EnterFacts s r o) (rows rules s (Enter r)) (act rules s (Enter r)) s refl
     (λ f _.
     let lt = leb-false (readers (s .words)) r (f .1 .0) in
-    let is = ap (λ (g : ℕ → Reader). g r) (reader-moves (undamaged-fine rules s (f .0)) r (entered s r) lt .readers-are) ∙ mine in record {
+    let is = reader-written (reader-moves (undamaged-fine rules s (f .0)) r (entered s r) lt) in record {
       reply-is = ap (λ (x : Reader). At (x .place)) (sym is);
       from-0 = λ e. is ∙ sym (onward-loads _ (current (s .words)) (reader s r) _ refl e);
       from-1 = λ e. is ∙ sym (onward-publishes (version (s .words)) (current (s .words)) (reader s r) e);
@@ -53,18 +52,12 @@ new-enter-facts s r = decided (λ (o : Outcome). accepted (o .reply) ≡ true �
       from-4 = λ e. is ∙ sym (onward-picks (version (s .words)) _ (reader s r) _ refl e);
     })
     (λ ok. clash (sym ok))
-  where
-    mine : upd (readerAt (s .words)) r (entered s r) r ≡ entered s r
-    mine = rw (same r) refl
 
 pub new-leave-facts : (s : State) (r : ℕ) → accepted (step rules s (Leave r) .reply) ≡ true → LeaveFacts s r (step rules s (Leave r))
 unfolding step
 new-leave-facts s r = decided (λ (o : Outcome). accepted (o .reply) ≡ true → LeaveFacts s r o) (rows rules s (Leave r)) (act rules s (Leave r)) s refl
     (λ f _. record {
       reply-is = refl;
-      record-is = ap (λ (g : ℕ → Reader). g r) (reader-moves (undamaged-fine rules s (f .0)) r (leaving (reader s r)) (leb-false (readers (s .words)) r (f .1 .0)) .readers-are) ∙ mine;
+      record-is = reader-written (reader-moves (undamaged-fine rules s (f .0)) r (leaving (reader s r)) (leb-false (readers (s .words)) r (f .1 .0)));
     })
     (λ ok. clash (sym ok))
-  where
-    mine : upd (readerAt (s .words)) r (leaving (reader s r)) r ≡ leaving (reader s r)
-    mine = rw (same r) refl
