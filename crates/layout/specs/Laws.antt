@@ -15,7 +15,8 @@ use Rattle.layout.specs.declared.Reader.{Reader}
 use Rattle.layout.specs.declared.Publisher.{Publisher}
 use Rattle.calls.specs.Base.{pick, upd}
 use Rattle.calls.specs.Numbers.{READERS-MAX, PUBLISHERS-MAX}
-use Rattle.layout.specs.Layout.{INDICATORS-AT, INDICATORS, indicator, withIndicator, KIND-AT, READERS-AT, PUBLISHERS-AT, SLOTS-AT, VERSION-AT, HEAD, READER-WORDS, FIRST-PUBLISHER, WORDS, readerWords, blankReader, noReader, noPublisher, putWords, readerRegion, publisherRegion, readerAt, publisherAt, withReader, withPublisher, withReaders, fresh}
+use Rattle.layout.specs.Records.{_place≔_, _first≔_, _second≔_, _published≔_, _picked≔_, _atPlace_, _held≔_, _walk≔_, _mark≔_, _next≔_, _looks≔_, _waits≔_}
+use Rattle.layout.specs.Layout.{INDICATORS-AT, INDICATORS, indicator, withIndicator, KIND-AT, READERS-AT, PUBLISHERS-AT, SLOTS-AT, VERSION-AT, HEAD, READER-WORDS, FIRST-PUBLISHER, WORDS, readerWords, publisherWords, blankReader, noReader, noPublisher, putWords, readerRegion, publisherRegion, readerAt, publisherAt, withReader, withPublisher, withReaders, fresh}
 use Rattle.layout.specs.Regions.{Exact, length-record, record-leaves, region-by, region-zero, region-set, record-put, record-back, regions-apart}
 
 -- Readers and publishers are read from their words, each from its own.
@@ -24,6 +25,24 @@ readers-exact = record { read = λ x. refl; written = λ f. refl }
 
 publishers-exact : Exact publisherRegion
 publishers-exact = record { read = λ x. refl; written = λ f. refl }
+
+-- To set a number of a record is to store one of its words.
+pub reader-set : (x : Reader) (n : ℕ)
+    → (readerWords (x place≔ n) ≡ set (readerWords x) 0 n)
+    × (readerWords (x first≔ n) ≡ set (readerWords x) 1 n)
+    × (readerWords (x second≔ n) ≡ set (readerWords x) 2 n)
+    × (readerWords (x published≔ n) ≡ set (readerWords x) 3 n)
+    × (readerWords (x picked≔ n) ≡ set (readerWords x) 4 n)
+reader-set x n = (refl, refl, refl, refl, refl)
+
+pub publisher-set : (y : Publisher) (n : ℕ)
+    → (publisherWords (y atPlace n) ≡ set (publisherWords y) 0 n)
+    × (publisherWords (y held≔ n) ≡ set (publisherWords y) 1 n)
+    × (publisherWords (y walk≔ (y .walk mark≔ n)) ≡ set (publisherWords y) 2 n)
+    × (publisherWords (y walk≔ (y .walk next≔ n)) ≡ set (publisherWords y) 3 n)
+    × (publisherWords (y walk≔ (y .walk looks≔ n)) ≡ set (publisherWords y) 4 n)
+    × (publisherWords (y walk≔ (y .walk waits≔ n)) ≡ set (publisherWords y) 5 n)
+publisher-set y n = (refl, refl, refl, refl, refl, refl)
 
 -- Lengths.
 pub length-reader : (w : List ℕ) (r : ℕ) (x : Reader) → length (withReader w r x) ≡ length w

@@ -5,8 +5,10 @@ use lib.ListN.{getD, set, replicate}
 use lib.Dec.{ltb}
 use Rattle.layout.specs.declared.Reader.{Reader}
 use Rattle.layout.specs.declared.Publisher.{Publisher}
+use Rattle.layout.specs.declared.Walk.{Walk}
 use Rattle.calls.specs.Base.{pick}
 use Rattle.calls.specs.Numbers.{READERS-MAX, PUBLISHERS-MAX, TABLE}
+use Rattle.layout.specs.Records.{_published≔_}
 
 -- The head.
 abbrev pub KIND-AT : ℕ
@@ -110,9 +112,12 @@ noReader = readerOf (λ i. 0)
 abbrev pub noPublisher : Publisher
 noPublisher = publisherOf (λ i. 0)
 
+abbrev pub noWalk : Walk
+noWalk = noPublisher .walk
+
 -- A reader of which only the published version is not 0.
 abbrev pub blankReader : ℕ → Reader
-blankReader v = record { place = 0; first = 0; second = 0; published = v; picked = 0 }
+blankReader v = noReader published≔ v
 
 -- The words with a list of words put at b + i and on.
 abbrev pub putWords : List ℕ → ℕ → ℕ → List ℕ → List ℕ
