@@ -9,6 +9,7 @@ use Rattle.calls.specs.RowLaws.{clash}
 use Rattle.calls.specs.Events.{accepted}
 use Rattle.layout.specs.declared.Reader.{Reader}
 use Rattle.layout.specs.Layout.{readers, current, version}
+use Rattle.layout.specs.Records.{_place≔_, _first≔_, _second≔_, _published≔_, _picked≔_}
 use Rattle.statement.specs.Machine.{State, Outcome}
 use Rattle.publication_law.specs.Steps.{reader}
 use Rattle.publication_law.specs.Rules.{act, rows, step}
@@ -23,20 +24,20 @@ use Rattle.grace_version_law.specs.Calls.{published-of, onward-loads, on
 pub record EnterFacts (s : State) (r : ℕ) (o : Outcome) : Type 0 where
   pub reply-is : o .reply ≡ At (reader (o .after) r .place)
   pub from-0 : reader s r .place ≡ 0
-      → reader (o .after) r ≡ record { place = 1; first = version (s .words); second = reader s r .second; published = reader s r .published; picked = reader s r .picked }
+      → reader (o .after) r ≡ reader s r place≔ 1 first≔ version (s .words)
   pub from-1 : reader s r .place ≡ 1
-      → reader (o .after) r ≡ record { place = 2; first = reader s r .first; second = reader s r .second; published = reader s r .first; picked = reader s r .picked }
+      → reader (o .after) r ≡ reader s r place≔ 2 published≔ reader s r .first
   pub from-2 : reader s r .place ≡ 2
-      → reader (o .after) r ≡ record { place = 3; first = reader s r .first; second = version (s .words); published = reader s r .published; picked = reader s r .picked }
+      → reader (o .after) r ≡ reader s r place≔ 3 second≔ version (s .words)
   pub from-3 : reader s r .place ≡ 3
-      → reader (o .after) r ≡ record { place = 4; first = reader s r .first; second = reader s r .second; published = reader s r .second; picked = reader s r .picked }
+      → reader (o .after) r ≡ reader s r place≔ 4 published≔ reader s r .second
   pub from-4 : reader s r .place ≡ 4
-      → reader (o .after) r ≡ record { place = 5; first = reader s r .first; second = reader s r .second; published = reader s r .published; picked = current (s .words) }
+      → reader (o .after) r ≡ reader s r place≔ 5 picked≔ current (s .words)
 
 -- LEAVE goes to 0 and publishes NOT_READING.
 pub record LeaveFacts (s : State) (r : ℕ) (o : Outcome) : Type 0 where
   pub reply-is : o .reply ≡ Left
-  pub record-is : reader (o .after) r ≡ record { place = 0; first = reader s r .first; second = reader s r .second; published = 18446744073709551615; picked = reader s r .picked }
+  pub record-is : reader (o .after) r ≡ reader s r place≔ 0 published≔ 18446744073709551615
 
 pub new-enter-facts : (s : State) (r : ℕ) → accepted (step rules s (Enter r) .reply) ≡ true → EnterFacts s r (step rules s (Enter r))
 unfolding step

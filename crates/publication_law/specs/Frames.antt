@@ -19,10 +19,11 @@ use Rattle.layout.specs.declared.Reader.{Reader}
 use Rattle.layout.specs.declared.Publisher.{Publisher}
 use Rattle.layout.specs.declared.Progress.{Progress}
 use Rattle.layout.specs.Layout.{HEAD, CURRENT-AT, VERSION-AT, RELEASES-AT, publishers, readerWords, readerAt, publisherAt, withPublisher}
+use Rattle.layout.specs.Records.{_atPlace_}
 use Rattle.layout.specs.Laws.{head-publisher}
 use Rattle.statement.specs.Machine.{State, Outcome}
 use Rattle.statement.specs.Frame.{readerNamed, publisherNamed, headNamed, One, PlaceAndOne, HeldAndWalkStay, OwnStays, Framed}
-use Rattle.publication_law.specs.Steps.{Versions, publisher, atPlace, claim, claimTests, write, writeTests, swap, swapTests, sync, syncTests, raise, walk, walked, release, releaseTests, oneMore}
+use Rattle.publication_law.specs.Steps.{Versions, publisher, claim, claimTests, write, writeTests, swap, swapTests, sync, syncTests, raise, walk, walked, release, releaseTests, oneMore}
 use Rattle.publication_law.specs.Damage.{Kind}
 use Rattle.publication_law.specs.DamageLaws.{Fine}
 use Rattle.publication_law.specs.Decide.{raise-split}
@@ -87,7 +88,7 @@ reader-framed b c w w′ r x m e named stays own = record {
     at-head false d k l n = m .head k (ltb-false RELEASES-AT k n)
 
 -- A publisher of which only the place is new.
-place-only : (y y′ : Publisher) (n : ℕ) → y′ ≡ atPlace y n → HeldAndWalkStay y y′
+place-only : (y y′ : Publisher) (n : ℕ) → y′ ≡ y atPlace n → HeldAndWalkStay y y′
 place-only y y′ n e = record { held = ap (λ (u : Publisher). u .held) e; walk = ap (λ (u : Publisher). u .walk) e }
 
 module _ (b : Bool) (K : Kind) (s : State) (f : Fine K s) where

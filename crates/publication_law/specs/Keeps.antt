@@ -26,11 +26,12 @@ use Rattle.layout.specs.declared.Reader.{Reader}
 use Rattle.layout.specs.declared.Publisher.{Publisher}
 use Rattle.layout.specs.declared.Progress.{Progress}
 use Rattle.layout.specs.Layout.{HEAD, KIND-AT, READERS-AT, PUBLISHERS-AT, SLOTS-AT, CURRENT-AT, VERSION-AT, RELEASES-AT, readers, publishers, slots, current, version, releases, readerAt, publisherAt, entryAt, fresh, noReader, noPublisher}
+use Rattle.layout.specs.Records.{_atPlace_, _held≔_, _walk≔_}
 use Rattle.layout.specs.Laws.{fresh-long, fresh-head, fresh-reader, fresh-publisher}
 use Rattle.statement.specs.Machine.{State, state, Outcome, Given, heldSlot}
 use Rattle.statement.specs.Demand3.{Slots, Picks}
 use Rattle.statement.specs.Kept.{Ghost, ghost₀, advance}
-use Rattle.publication_law.specs.Steps.{reader, publisher, atPlace, lookTests, claimTests, claim, inUse, writeTests, write, swapTests, swap, syncTests, sync, newWalk, raise, placeAfter, walked, walk, releaseTests, release, oneMore, makingTests, made}
+use Rattle.publication_law.specs.Steps.{reader, publisher, lookTests, claimTests, claim, inUse, writeTests, write, swapTests, swap, syncTests, sync, newWalk, raise, placeAfter, walked, walk, releaseTests, release, oneMore, makingTests, made}
 use Rattle.publication_law.specs.Damage.{Kind}
 use Rattle.publication_law.specs.DamageLaws.{Fine, PublisherFine}
 use Rattle.publication_law.specs.KindLaw.{KindLaw, fine-publisher, publisher-undamaged}
@@ -79,7 +80,7 @@ module _ (K : Kind) (law : KindLaw K) (z : Given) (g : Ghost) (s : State) (i : I
         (rw out (place-tallied _ _ _ _ _ (i .tallied) r 0))
 
   pub claim-keeps : (e : Bool) (p x : ℕ) → AllClear (claimTests e s p x)
-      → K .publisherDamaged (readers (s .words)) (slots (s .words)) (record { place = 1; held = x; walk = publisher s p .walk }) ≡ false
+      → K .publisherDamaged (readers (s .words)) (slots (s .words)) (publisher s p atPlace 1 held≔ x) ≡ false
       → Invariant K z (advance g (Claim p x) (Claimed x)) (claim s p x .after)
   claim-keeps e p x f ok =
       let lt = leb-false (publishers (s .words)) p (f .0) in
@@ -97,7 +98,7 @@ module _ (K : Kind) (law : KindLaw K) (z : Given) (g : Ghost) (s : State) (i : I
       safe-core _ _ _ _ _ _ _ _ _ _ _ (i .core) r x d (free-core _ _ _ _ _ _ _ _ _ _ _ (i .core) x (not-current x free-slot) (unheld x free-slot))
 
   pub write-keeps : (p : ℕ) (v : ℤ) → AllClear (writeTests s p v)
-      → K .publisherDamaged (readers (s .words)) (slots (s .words)) (atPlace (publisher s p) (publisher s p .place + 1)) ≡ false
+      → K .publisherDamaged (readers (s .words)) (slots (s .words)) (publisher s p atPlace (publisher s p .place + 1)) ≡ false
       → Invariant K z (advance g (Write p v) (Written (publisher s p .place))) (write s p v .after)
   write-keeps p v f ok =
       let lt = leb-false (publishers (s .words)) p (f .0) in
@@ -116,7 +117,7 @@ module _ (K : Kind) (law : KindLaw K) (z : Given) (g : Ghost) (s : State) (i : I
       (λ l. absurd (omega arith)) (λ l. refl))
 
   pub swap-keeps : (p : ℕ) → AllClear (swapTests s p)
-      → K .publisherDamaged (readers (s .words)) (slots (s .words)) (record { place = 34; held = current (s .words); walk = publisher s p .walk }) ≡ false
+      → K .publisherDamaged (readers (s .words)) (slots (s .words)) (publisher s p atPlace 34 held≔ current (s .words)) ≡ false
       → Invariant K z (advance g (Swap p) (Swapped (current (s .words)))) (swap s p .after)
   swap-keeps p f ok =
       let lt = leb-false (publishers (s .words)) p (f .0) in
@@ -129,12 +130,12 @@ module _ (K : Kind) (law : KindLaw K) (z : Given) (g : Ghost) (s : State) (i : I
       (phase-tallied _ _ _ _ _ (i .tallied) p 34 _ swapped refl (omega arith))
 
   pub sync-keeps : (p : ℕ) → AllClear (syncTests (K .versions) s p)
-      → law .own (readers (s .words)) (record { place = 35; held = publisher s p .held; walk = newWalk (K .versions .markAt (version (s .words))) }) ≡ false
+      → law .own (readers (s .words)) (publisher s p atPlace 35 walk≔ newWalk (K .versions .markAt (version (s .words)))) ≡ false
       → Invariant K z (advance g (Sync p) (Synced (K .versions .markAt (version (s .words))))) (sync (K .versions) s p .after)
   sync-keeps p f clear =
       let lt = leb-false (publishers (s .words)) p (f .0) in
       let at34 = eqb-true (publisher s p .place) 34 (not-false _ (f .1 .0)) in
-      let ok = publisher-undamaged law (readers (s .words)) (slots (s .words)) (record { place = 35; held = publisher s p .held; walk = newWalk (K .versions .markAt (version (s .words))) }) clear (record {
+      let ok = publisher-undamaged law (readers (s .words)) (slots (s .words)) (publisher s p atPlace 35 walk≔ newWalk (K .versions .markAt (version (s .words)))) clear (record {
         held-below = λ _. publisher-fine p lt .held-below (omega arith);
         mark-fits = λ _. law .versions-law .mark-fits (version (s .words)) (i .fine .head .version-fits) (f .1 .1 .0);
         waits-low = λ _. omega arith;
@@ -156,11 +157,11 @@ module _ (K : Kind) (law : KindLaw K) (z : Given) (g : Ghost) (s : State) (i : I
     raise-tallied : Tallied (withPhase (g .tally) p raised) (λ j. reader s j .place) (upd (λ q. publisher s q .place) p 37) (upd (λ q. publisher s q .walk .waits) p (publisher s p .walk .waits)) (releases (s .words))
     raise-tallied = late-tallied _ _ _ _ _ (i .tallied) p 37 _ raised refl low refl
 
-    pub raise-keeps : law .own (readers (s .words)) (atPlace (publisher s p) 37) ≡ false
+    pub raise-keeps : law .own (readers (s .words)) (publisher s p atPlace 37) ≡ false
         → Invariant K z (advance g (Raise p) (raise (K .versions) s p .reply)) (raise (K .versions) s p .after)
     raise-keeps clear =
         let pf = publisher-fine p lt in
-        let ok = publisher-undamaged law (readers (s .words)) (slots (s .words)) (atPlace (publisher s p) 37) clear (record { held-below = λ _. pf .held-below (omega arith); mark-fits = λ _. pf .mark-fits low; waits-low = λ _. pf .waits-low low }) in
+        let ok = publisher-undamaged law (readers (s .words)) (slots (s .words)) (publisher s p atPlace 37) clear (record { held-below = λ _. pf .held-below (omega arith); mark-fits = λ _. pf .mark-fits low; waits-low = λ _. pf .waits-low low }) in
         raise-split (λ (o : Outcome). Invariant K z (advance g (Raise p) (o .reply)) (o .after)) (K .versions) s p
         (λ e. publisher-moved K z g s i _ _ _ p _ _ _ _ (publisher-moves-head (i .fine) p _ lt VERSION-AT (publisher s p .walk .mark) (omega arith) (omega arith)) refl
         (i .fine .head .current-below) (law .versions-law .raised-fits _ (publisher-fine p lt .mark-fits low)) ok raise-core raise-grace raise-tallied)
@@ -200,7 +201,7 @@ module _ (K : Kind) (law : KindLaw K) (z : Given) (g : Ghost) (s : State) (i : I
         (walk-tallied (k .reply) _ ws)
 
   pub release-keeps : (p : ℕ) → AllClear (releaseTests s p)
-      → K .publisherDamaged (readers (s .words)) (slots (s .words)) (atPlace (publisher s p) 0) ≡ false
+      → K .publisherDamaged (readers (s .words)) (slots (s .words)) (publisher s p atPlace 0) ≡ false
       → Invariant K z (advance g (Release p) (Freed (publisher s p .held) (oneMore s))) (release s p .after)
   release-keeps p f ok =
       let lt = leb-false (publishers (s .words)) p (f .0) in

@@ -31,13 +31,14 @@ use Rattle.calls.specs.Tally.Phase.{idle, writing, swapped, returned}
 use Rattle.layout.specs.declared.Reader.{Reader}
 use Rattle.layout.specs.declared.Publisher.{Publisher}
 use Rattle.layout.specs.Layout.{HEAD, READERS-AT, PUBLISHERS-AT, SLOTS-AT, CURRENT-AT, VERSION-AT, RELEASES-AT, readers, publishers, slots, current, version, blankReader, noPublisher}
+use Rattle.layout.specs.Records.{_atPlace_, _held≔_}
 use Rattle.layout.specs.Laws.{publisher-back, fresh-head, fresh-long, fresh-indicator, fresh-reader, fresh-publisher}
 use Rattle.statement.specs.Machine.{State, state, Outcome, outcome, Given, Fresh, events, afterAll}
 use Rattle.statement.specs.Demand3.{Demand3}
 use Rattle.statement.specs.Frame.{PlaceAndOne, LeaveStays, Framed, nextEntry, Writes, Frame}
 use Rattle.statement.specs.Companions.{Traits, IsFresh, MakesFresh, MakingAccepts, RefusedLeaves, InTurn, StateCompanions, Companions}
 use Rattle.statement.specs.Kept.{Ghost, ghost₀, advance, next, nextAll, Back, Kept, kept-after, demand3, companions}
-use Rattle.publication_law.specs.Steps.{reader, publisher, atPlace, anotherBusy, enterTests, leaveTests, syncTests, sync, raise, walk, oneMore, makingTests, made}
+use Rattle.publication_law.specs.Steps.{reader, publisher, anotherBusy, enterTests, leaveTests, syncTests, sync, raise, walk, oneMore, makingTests, made}
 use Rattle.publication_law.specs.Damage.{Kind, sharedDamage}
 use Rattle.publication_law.specs.Rules.{Rules, damaged, tests, act, rows, step, making, machine}
 use Rattle.publication_law.specs.DamageLaws.{Fine, fine-to, publisher-below}
@@ -144,7 +145,7 @@ module _ (R : Rules) (T : Traits) (L : Lawful R T) where
     claim-kept : (p x : ℕ) → AllClear (tests R s (Claim p x)) → After (Claim p x) (act R s (Claim p x))
     unfolding After
     claim-kept p x f =
-        let y : Publisher = record { place = 1; held = x; walk = publisher s p .walk } in record {
+        let y : Publisher = publisher s p atPlace 1 held≔ x in record {
           shared = claim-keeps (R .kind) (L .kind-law) z g s (i .shared) (R .exclusive) p x f (early-fits (L .kind-law) (readers (s .words)) (slots (s .words)) y (omega arith) (λ _. leb-false _ _ (f .1 .0)));
           own = L .early-own g _ s _ _ p y _ _ (i .own) refl (publisher-moves (i .shared .fine) p y (leb-false _ _ (f .0))) refl (omega arith);
         }
@@ -154,7 +155,7 @@ module _ (R : Rules) (T : Traits) (L : Lawful R T) where
     write-kept p v f =
         let lt : p < publishers (s .words) = leb-false _ _ (f .0) in
         let range = within 1 32 (publisher s p .place) (f .1 .1 .0) in
-        let y : Publisher = atPlace (publisher s p) (publisher s p .place + 1) in
+        let y : Publisher = publisher s p atPlace (publisher s p .place + 1) in
         let low-now : publisher s p .place + 1 ≤ 34 = omega (arith, range .1) in record {
           shared = write-keeps (R .kind) (L .kind-law) z g s (i .shared) p v f
               (early-fits (L .kind-law) (readers (s .words)) (slots (s .words)) y low-now (λ _. publisher-fine (R .kind) (L .kind-law) z g s (i .shared) p lt .held-below (range .0)));
@@ -164,7 +165,7 @@ module _ (R : Rules) (T : Traits) (L : Lawful R T) where
     swap-kept : (p : ℕ) → AllClear (tests R s (Swap p)) → After (Swap p) (act R s (Swap p))
     unfolding After
     swap-kept p f =
-        let y : Publisher = record { place = 34; held = current (s .words); walk = publisher s p .walk } in record {
+        let y : Publisher = publisher s p atPlace 34 held≔ current (s .words) in record {
           shared = swap-keeps (R .kind) (L .kind-law) z g s (i .shared) p f (early-fits (L .kind-law) (readers (s .words)) (slots (s .words)) y (omega arith) (λ _. i .shared .fine .head .current-below));
           own = L .early-own g _ s _ _ p y _ _ (i .own) refl
               (publisher-moves-head (i .shared .fine) p y (leb-false _ _ (f .0)) CURRENT-AT (publisher s p .held) (omega arith) (omega arith)) refl (omega arith);
@@ -173,7 +174,7 @@ module _ (R : Rules) (T : Traits) (L : Lawful R T) where
     release-kept : (p : ℕ) → AllClear (tests R s (Release p)) → After (Release p) (act R s (Release p))
     unfolding After
     release-kept p f =
-        let y : Publisher = atPlace (publisher s p) 0 in record {
+        let y : Publisher = publisher s p atPlace 0 in record {
           shared = release-keeps (R .kind) (L .kind-law) z g s (i .shared) p f (early-fits (L .kind-law) (readers (s .words)) (slots (s .words)) y (omega arith) (λ l. absurd (omega arith)));
           own = L .early-own g _ s _ _ p y _ _ (i .own) refl
               (publisher-moves-head (i .shared .fine) p y (leb-false _ _ (f .0)) RELEASES-AT (oneMore s) (omega arith) (omega arith)) refl (omega arith);

@@ -14,6 +14,7 @@ use Rattle.calls.specs.RowLaws.{clash}
 use Rattle.calls.specs.Events.{accepted}
 use Rattle.layout.specs.declared.Reader.{Reader}
 use Rattle.layout.specs.Layout.{HEAD, readers, current, version, indicator, withReader, withIndicator}
+use Rattle.layout.specs.Records.{_place≔_, _first≔_, _picked≔_}
 use Rattle.layout.specs.Laws.{indicator-reader}
 use Rattle.statement.specs.Machine.{State, Outcome}
 use Rattle.publication_law.specs.Steps.{reader}
@@ -30,17 +31,17 @@ use Rattle.two_phase_law.specs.Calls.{onward-loads, onward-arrives, onwa
 pub record EnterFacts (s : State) (r : ℕ) (o : Outcome) : Type 0 where
   pub reply-is : o .reply ≡ At (reader (o .after) r .place)
   pub from-0 : reader s r .place ≡ 0
-      → reader (o .after) r ≡ record { place = 1; first = version (s .words); second = reader s r .second; published = reader s r .published; picked = reader s r .picked }
+      → reader (o .after) r ≡ reader s r place≔ 1 first≔ version (s .words)
   pub from-1 : reader s r .place ≡ 1
-      → reader (o .after) r ≡ record { place = 4; first = reader s r .first; second = reader s r .second; published = reader s r .published; picked = reader s r .picked }
+      → reader (o .after) r ≡ reader s r place≔ 4
   pub from-4 : reader s r .place ≡ 4
-      → reader (o .after) r ≡ record { place = 5; first = reader s r .first; second = reader s r .second; published = reader s r .published; picked = current (s .words) }
+      → reader (o .after) r ≡ reader s r place≔ 5 picked≔ current (s .words)
   pub counts : (i : ℕ) → indicator (o .after .words) i ≡ pick (eqb (reader s r .place) 1 && eqb (reader s r .first % 2) i) (indicator (s .words) i + 1) (indicator (s .words) i)
 
 -- LEAVE goes to 0 and takes one from the indicator that r added to.
 pub record LeaveFacts (s : State) (r : ℕ) (o : Outcome) : Type 0 where
   pub reply-is : o .reply ≡ Left
-  pub record-is : reader (o .after) r ≡ record { place = 0; first = reader s r .first; second = reader s r .second; published = reader s r .published; picked = reader s r .picked }
+  pub record-is : reader (o .after) r ≡ reader s r place≔ 0
   pub counts : (i : ℕ) → indicator (o .after .words) i ≡ pick (eqb (reader s r .first % 2) i) (indicator (s .words) i - 1) (indicator (s .words) i)
 
 module _ (s : State) (fine : Fine kind s) (r : ℕ) where
