@@ -19,6 +19,7 @@ use Rattle.layout.specs.declared.Publisher.{Publisher}
 use Rattle.layout.specs.declared.Walk.{Walk}
 use Rattle.layout.specs.declared.Progress.{Progress}
 use Rattle.layout.specs.Layout.{readers, publishers, slots, current, version, readerAt, withReader}
+use Rattle.layout.specs.Records.{_place≔_, _first≔_, _second≔_, _published≔_, _picked≔_}
 use Rattle.statement.specs.Machine.{State, state, outcome}
 use Rattle.publication_law.specs.Steps.{reader, publisher}
 use Rattle.publication_law.specs.Looks.{withLook}
@@ -98,30 +99,29 @@ past-enter (suc (suc (suc (suc (suc n))))) a b c d e = omega arith
 
 -- A reader one place on, by its place.
 module _ (v cur : ℕ) (x : Reader) where
-  pub onward-loads : (n : ℕ) → n ≡ v → x .place ≡ 0 → record { place = 1; first = n; second = x .second; published = x .published; picked = x .picked } ≡ onward v cur x
+  pub onward-loads : (n : ℕ) → n ≡ v → x .place ≡ 0 → (x place≔ 1 first≔ n) ≡ onward v cur x
   unfolding onward
   onward-loads n d e = rw (d, e) refl
 
-  pub onward-publishes : x .place ≡ 1 → record { place = 2; first = x .first; second = x .second; published = x .first; picked = x .picked } ≡ onward v cur x
+  pub onward-publishes : x .place ≡ 1 → (x place≔ 2 published≔ x .first) ≡ onward v cur x
   unfolding onward
   onward-publishes e = rw e refl
 
-  pub onward-loads-again : (n : ℕ) → n ≡ v → x .place ≡ 2 → record { place = 3; first = x .first; second = n; published = x .published; picked = x .picked } ≡ onward v cur x
+  pub onward-loads-again : (n : ℕ) → n ≡ v → x .place ≡ 2 → (x place≔ 3 second≔ n) ≡ onward v cur x
   unfolding onward
   onward-loads-again n d e = rw (d, e) refl
 
   -- Where the two versions are equal, the second is published already.
-  pub onward-publishes-second : x .place ≡ 3 → x .published ≡ x .first → record { place = 4; first = x .first; second = x .second; published = x .second; picked = x .picked } ≡ onward v cur x
+  pub onward-publishes-second : x .place ≡ 3 → x .published ≡ x .first → (x place≔ 4 published≔ x .second) ≡ onward v cur x
   unfolding onward
   onward-publishes-second e f = rw (e, f) (go (eqb (x .first) (x .second)) refl)
     where
       go : (b : Bool) → eqb (x .first) (x .second) ≡ b
-          → _≡_ {A = Reader} (record { place = 4; first = x .first; second = x .second; published = x .second; picked = x .picked })
-          (record { place = 4; first = x .first; second = x .second; published = pick b (x .first) (x .second); picked = x .picked })
+          → (x place≔ 4 published≔ x .second) ≡ (x place≔ 4 published≔ pick b (x .first) (x .second))
       go true d = rw (eqb-true (x .first) (x .second) d) refl
       go false d = refl
 
-  pub onward-picks : (n : ℕ) → n ≡ cur → x .place ≡ 4 → record { place = 5; first = x .first; second = x .second; published = x .published; picked = n } ≡ onward v cur x
+  pub onward-picks : (n : ℕ) → n ≡ cur → x .place ≡ 4 → (x place≔ 5 picked≔ n) ≡ onward v cur x
   unfolding onward
   onward-picks n d e = rw (d, e) refl
 

@@ -5,16 +5,16 @@ use mathlib.Core.Bool.{true}
 use borrow.Author.Tests.{leb-false}
 use Rattle.calls.specs.declared.Call.the-variants.{Enter, Leave}
 use Rattle.calls.specs.declared.Reply.the-variants.{At, Left}
-use Rattle.calls.specs.Base.{upd}
-use Rattle.calls.specs.RowLaws.{clash, same}
+use Rattle.calls.specs.RowLaws.{clash}
 use Rattle.calls.specs.Events.{accepted}
 use Rattle.layout.specs.declared.Reader.{Reader}
-use Rattle.layout.specs.Layout.{readers, current, version, readerAt}
+use Rattle.layout.specs.Layout.{readers, current, version}
+use Rattle.layout.specs.Records.{_place≔_, _first≔_, _second≔_, _published≔_, _picked≔_}
 use Rattle.statement.specs.Machine.{State, Outcome}
 use Rattle.publication_law.specs.Steps.{reader}
 use Rattle.publication_law.specs.Table.{rows, step}
 use Rattle.publication_law.specs.Calls.{undamaged-fine}
-use Rattle.publication_law.specs.Moves.{reader-moves}
+use Rattle.publication_law.specs.Moves.{reader-moves, reader-written}
 use Rattle.publication_law.specs.Decide.{decided}
 use Rattle.grace_version_law.specs.Steps.{entered, leaving, rules}
 use Rattle.grace_version_law.specs.Calls.{published-of, onward-loads, onward-publishes, onward-loads-again, onward-publishes-second, onward-picks}
@@ -24,27 +24,27 @@ use Rattle.grace_version_law.specs.Calls.{published-of, onward-loads, on
 pub record EnterFacts (s : State) (r : ℕ) (o : Outcome) : Type 0 where
   pub reply-is : o .reply ≡ At (reader (o .after) r .place)
   pub from-0 : reader s r .place ≡ 0
-      → reader (o .after) r ≡ record { place = 1; first = version (s .words); second = reader s r .second; published = reader s r .published; picked = reader s r .picked }
+      → reader (o .after) r ≡ reader s r place≔ 1 first≔ version (s .words)
   pub from-1 : reader s r .place ≡ 1
-      → reader (o .after) r ≡ record { place = 2; first = reader s r .first; second = reader s r .second; published = reader s r .first; picked = reader s r .picked }
+      → reader (o .after) r ≡ reader s r place≔ 2 published≔ reader s r .first
   pub from-2 : reader s r .place ≡ 2
-      → reader (o .after) r ≡ record { place = 3; first = reader s r .first; second = version (s .words); published = reader s r .published; picked = reader s r .picked }
+      → reader (o .after) r ≡ reader s r place≔ 3 second≔ version (s .words)
   pub from-3 : reader s r .place ≡ 3
-      → reader (o .after) r ≡ record { place = 4; first = reader s r .first; second = reader s r .second; published = reader s r .second; picked = reader s r .picked }
+      → reader (o .after) r ≡ reader s r place≔ 4 published≔ reader s r .second
   pub from-4 : reader s r .place ≡ 4
-      → reader (o .after) r ≡ record { place = 5; first = reader s r .first; second = reader s r .second; published = reader s r .published; picked = current (s .words) }
+      → reader (o .after) r ≡ reader s r place≔ 5 picked≔ current (s .words)
 
 -- LEAVE goes to 0 and publishes NOT_READING.
 pub record LeaveFacts (s : State) (r : ℕ) (o : Outcome) : Type 0 where
   pub reply-is : o .reply ≡ Left
-  pub record-is : reader (o .after) r ≡ record { place = 0; first = reader s r .first; second = reader s r .second; published = 18446744073709551615; picked = reader s r .picked }
+  pub record-is : reader (o .after) r ≡ reader s r place≔ 0 published≔ 18446744073709551615
 
 pub new-enter-facts : (s : State) (r : ℕ) → accepted (step rules s (Enter r) .reply) ≡ true → EnterFacts s r (step rules s (Enter r))
 unfolding step
 new-enter-facts s r = decided (λ (o : Outcome). accepted (o .reply) ≡ true → EnterFacts s r o) (rows rules s (Enter r)) (rules .act s (Enter r)) s refl
     (λ f _.
     let lt = leb-false (readers (s .words)) r (f .1 .0) in
-    let is = ap (λ (g : ℕ → Reader). g r) (reader-moves (undamaged-fine rules s (f .0)) r (entered s r) lt .readers-are) ∙ mine in record {
+    let is = reader-written (reader-moves (undamaged-fine rules s (f .0)) r (entered s r) lt) in record {
       reply-is = ap (λ (x : Reader). At (x .place)) (sym is);
       from-0 = λ e. is ∙ sym (onward-loads _ (current (s .words)) (reader s r) _ refl e);
       from-1 = λ e. is ∙ sym (onward-publishes (version (s .words)) (current (s .words)) (reader s r) e);
@@ -53,18 +53,12 @@ new-enter-facts s r = decided (λ (o : Outcome). accepted (o .reply) ≡ true �
       from-4 = λ e. is ∙ sym (onward-picks (version (s .words)) _ (reader s r) _ refl e);
     })
     (λ ok. clash (sym ok))
-  where
-    mine : upd (readerAt (s .words)) r (entered s r) r ≡ entered s r
-    mine = rw (same r) refl
 
 pub new-leave-facts : (s : State) (r : ℕ) → accepted (step rules s (Leave r) .reply) ≡ true → LeaveFacts s r (step rules s (Leave r))
 unfolding step
 new-leave-facts s r = decided (λ (o : Outcome). accepted (o .reply) ≡ true → LeaveFacts s r o) (rows rules s (Leave r)) (rules .act s (Leave r)) s refl
     (λ f _. record {
       reply-is = refl;
-      record-is = ap (λ (g : ℕ → Reader). g r) (reader-moves (undamaged-fine rules s (f .0)) r (leaving (reader s r)) (leb-false (readers (s .words)) r (f .1 .0)) .readers-are) ∙ mine;
+      record-is = reader-written (reader-moves (undamaged-fine rules s (f .0)) r (leaving (reader s r)) (leb-false (readers (s .words)) r (f .1 .0)));
     })
     (λ ok. clash (sym ok))
-  where
-    mine : upd (readerAt (s .words)) r (leaving (reader s r)) r ≡ leaving (reader s r)
-    mine = rw (same r) refl

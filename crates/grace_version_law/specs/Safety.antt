@@ -21,12 +21,13 @@ use Rattle.layout.specs.declared.Reader.{Reader}
 use Rattle.layout.specs.declared.Publisher.{Publisher}
 use Rattle.layout.specs.declared.Walk.{Walk as WalkNumbers}
 use Rattle.layout.specs.Layout.{READERS-AT, readers, publishers, slots, current, version, readerAt, withReader}
+use Rattle.layout.specs.Records.{_place≔_, _atPlace_, _walk≔_}
 use Rattle.layout.specs.Laws.{head-reader, fresh-head, fresh-reader}
 use Rattle.statement.specs.Machine.{State, state, Given, Fresh, events, afterAll}
 use Rattle.statement.specs.Frame.{PlaceAndOne}
 use Rattle.statement.specs.Kept.{Ghost, Back}
 use Rattle.statement.specs.Kept as kept
-use Rattle.publication_law.specs.Steps.{reader, publisher, atPlace, enterTests, leaveTests, syncTests, sync, raise, walk, newWalk, placeAfter, made}
+use Rattle.publication_law.specs.Steps.{reader, publisher, enterTests, leaveTests, syncTests, sync, raise, walk, newWalk, placeAfter, made}
 use Rattle.publication_law.specs.Damage.{publisherRows}
 use Rattle.publication_law.specs.Core.{Onward}
 use Rattle.publication_law.specs.Core.Onward.{stays-out, opens, picks}
@@ -91,58 +92,58 @@ detector = record {
 
 -- ENTER, by the place.
 module _ (ver cur : ℕ) where
-  onward-shown : (n r pl f s u k : ℕ) → pl ≤ 4 → Shown ver n r (record { place = pl; first = f; second = s; published = u; picked = k })
-      → Shown ver n r (onward ver cur (record { place = pl; first = f; second = s; published = u; picked = k }))
+  onward-shown : (n r : ℕ) (x : Reader) (pl : ℕ) → pl ≤ 4 → Shown ver n r (x place≔ pl)
+      → Shown ver n r (onward ver cur (x place≔ pl))
   unfolding onward
-  onward-shown n r zero f s u k l o = record { first-low = omega arith; second-low = o .second-low; shown = λ q. absurd (omega arith); out = λ rn q. o .out rn (omega arith) }
-  onward-shown n r (suc zero) f s u k l o = record { first-low = o .first-low; second-low = o .second-low; shown = λ q. o .first-low; out = λ rn q. absurd (omega arith) }
-  onward-shown n r (suc (suc zero)) f s u k l o = record { first-low = o .first-low; second-low = omega arith; shown = λ q. o .shown (omega arith); out = λ rn q. absurd (omega arith) }
-  onward-shown n r (suc (suc (suc zero))) f s u k l o = record {
+  onward-shown n r x zero l o = record { first-low = omega arith; second-low = o .second-low; shown = λ q. absurd (omega arith); out = λ rn q. o .out rn (omega arith) }
+  onward-shown n r x (suc zero) l o = record { first-low = o .first-low; second-low = o .second-low; shown = λ q. o .first-low; out = λ rn q. absurd (omega arith) }
+  onward-shown n r x (suc (suc zero)) l o = record { first-low = o .first-low; second-low = omega arith; shown = λ q. o .shown (omega arith); out = λ rn q. absurd (omega arith) }
+  onward-shown n r x (suc (suc (suc zero))) l o = record {
     first-low = o .first-low;
     second-low = o .second-low;
-    shown = λ q. pick-split (λ (v : ℕ). v ≤ ver) (eqb f s) (λ _. o .shown (omega arith)) (λ _. o .second-low);
+    shown = λ q. pick-split (λ (v : ℕ). v ≤ ver) (eqb (x .first) (x .second)) (λ _. o .shown (omega arith)) (λ _. o .second-low);
     out = λ rn q. absurd (omega arith);
   }
-  onward-shown n r (suc (suc (suc (suc zero)))) f s u k l o = record { first-low = o .first-low; second-low = o .second-low; shown = λ q. o .shown (omega arith); out = λ rn q. absurd (omega arith) }
-  onward-shown n r (suc (suc (suc (suc (suc pl))))) f s u k l o = absurd (omega arith)
+  onward-shown n r x (suc (suc (suc (suc zero)))) l o = record { first-low = o .first-low; second-low = o .second-low; shown = λ q. o .shown (omega arith); out = λ rn q. absurd (omega arith) }
+  onward-shown n r x (suc (suc (suc (suc (suc pl))))) l o = absurd (omega arith)
 
   -- .. the place and one number more.
-  onward-stays : (pl f s u k : ℕ) → pl ≤ 4 → let x : Reader = record { place = pl; first = f; second = s; published = u; picked = k } in PlaceAndOne x (onward ver cur x)
+  onward-stays : (x : Reader) (pl : ℕ) → pl ≤ 4 → PlaceAndOne (x place≔ pl) (onward ver cur (x place≔ pl))
   unfolding onward
-  onward-stays zero f s u k l = place-and-one _ _ 1 (λ n. absurd (n refl)) (λ _. refl) (λ _. refl) (λ _. refl)
-  onward-stays (suc zero) f s u k l = place-and-one _ _ 3 (λ _. refl) (λ _. refl) (λ n. absurd (n refl)) (λ _. refl)
-  onward-stays (suc (suc zero)) f s u k l = place-and-one _ _ 2 (λ _. refl) (λ n. absurd (n refl)) (λ _. refl) (λ _. refl)
-  onward-stays (suc (suc (suc zero))) f s u k l = place-and-one _ _ 3 (λ _. refl) (λ _. refl) (λ n. absurd (n refl)) (λ _. refl)
-  onward-stays (suc (suc (suc (suc zero)))) f s u k l = place-and-one _ _ 4 (λ _. refl) (λ _. refl) (λ _. refl) (λ n. absurd (n refl))
-  onward-stays (suc (suc (suc (suc (suc pl))))) f s u k l = absurd (omega arith)
+  onward-stays x zero l = place-and-one _ _ 1 (λ n. absurd (n refl)) (λ _. refl) (λ _. refl) (λ _. refl)
+  onward-stays x (suc zero) l = place-and-one _ _ 3 (λ _. refl) (λ _. refl) (λ n. absurd (n refl)) (λ _. refl)
+  onward-stays x (suc (suc zero)) l = place-and-one _ _ 2 (λ _. refl) (λ n. absurd (n refl)) (λ _. refl) (λ _. refl)
+  onward-stays x (suc (suc (suc zero))) l = place-and-one _ _ 3 (λ _. refl) (λ _. refl) (λ n. absurd (n refl)) (λ _. refl)
+  onward-stays x (suc (suc (suc (suc zero)))) l = place-and-one _ _ 4 (λ _. refl) (λ _. refl) (λ _. refl) (λ n. absurd (n refl))
+  onward-stays x (suc (suc (suc (suc (suc pl))))) l = absurd (omega arith)
 
-  pub onward-place : (pl f s u k : ℕ) → pl ≤ 4 → onward ver cur (record { place = pl; first = f; second = s; published = u; picked = k }) .place ≡ suc pl
+  pub onward-place : (x : Reader) (pl : ℕ) → pl ≤ 4 → onward ver cur (x place≔ pl) .place ≡ suc pl
   unfolding onward
-  onward-place zero f s u k l = refl
-  onward-place (suc zero) f s u k l = refl
-  onward-place (suc (suc zero)) f s u k l = refl
-  onward-place (suc (suc (suc zero))) f s u k l = refl
-  onward-place (suc (suc (suc (suc zero)))) f s u k l = refl
-  onward-place (suc (suc (suc (suc (suc pl))))) f s u k l = absurd (omega arith)
+  onward-place x zero l = refl
+  onward-place x (suc zero) l = refl
+  onward-place x (suc (suc zero)) l = refl
+  onward-place x (suc (suc (suc zero))) l = refl
+  onward-place x (suc (suc (suc (suc zero)))) l = refl
+  onward-place x (suc (suc (suc (suc (suc pl))))) l = absurd (omega arith)
 
-  onward-goes : (pl f s u k : ℕ) → pl ≤ 4 → let x = onward ver cur (record { place = pl; first = f; second = s; published = u; picked = k }) in Onward cur pl k (x .place) (x .picked)
+  onward-goes : (x : Reader) (pl : ℕ) → pl ≤ 4 → let y = onward ver cur (x place≔ pl) in Onward cur pl (x .picked) (y .place) (y .picked)
   unfolding onward
-  onward-goes zero f s u k l = stays-out (omega arith) (omega arith) refl
-  onward-goes (suc zero) f s u k l = stays-out (omega arith) (omega arith) refl
-  onward-goes (suc (suc zero)) f s u k l = stays-out (omega arith) (omega arith) refl
-  onward-goes (suc (suc (suc zero))) f s u k l = opens (omega arith) refl refl
-  onward-goes (suc (suc (suc (suc zero)))) f s u k l = picks refl refl refl
-  onward-goes (suc (suc (suc (suc (suc pl))))) f s u k l = absurd (omega arith)
+  onward-goes x zero l = stays-out (omega arith) (omega arith) refl
+  onward-goes x (suc zero) l = stays-out (omega arith) (omega arith) refl
+  onward-goes x (suc (suc zero)) l = stays-out (omega arith) (omega arith) refl
+  onward-goes x (suc (suc (suc zero))) l = opens (omega arith) refl refl
+  onward-goes x (suc (suc (suc (suc zero)))) l = picks refl refl refl
+  onward-goes x (suc (suc (suc (suc (suc pl))))) l = absurd (omega arith)
 
-  onward-fits : (slots pl f s u k : ℕ) → pl ≤ 4 → cur < slots → AllFalse (readerRows slots (record { place = pl; first = f; second = s; published = u; picked = k }))
-      → AllFalse (readerRows slots (onward ver cur (record { place = pl; first = f; second = s; published = u; picked = k })))
+  onward-fits : (slots : ℕ) (x : Reader) (pl : ℕ) → pl ≤ 4 → cur < slots → AllFalse (readerRows slots (x place≔ pl))
+      → AllFalse (readerRows slots (onward ver cur (x place≔ pl)))
   unfolding onward
-  onward-fits slots zero f s u k l c h = (refl, (refl, (refl, tt)))
-  onward-fits slots (suc zero) f s u k l c h = (refl, (refl, (rw (same f) refl, tt)))
-  onward-fits slots (suc (suc zero)) f s u k l c h = (refl, (refl, (h .1 .1 .0, tt)))
-  onward-fits slots (suc (suc (suc zero))) f s u k l c h = (refl, (refl, (refl, tt)))
-  onward-fits slots (suc (suc (suc (suc zero)))) f s u k l c h = (refl, (lt-leb slots cur c, (refl, tt)))
-  onward-fits slots (suc (suc (suc (suc (suc pl))))) f s u k l c h = absurd (omega arith)
+  onward-fits slots x zero l c h = (refl, (refl, (refl, tt)))
+  onward-fits slots x (suc zero) l c h = (refl, (refl, (rw (same (x .first)) refl, tt)))
+  onward-fits slots x (suc (suc zero)) l c h = (refl, (refl, (h .1 .1 .0, tt)))
+  onward-fits slots x (suc (suc (suc zero))) l c h = (refl, (refl, (refl, tt)))
+  onward-fits slots x (suc (suc (suc (suc zero)))) l c h = (refl, (lt-leb slots cur c, (refl, tt)))
+  onward-fits slots x (suc (suc (suc (suc (suc pl))))) l c h = absurd (omega arith)
 
 onward-published : (ver cur : ℕ) (x : Reader) → 4 ≤ x .place → onward ver cur x .published ≡ x .published
 unfolding onward
@@ -159,8 +160,8 @@ module _ (z : Given) (g : Ghost) (s : State) (i : Good kind (OwnOf detector) z g
       let lt : r < readers (s .words) = leb-false _ _ (f .0) in
       let l : reader s r .place ≤ 4 = let q = leb-false 5 (reader s r .place) (f .1 .0) in omega arith in
       enter-good detector kind law z g s i _ r (entered s r) (reader-moves (i .shared .every .fine) r (entered s r) lt)
-      (none-true (readerRows (slots (s .words)) (entered s r)) (onward-fits _ _ _ _ _ _ _ _ l (i .shared .every .fine .head .current-below) (all-false (readerRows (slots (s .words)) (reader s r)) (i .shared .every .fine .readers-fine r lt))))
-      (shown-anew r _ (onward-shown _ _ _ _ _ _ _ _ _ l (i .own .readers-are r))) lt (onward-goes _ _ _ _ _ _ _ l)
+      (none-true (readerRows (slots (s .words)) (entered s r)) (onward-fits _ _ _ (reader s r) _ l (i .shared .every .fine .head .current-below) (all-false (readerRows (slots (s .words)) (reader s r)) (i .shared .every .fine .readers-fine r lt))))
+      (shown-anew r _ (onward-shown _ _ _ _ (reader s r) _ l (i .own .readers-are r))) lt (onward-goes _ _ (reader s r) _ l)
       (λ four y a. record { below = rw (onward-published (version (s .words)) (current (s .words)) (reader s r) four) (a .below); unpassed = a .unpassed })
 
   leave-kept : (r : ℕ) → AllClear (leaveTests s r) → Good kind (OwnOf detector) z (kept.advance g (Leave r) Left) (state (withReader (s .words) r (leaving (reader s r))) (s .entries))
@@ -169,14 +170,14 @@ module _ (z : Given) (g : Ghost) (s : State) (i : Good kind (OwnOf detector) z g
 
   sync-kept : (p : ℕ) → AllClear (syncTests versions s p) → Good kind (OwnOf detector) z (kept.advance g (Sync p) (Synced (version (s .words) + 1))) (sync versions s p .after)
   sync-kept p f = sync-good detector kind law z g s i p f
-      (own-clear (readers (s .words)) (record { place = 35; held = publisher s p .held; walk = newWalk (version (s .words) + 1) }) (omega arith) (λ e. omega arith) (λ a b. omega (arith, i .shared .every .fine .head .readers-low)))
+      (own-clear (readers (s .words)) (publisher s p atPlace 35 walk≔ newWalk (version (s .words) + 1)) (omega arith) (λ e. omega arith) (λ a b. omega (arith, i .shared .every .fine .head .readers-low)))
       refl (λ r l. record { below = omega (arith, i .own .readers-are r .shown (omega arith)); unpassed = λ j a. absurd (omega arith) })
 
   raise-kept : (p : ℕ) → p < publishers (s .words) → eqb (publisher s p .place) 35 ≡ true → Good kind (OwnOf detector) z (kept.advance g (Raise p) (raise versions s p .reply)) (raise versions s p .after)
   raise-kept p lt turn =
       let at35 = eqb-true (publisher s p .place) 35 turn in
       raise-good detector kind law z g s i p lt (omega arith) (omega arith)
-      (own-clear (readers (s .words)) (atPlace (publisher s p) 37) (omega arith) (λ e. omega arith) (λ a b. next-below _ _ (publisher s p) (i .shared .every .fine .publishers-fine p lt) (rw at35 refl)))
+      (own-clear (readers (s .words)) (publisher s p atPlace 37) (omega arith) (λ e. omega arith) (λ a b. next-below _ _ (publisher s p) (i .shared .every .fine .publishers-fine p lt) (rw at35 refl)))
       refl (λ r a. a)
       (λ e r. let o = i .own .readers-are r in record { first-low = omega (arith, o .first-low); second-low = omega (arith, o .second-low); shown = λ q. omega (arith, o .shown q); out = o .out })
 
@@ -212,11 +213,11 @@ module _ (z : Given) (g : Ghost) (s : State) (i : Good kind (OwnOf detector) z g
     returned-all Quiet nx lk wt e z = absurd e
     returned-all (Returned l u) nx lk wt e z = e .0
 
-    after-clear : (o : WalkReply) (k : WalkNumbers) → EndsHere (k .next) (k .looks) (k .waits) o → anyTrue (ownRows (readers (s .words)) (record { place = placeAfter 37 o; held = publisher s p .held; walk = k })) ≡ false
-    after-clear (Waiting r) k e = own-clear (readers (s .words)) (record { place = 37; held = publisher s p .held; walk = k }) (omega arith) (λ z. omega arith) (λ c d. e .0)
-    after-clear Spent k e = own-clear (readers (s .words)) (record { place = 37; held = publisher s p .held; walk = k }) (omega arith) (λ z. omega arith) (λ c d. e .0)
+    after-clear : (o : WalkReply) (k : WalkNumbers) → EndsHere (k .next) (k .looks) (k .waits) o → anyTrue (ownRows (readers (s .words)) (publisher s p atPlace (placeAfter 37 o) walk≔ k)) ≡ false
+    after-clear (Waiting r) k e = own-clear (readers (s .words)) (publisher s p atPlace 37 walk≔ k) (omega arith) (λ z. omega arith) (λ c d. e .0)
+    after-clear Spent k e = own-clear (readers (s .words)) (publisher s p atPlace 37 walk≔ k) (omega arith) (λ z. omega arith) (λ c d. e .0)
     after-clear Quiet k e = absurd e
-    after-clear (Returned a c) k e = own-clear (readers (s .words)) (record { place = 38; held = publisher s p .held; walk = k }) (omega arith) (λ z. omega arith) (λ c d. absurd (omega arith))
+    after-clear (Returned a c) k e = own-clear (readers (s .words)) (publisher s p atPlace 38 walk≔ k) (omega arith) (λ z. omega arith) (λ c d. absurd (omega arith))
 
     still-counted : looksOf s (publisher s p .walk) b .walk .looks ≡ looksOf s (publisher s p .walk) b .walk .next + looksOf s (publisher s p .walk) b .walk .waits
     still-counted = omega (arith, came .counted, i .own .counted p (omega arith))
@@ -283,10 +284,10 @@ lawful = record {
   enter-moves = λ s f r l. reader-moves f r (entered s r) l;
   left = λ s r. leaving (reader s r);
   leave-moves = λ s f r l. reader-moves f r (leaving (reader s r)) l;
-  enter-place = λ s f r l low. onward-place (version (s .words)) (current (s .words)) (reader s r .place) (reader s r .first) (reader s r .second) (reader s r .published) (reader s r .picked) low;
+  enter-place = λ s f r l low. onward-place (version (s .words)) (current (s .words)) (reader s r) (reader s r .place) low;
   enter-head = λ _ s r k l. head-reader (s .words) r (entered s r) k l;
   leave-head = λ _ s r k l. head-reader (s .words) r (leaving (reader s r)) k l;
-  enter-stays = λ s r low. onward-stays (version (s .words)) (current (s .words)) (reader s r .place) (reader s r .first) (reader s r .second) (reader s r .published) (reader s r .picked) low;
+  enter-stays = λ s r low. onward-stays (version (s .words)) (current (s .words)) (reader s r) (reader s r .place) low;
   leave-stays = λ s r. record { first = refl; second = refl; published = λ e. clash e; picked = refl };
   enter-kept = enter-kept;
   leave-kept = leave-kept;

@@ -13,7 +13,8 @@ use Rattle.layout.specs.declared.Reader.{Reader}
 use Rattle.layout.specs.declared.Publisher.{Publisher}
 use Rattle.layout.specs.declared.Walk.{Walk}
 use Rattle.layout.specs.declared.Progress.{Progress}
-use Rattle.layout.specs.Layout.{readers, current, version, readerAt, withReader, blankReader}
+use Rattle.layout.specs.Layout.{readers, current, version, readerAt, withReader, blankReader, noWalk}
+use Rattle.layout.specs.Records.{_place≔_, _first≔_, _second≔_, _published≔_, _picked≔_, _mark≔_, _next≔_, _looks≔_, _waits≔_}
 use Rattle.statement.specs.Machine.{State, Machine}
 use Rattle.publication_law.specs.Steps.{Versions, upTo, reader, publisher}
 use Rattle.publication_law.specs.Damage.{Kind, wrongPick, publisherRows}
@@ -55,25 +56,25 @@ kind = record {
 -- 3 to 4 publishes the second if the two differ; 4 to 5 picks the current slot.
 unfoldable pub onward : ℕ → ℕ → Reader → Reader
 onward version current x =
-    pick (eqb (x .place) 0) (record { place = 1; first = version; second = x .second; published = x .published; picked = x .picked })
-    (pick (eqb (x .place) 1) (record { place = 2; first = x .first; second = x .second; published = x .first; picked = x .picked })
-    (pick (eqb (x .place) 2) (record { place = 3; first = x .first; second = version; published = x .published; picked = x .picked })
-    (pick (eqb (x .place) 3) (record { place = 4; first = x .first; second = x .second; published = pick (eqb (x .first) (x .second)) (x .published) (x .second); picked = x .picked })
-    (record { place = 5; first = x .first; second = x .second; published = x .published; picked = current }))))
+    pick (eqb (x .place) 0) (x place≔ 1 first≔ version)
+    (pick (eqb (x .place) 1) (x place≔ 2 published≔ x .first)
+    (pick (eqb (x .place) 2) (x place≔ 3 second≔ version)
+    (pick (eqb (x .place) 3) (x place≔ 4 published≔ pick (eqb (x .first) (x .second)) (x .published) (x .second))
+    (x place≔ 5 picked≔ current))))
 
 abbrev pub entered : State → ℕ → Reader
 entered s r = onward (version (s .words)) (current (s .words)) (reader s r)
 
 -- LEAVE r goes to 0 and publishes NOT_READING. The slot that was picked stays in its word, and counts no more.
 abbrev pub leaving : Reader → Reader
-leaving x = record { place = 0; first = x .first; second = x .second; published = NOT-READING; picked = x .picked }
+leaving x = x place≔ 0 published≔ NOT-READING
 
 -- The reader that a walk looks at when i of n readers have passed.
 abbrev pub lookedAt : ℕ → ℕ → ℕ
 lookedAt n i = i
 
 abbrev pub progress : ℕ → ℕ → ℕ → ℕ → WalkReply → Progress
-progress mark next looks waits a = record { walk = record { mark = mark; next = next; looks = looks; waits = waits }; reply = a }
+progress mark next looks waits a = record { walk = noWalk mark≔ mark next≔ next looks≔ looks waits≔ waits; reply = a }
 
 -- Up to b looks of a walk that has passed `next` of n readers: a look at a reader passes if its published version is at least mark; next then rises.
 -- WALK stops at the first reader not passed, adds one to waits and replies waiting with that reader. When next reaches the reader count: returned.

@@ -5,8 +5,10 @@ use lib.ListN.{getD, set, replicate}
 use lib.Dec.{ltb}
 use Rattle.layout.specs.declared.Reader.{Reader}
 use Rattle.layout.specs.declared.Publisher.{Publisher}
+use Rattle.layout.specs.declared.Walk.{Walk}
 use Rattle.calls.specs.Base.{pick}
 use Rattle.calls.specs.Numbers.{READERS-MAX, PUBLISHERS-MAX, TABLE}
+use Rattle.layout.specs.Records.{_published≔_}
 
 -- The head.
 abbrev pub KIND-AT : ℕ
@@ -110,28 +112,59 @@ noReader = readerOf (λ i. 0)
 abbrev pub noPublisher : Publisher
 noPublisher = publisherOf (λ i. 0)
 
+abbrev pub noWalk : Walk
+noWalk = noPublisher .walk
+
 -- A reader of which only the published version is not 0.
 abbrev pub blankReader : ℕ → Reader
-blankReader v = record { place = 0; first = 0; second = 0; published = v; picked = 0 }
+blankReader v = noReader published≔ v
 
 -- The words with a list of words put at b + i and on.
 abbrev pub putWords : List ℕ → ℕ → ℕ → List ℕ → List ℕ
 putWords w b i [] = w
 putWords w b i (v ∷ vs) = putWords (set w (b + i) v) b (i + 1) vs
 
--- Reader r and publisher p; a number beyond the records has none, and reads as 0.
+-- A region of records: where its first record stands, how many words each has, how many records there are, a record from its words, and its words.
+pub record Region (A : Type 0) : Type 0 where
+  pub start : ℕ
+  pub stride : ℕ
+  pub count : ℕ
+  pub from : (ℕ → ℕ) → A
+  pub words : A → List ℕ
+
+-- Where record j begins, and where the region ends.
+abbrev pub begins : {A : Type 0} → Region A → ℕ → ℕ
+begins g j = g .start + g .stride * j
+
+abbrev pub ends : {A : Type 0} → Region A → ℕ
+ends g = begins g (g .count)
+
+-- Record j of a region; a number beyond the records has none, and reads as 0. And the words with record j anew.
+abbrev pub recordAt : {A : Type 0} → Region A → List ℕ → ℕ → A
+recordAt g w j = pick (ltb j (g .count)) (g .from (λ i. getD w (begins g j + i) 0)) (g .from (λ i. 0))
+
+abbrev pub withRecord : {A : Type 0} → Region A → List ℕ → ℕ → A → List ℕ
+withRecord g w j x = putWords w (begins g j) 0 (g .words x)
+
+-- The regions of readers and of publishers.
+abbrev pub readerRegion : Region Reader
+readerRegion = record { start = HEAD; stride = READER-WORDS; count = READERS-MAX; from = readerOf; words = readerWords }
+
+abbrev pub publisherRegion : Region Publisher
+publisherRegion = record { start = FIRST-PUBLISHER; stride = PUBLISHER-WORDS; count = PUBLISHERS-MAX; from = publisherOf; words = publisherWords }
+
+-- Reader r and publisher p, and the words with one of them anew.
 unfoldable pub readerAt : List ℕ → ℕ → Reader
-readerAt w r = pick (ltb r READERS-MAX) (readerOf (λ i. getD w (HEAD + READER-WORDS * r + i) 0)) noReader
+readerAt w r = recordAt readerRegion w r
 
 unfoldable pub publisherAt : List ℕ → ℕ → Publisher
-publisherAt w p = pick (ltb p PUBLISHERS-MAX) (publisherOf (λ i. getD w (FIRST-PUBLISHER + PUBLISHER-WORDS * p + i) 0)) noPublisher
+publisherAt w p = recordAt publisherRegion w p
 
--- The words with reader r or publisher p anew.
 unfoldable pub withReader : List ℕ → ℕ → Reader → List ℕ
-withReader w r x = putWords w (HEAD + READER-WORDS * r) 0 (readerWords x)
+withReader w r x = withRecord readerRegion w r x
 
 unfoldable pub withPublisher : List ℕ → ℕ → Publisher → List ℕ
-withPublisher w p x = putWords w (FIRST-PUBLISHER + PUBLISHER-WORDS * p) 0 (publisherWords x)
+withPublisher w p x = withRecord publisherRegion w p x
 
 -- The words with each of the first n readers anew.
 unfoldable pub withReaders : ℕ → List ℕ → Reader → List ℕ

@@ -22,8 +22,9 @@ use Rattle.layout.specs.declared.Reader.{Reader}
 use Rattle.layout.specs.declared.Publisher.{Publisher}
 use Rattle.layout.specs.declared.Progress.{Progress}
 use Rattle.layout.specs.Layout.{readers, publishers, slots, current, version, releases, readerAt, publisherAt, withPublisher, withCurrent, withVersion, withReleases, entryAt, fresh}
+use Rattle.layout.specs.Records.{_atPlace_, _held≔_, _walk≔_}
 use Rattle.statement.specs.Machine.{State, state, Outcome, outcome, given}
-use Rattle.publication_law.specs.Steps.{Versions, upTo, decide, reader, publisher, atPlace, newWalk, anotherBusy, inUse, lookTests, look, claimTests, claim, writeTests, write, swapTests, swap, syncTests, sync, raise, placeAfter, walk, releaseTests, release, makingTests, made}
+use Rattle.publication_law.specs.Steps.{Versions, upTo, decide, reader, publisher, newWalk, anotherBusy, inUse, lookTests, look, claimTests, claim, writeTests, write, swapTests, swap, syncTests, sync, raise, walked, walk, releaseTests, release, makingTests, made}
 use Rattle.publication_law.specs.Damage.{headRows, sharedDamage, readersTest, publishersTest}
 use Rattle.publication_law.specs.DamageLaws.{Fine, fine-of, tests-shared, readers-test-fine, publishers-test-fine}
 use Rattle.publication_law.specs.Decide.{decide-accepts}
@@ -114,43 +115,43 @@ look-is w es r k x named low is turn =
 
 module _ (w : List ℕ) (p : ℕ) (y : Publisher) (named : p < publishers w) (is : y ≡ publisherAt w p) where
   pub claim-is : (v : List ℕ) (exclusive : Bool) (x : ℕ) → x < slots w → y .place ≡ 0 → ((es : List ℤ) → exclusive && anotherBusy (state w es) p ≡ false) → ((es : List ℤ) → inUse (state w es) x ≡ false)
-      → v ≡ withPublisher w p (record { place = 1; held = x; walk = y .walk })
+      → v ≡ withPublisher w p (y atPlace 1 held≔ x)
       → (es : List ℤ) → outcome (Claimed x) (state v es) ≡ decide (claimTests exclusive (state w es) p x) (claim (state w es) p x) (state w es)
   claim-is v exclusive x slot turn busy used put es =
       rw (put, is) (sym (decide-accepts (claimTests exclusive (state w es) p x) (claim (state w es) p x) (state w es)
       (claim-rows exclusive (state w es) p x (record { publisher-named = named; slot-named = slot; in-turn = rw is at turn; nobody-busy = busy es; unused = used es }))))
 
   pub write-is : (v : List ℕ) (es : List ℤ) (a : ℤ) → (ltZ a PITCH-LOW || ltZ PITCH-HIGH a) ≡ false → 1 ≤ y .place → y .place ≤ 32
-      → v ≡ withPublisher w p (atPlace y (y .place + 1))
+      → v ≡ withPublisher w p (y atPlace (y .place + 1))
       → outcome (Written (y .place)) (state v (set es (entryAt (y .held) (y .place - 1)) a)) ≡ decide (writeTests (state w es) p a) (write (state w es) p a) (state w es)
   write-is v es a range low high put =
       rw (put, is) (sym (decide-accepts (writeTests (state w es) p a) (write (state w es) p a) (state w es) (lt-leb _ _ named, (range, (not-outside 1 32 _ (rw is at low) (rw is at high), tt)))))
 
   pub swap-is : (v : List ℕ) (former : ℕ) → former ≡ current w → y .place ≡ 33
-      → v ≡ withCurrent (withPublisher w p (record { place = 34; held = former; walk = y .walk })) (y .held)
+      → v ≡ withCurrent (withPublisher w p (y atPlace 34 held≔ former)) (y .held)
       → (es : List ℤ) → outcome (Swapped former) (state v es) ≡ decide (swapTests (state w es) p) (swap (state w es) p) (state w es)
   swap-is v former was turn put es =
       rw (put, was, is) (sym (decide-accepts (swapTests (state w es) p) (swap (state w es) p) (state w es) (lt-leb _ _ named, (not-at _ 33 (rw is at turn), tt))))
 
   pub sync-is : (vs : Versions) (v : List ℕ) (mark : ℕ) → y .place ≡ 34 → vs .isLast (version w) ≡ false → mark ≡ vs .markAt (version w)
-      → v ≡ withPublisher w p (record { place = 35; held = y .held; walk = newWalk mark })
+      → v ≡ withPublisher w p (y atPlace 35 walk≔ newWalk mark)
       → (es : List ℤ) → outcome (Synced mark) (state v es) ≡ decide (syncTests vs (state w es) p) (sync vs (state w es) p) (state w es)
   sync-is vs v mark turn room marked put es =
       rw (put, marked, is) (sym (decide-accepts (syncTests vs (state w es) p) (sync vs (state w es) p) (state w es) (lt-leb _ _ named, (not-at _ 34 (rw is at turn), (room, tt)))))
 
-  pub raised-is : (vs : Versions) (v : List ℕ) → version w ≡ vs .beforeMark (y .walk .mark) → v ≡ withVersion (withPublisher w p (atPlace y 37)) (y .walk .mark)
+  pub raised-is : (vs : Versions) (v : List ℕ) → version w ≡ vs .beforeMark (y .walk .mark) → v ≡ withVersion (withPublisher w p (y atPlace 37)) (y .walk .mark)
       → (es : List ℤ) → outcome Raised (state v es) ≡ raise vs (state w es) p
   raised-is vs v e put es = rw (put, is, eq-eqb _ _ (rw is at e)) refl
 
-  pub shared-is : (vs : Versions) (v : List ℕ) → version w ≢ vs .beforeMark (y .walk .mark) → v ≡ withPublisher w p (atPlace y 37)
+  pub shared-is : (vs : Versions) (v : List ℕ) → version w ≢ vs .beforeMark (y .walk .mark) → v ≡ withPublisher w p (y atPlace 37)
       → (es : List ℤ) → outcome Shared (state v es) ≡ raise vs (state w es) p
   shared-is vs v ne put es = rw (put, is, ne-eqb _ _ (rw is at ne)) refl
 
-  pub walked-is : (v : List ℕ) (k : Progress) → v ≡ withPublisher w p (record { place = placeAfter (y .place) (k .reply); held = y .held; walk = k .walk })
+  pub walked-is : (v : List ℕ) (k : Progress) → v ≡ withPublisher w p (walked y k)
       → (es : List ℤ) → outcome (Walked (k .reply)) (state v es) ≡ walk (state w es) p k
   walked-is v k put es = rw (put, is) refl
 
-  pub release-is : (v : List ℕ) (n : ℕ) → y .place ≡ 38 → n ≡ (releases w + 1) % MODULUS → v ≡ withReleases (withPublisher w p (atPlace y 0)) n
+  pub release-is : (v : List ℕ) (n : ℕ) → y .place ≡ 38 → n ≡ (releases w + 1) % MODULUS → v ≡ withReleases (withPublisher w p (y atPlace 0)) n
       → (es : List ℤ) → outcome (Freed (y .held) n) (state v es) ≡ decide (releaseTests (state w es) p) (release (state w es) p) (state w es)
   release-is v n turn more put es =
       rw (put, more, is) (sym (decide-accepts (releaseTests (state w es) p) (release (state w es) p) (state w es) (lt-leb _ _ named, (not-at _ 38 (rw is at turn), tt))))

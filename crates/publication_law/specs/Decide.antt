@@ -11,8 +11,9 @@ use Rattle.calls.specs.Rows.{Test, firstOf}
 use Rattle.calls.specs.RowLaws.{AllClear, allAbove, clear, none-applies, not-both, pick-split}
 use Rattle.calls.specs.Events.{accepted}
 use Rattle.layout.specs.Layout.{version, withVersion, withPublisher}
+use Rattle.layout.specs.Records.{_atPlace_}
 use Rattle.statement.specs.Machine.{State, state, Outcome, outcome}
-use Rattle.publication_law.specs.Steps.{Versions, publisher, atPlace, putPublisher, raise, decide}
+use Rattle.publication_law.specs.Steps.{Versions, publisher, putPublisher, raise, decide}
 
 -- Accepted, with no row that applies; or refused, with the state as it was.
 pub decided : (Q : Outcome → Type 0) (rows : List Test) (o : Outcome) (s : State) → allAbove 0 rows ≡ true
@@ -34,6 +35,6 @@ decide-why rows o s n ok = pick-split (λ (q : Outcome). q .reply ≡ Refused n 
 
 -- A RAISE, by whether it raises the version or shares it.
 pub raise-split : (Q : Outcome → Type 0) (vs : Versions) (s : State) (p : ℕ)
-    → (version (s .words) ≡ vs .beforeMark (publisher s p .walk .mark) → Q (outcome Raised (state (withVersion (withPublisher (s .words) p (atPlace (publisher s p) 37)) (publisher s p .walk .mark)) (s .entries))))
-    → Q (outcome Shared (putPublisher s p (atPlace (publisher s p) 37))) → Q (raise vs s p)
+    → (version (s .words) ≡ vs .beforeMark (publisher s p .walk .mark) → Q (outcome Raised (state (withVersion (withPublisher (s .words) p (publisher s p atPlace 37)) (publisher s p .walk .mark)) (s .entries))))
+    → Q (outcome Shared (putPublisher s p (publisher s p atPlace 37))) → Q (raise vs s p)
 raise-split Q vs s p f g = pick-split Q (eqb (version (s .words)) (vs .beforeMark (publisher s p .walk .mark))) (λ e. f (eqb-true _ _ e)) (λ _. g)

@@ -18,11 +18,12 @@ use Rattle.layout.specs.declared.Reader.{Reader}
 use Rattle.layout.specs.declared.Publisher.{Publisher}
 use Rattle.layout.specs.declared.Progress.{Progress}
 use Rattle.layout.specs.Layout.{READERS-AT, VERSION-AT, readers, publishers, slots, current, version, releases, indicator, readerAt, publisherAt}
+use Rattle.layout.specs.Records.{_atPlace_, _walk≔_}
 use Rattle.layout.specs.Laws.{fresh-publisher}
 use Rattle.statement.specs.Machine.{State, state, Outcome, Given}
 use Rattle.statement.specs.Companions.{GraceTraits}
 use Rattle.statement.specs.Kept.{Pend, Ghost, ghost₀, advance, Back}
-use Rattle.publication_law.specs.Steps.{reader, publisher, atPlace, syncTests, sync, newWalk, raise, placeAfter, walked, walk, made}
+use Rattle.publication_law.specs.Steps.{reader, publisher, syncTests, sync, newWalk, raise, placeAfter, walked, walk, made}
 use Rattle.publication_law.specs.Damage.{Kind}
 use Rattle.publication_law.specs.KindLaw.{KindLaw}
 use Rattle.publication_law.specs.Core.{Onward}
@@ -103,30 +104,30 @@ module _ (D : Detector) where
       }
 
     pub sync-good : (p : ℕ) → AllClear (syncTests (K .versions) s p)
-        → (let y : Publisher = record { place = 35; held = publisher s p .held; walk = newWalk (K .versions .markAt (version (s .words))) } in
+        → (let y : Publisher = publisher s p atPlace 35 walk≔ newWalk (K .versions .markAt (version (s .words))) in
         law .own (readers (s .words)) y ≡ false → D .passed y ≡ 0 → ((r : ℕ) → 4 ≤ reader s r .place → D .Behind (readers (s .words)) (reader s r) y r)
         → Good K (OwnOf D) z (advance g (Sync p) (Synced (K .versions .markAt (version (s .words))))) (sync (K .versions) s p .after))
     sync-good p f clear none open-behind =
-        let y : Publisher = record { place = 35; held = publisher s p .held; walk = newWalk (K .versions .markAt (version (s .words))) } in record {
+        let y : Publisher = publisher s p atPlace 35 walk≔ newWalk (K .versions .markAt (version (s .words))) in record {
           shared = sync-keeps K law z g s (i .shared) p f clear;
           own = moved-own g (advance g (Sync p) (Synced (K .versions .markAt (version (s .words))))) s _ (s .entries) p y _ _ _ (i .own) (publisher-moves (i .shared .every .fine) p y (leb-false _ _ (f .0))) (λ q r e. rw e refl)
               (λ r. rw (same p) (λ e. open-behind r (leb-true 4 (reader s r .place) (sym (i .shared .grace .inside-is r) ∙ e)))) (λ l. rw none refl) (i .own .readers-are);
         }
 
     -- RAISE, at 35 or 36; the raised version is the mark.
-    pub raise-good : (p : ℕ) → p < publishers (s .words) → 35 ≤ publisher s p .place → publisher s p .place ≤ 36 → law .own (readers (s .words)) (atPlace (publisher s p) 37) ≡ false
-        → D .passed (atPlace (publisher s p) 37) ≡ D .passed (publisher s p)
-        → ((r : ℕ) → D .Behind (readers (s .words)) (reader s r) (publisher s p) r → D .Behind (readers (s .words)) (reader s r) (atPlace (publisher s p) 37) r)
+    pub raise-good : (p : ℕ) → p < publishers (s .words) → 35 ≤ publisher s p .place → publisher s p .place ≤ 36 → law .own (readers (s .words)) (publisher s p atPlace 37) ≡ false
+        → D .passed (publisher s p atPlace 37) ≡ D .passed (publisher s p)
+        → ((r : ℕ) → D .Behind (readers (s .words)) (reader s r) (publisher s p) r → D .Behind (readers (s .words)) (reader s r) (publisher s p atPlace 37) r)
         → (version (s .words) ≡ K .versions .beforeMark (publisher s p .walk .mark) → D .Readers (publisher s p .walk .mark) (readers (s .words)) (indicator (s .words)) (readerAt (s .words)))
         → Good K (OwnOf D) z (advance g (Raise p) (raise (K .versions) s p .reply)) (raise (K .versions) s p .after)
     raise-good p lt low high clear passes still-behind raised = record {
       shared = raise-keeps K law z g s (i .shared) p lt low high clear;
       own = raise-split (λ (o : Outcome). OwnOf D g (o .after)) (K .versions) s p
-          (λ e. to _ _ (publisher-moves-head (i .shared .every .fine) p (atPlace (publisher s p) 37) lt VERSION-AT (publisher s p .walk .mark) (omega arith) (omega arith)) (raised e))
-          (to _ _ (publisher-moves (i .shared .every .fine) p (atPlace (publisher s p) 37) lt) (i .own .readers-are));
+          (λ e. to _ _ (publisher-moves-head (i .shared .every .fine) p (publisher s p atPlace 37) lt VERSION-AT (publisher s p .walk .mark) (omega arith) (omega arith)) (raised e))
+          (to _ _ (publisher-moves (i .shared .every .fine) p (publisher s p atPlace 37) lt) (i .own .readers-are));
     }
       where
-        to : (w′ : List ℕ) (ver : ℕ) → MovesPublisher (s .words) w′ p (atPlace (publisher s p) 37) (current (s .words)) ver (releases (s .words))
+        to : (w′ : List ℕ) (ver : ℕ) → MovesPublisher (s .words) w′ p (publisher s p atPlace 37) (current (s .words)) ver (releases (s .words))
             → D .Readers ver (readers (s .words)) (indicator (s .words)) (readerAt (s .words)) → OwnOf D g (state w′ (s .entries))
         to w′ ver m f = moved-own g g s w′ (s .entries) p _ _ _ _ (i .own) m (λ q r d. refl) (λ r q. still-behind r (i .own .behind p r q)) (λ _. rw passes (i .own .counted p low)) f
 

@@ -14,20 +14,21 @@ use borrow.Author.Tests.{ne-eqb, eqb-false, leb-false, ltb-false}
 use Rattle.calls.specs.declared.Call.{Call}
 use Rattle.calls.specs.declared.Call.the-variants.{Enter, Look, Leave, Claim, Write, Swap, Sync, Raise, Walk, Release}
 use Rattle.calls.specs.Base.{upd}
-use Rattle.calls.specs.RowLaws.{AllClear, same}
+use Rattle.calls.specs.RowLaws.{AllClear}
 use Rattle.layout.specs.declared.Reader.{Reader}
 use Rattle.layout.specs.declared.Publisher.{Publisher}
 use Rattle.layout.specs.declared.Progress.{Progress}
 use Rattle.layout.specs.Layout.{HEAD, CURRENT-AT, VERSION-AT, RELEASES-AT, publishers, readerWords, readerAt, publisherAt, withPublisher}
-use Rattle.layout.specs.Laws.{publisher-put, head-publisher}
+use Rattle.layout.specs.Records.{_atPlace_}
+use Rattle.layout.specs.Laws.{head-publisher}
 use Rattle.statement.specs.Machine.{State, Outcome}
 use Rattle.statement.specs.Frame.{readerNamed, publisherNamed, headNamed, One, PlaceAndOne, HeldAndWalkStay, OwnStays, Framed}
 use Rattle.publication_law.specs.Clear.{ClaimClear}
-use Rattle.publication_law.specs.Steps.{Versions, publisher, atPlace, claim, write, writeTests, swap, swapTests, sync, syncTests, raise, walk, walked, release, releaseTests, oneMore}
+use Rattle.publication_law.specs.Steps.{Versions, publisher, claim, write, writeTests, swap, swapTests, sync, syncTests, raise, walk, walked, release, releaseTests, oneMore}
 use Rattle.publication_law.specs.Damage.{Kind}
-use Rattle.publication_law.specs.DamageLaws.{Fine, publisher-below}
+use Rattle.publication_law.specs.DamageLaws.{Fine}
 use Rattle.publication_law.specs.Decide.{raise-split}
-use Rattle.publication_law.specs.Moves.{MovesPublisher, MovesReader, none-moved, one-moved, publisher-moves, publisher-moves-head}
+use Rattle.publication_law.specs.Moves.{MovesPublisher, MovesReader, none-moved, one-moved, publisher-written, reader-written, publisher-moves, publisher-moves-head}
 
 same-own : (b : Bool) (c : Call) (w : List ℕ) → OwnStays b c w w
 same-own b (Enter r) w = (0, λ k l ne. refl)
@@ -66,7 +67,7 @@ publisher-framed b c w w′ p y cur ver rel m e own stays one = record {
   long = m .long;
   readers = λ r ne. ap (λ (f : ℕ → Reader). f r) (m .readers-stay);
   publishers = λ q ne. ap (λ (f : ℕ → Publisher). f q) (m .publishers-are) ∙ upd-other (publisherAt w) p y q (λ z. ne (e ∙ ap some z));
-  own = own (ap (λ (f : ℕ → Publisher). f p) (m .publishers-are) ∙ rw (same p) refl);
+  own = own (publisher-written m);
   head = stays;
   one = one;
 }
@@ -78,7 +79,7 @@ reader-framed b c w w′ r x m e named stays own = record {
   long = m .long;
   readers = λ q ne. ap (λ (f : ℕ → Reader). f q) (m .readers-are) ∙ upd-other (readerAt w) r x q (λ z. ne (e ∙ ap some z));
   publishers = λ p ne. ap (λ (f : ℕ → Publisher). f p) (m .publishers-stay);
-  own = own (ap (λ (f : ℕ → Reader). f r) (m .readers-are) ∙ rw (same r) refl);
+  own = own (reader-written m);
   head = λ k l n. at-head b refl k l (sym (ap (λ (f : ℕ → Bool). f k) named) ∙ n);
   one = m .one;
 }
@@ -88,7 +89,7 @@ reader-framed b c w w′ r x m e named stays own = record {
     at-head false d k l n = m .head k (ltb-false RELEASES-AT k n)
 
 -- A publisher of which only the place is new.
-place-only : (y y′ : Publisher) (n : ℕ) → y′ ≡ atPlace y n → HeldAndWalkStay y y′
+place-only : (y y′ : Publisher) (n : ℕ) → y′ ≡ y atPlace n → HeldAndWalkStay y y′
 place-only y y′ n e = record { held = ap (λ (u : Publisher). u .held) e; walk = ap (λ (u : Publisher). u .walk) e }
 
 module _ (b : Bool) (K : Kind) (s : State) (f : Fine K s) where
@@ -129,4 +130,4 @@ module _ (b : Bool) (K : Kind) (s : State) (f : Fine K s) where
 
 -- A WALK leaves its publisher's record with what its looks came to.
 pub walk-record : (K : Kind) (s : State) → Fine K s → (p : ℕ) → p < publishers (s .words) → (k : Progress) → publisher (walk s p k .after) p ≡ walked (publisher s p) k
-walk-record K s f p lt k = ap (λ (g : ℕ → Publisher). g p) (publisher-put (λ (y : Publisher). y) (s .words) p (walked (publisher s p) k) (f .head .long) (publisher-below K s f p lt)) ∙ rw (same p) refl
+walk-record K s f p lt k = publisher-written (publisher-moves f p (walked (publisher s p) k) lt)

@@ -20,10 +20,11 @@ use Rattle.layout.specs.declared.Reader.{Reader}
 use Rattle.layout.specs.declared.Publisher.{Publisher}
 use Rattle.layout.specs.declared.Progress.{Progress}
 use Rattle.layout.specs.Layout.{VERSION-AT, RELEASES-AT, readers, publishers, slots, current, version, releases, noPublisher}
+use Rattle.layout.specs.Records.{_atPlace_, _walk≔_}
 use Rattle.layout.specs.Laws.{fresh-head}
 use Rattle.statement.specs.Machine.{State, state, Outcome, Given}
 use Rattle.statement.specs.Kept.{Ghost, ghost₀, advance}
-use Rattle.publication_law.specs.Steps.{reader, publisher, atPlace, syncTests, sync, newWalk, raise, placeAfter, walked, walk, releaseTests, release, oneMore, made}
+use Rattle.publication_law.specs.Steps.{reader, publisher, syncTests, sync, newWalk, raise, placeAfter, walked, walk, releaseTests, release, oneMore, made}
 use Rattle.publication_law.specs.Clear.{MakingClear}
 use Rattle.publication_law.specs.Damage.{Kind}
 use Rattle.publication_law.specs.DamageLaws.{PublisherFine}
@@ -71,12 +72,12 @@ module _ (K : Kind) (z : Given) (g : Ghost) (s : State) (i : GraceInvariant K z 
       (rw (same-inside, same-pend) (early-grace (g .told) _ _ _ _ _ (i .grace) p _ _ old new)) (rw (same-waits, same-releases) (early-tallied _ _ _ _ _ (i .tallied) p _ _ new))
 
   pub release-keeps : (p : ℕ) → AllClear (releaseTests s p)
-      → K .publisherDamaged (readers (s .words)) (slots (s .words)) (atPlace (publisher s p) 0) ≡ false
+      → K .publisherDamaged (readers (s .words)) (slots (s .words)) (publisher s p atPlace 0) ≡ false
       → GraceInvariant K z (advance g (Release p) (Freed (publisher s p .held) (oneMore s))) (release s p .after)
   release-keeps p f ok =
       let lt = leb-false (publishers (s .words)) p (f .0) in
       let at38 = eqb-true (publisher s p .place) 38 (not-false _ (f .1 .0)) in
-      let m = publisher-moves-head (i .every .fine) p (atPlace (publisher s p) 0) lt RELEASES-AT (oneMore s) (omega arith) (omega arith) in
+      let m = publisher-moves-head (i .every .fine) p (publisher s p atPlace 0) lt RELEASES-AT (oneMore s) (omega arith) (omega arith) in
       publisher-moved-grace K z s _ _ _ p _ _ _ _ m
       (publisher-moved K z g s (i .every) _ _ _ p _ _ _ _ m refl (i .every .fine .head .current-below) (i .every .fine .head .version-fits) ok
       (release-core _ _ _ _ _ _ _ _ _ _ _ (i .every .core) p _ (Freed (publisher s p .held) (oneMore s)) _ (omega arith) (nobody (g .told) _ _ _ _ _ (i .grace) p at38) (λ y. refl))
@@ -106,12 +107,12 @@ module _ (K : Kind) (law : KindLaw K) (z : Given) (g : Ghost) (s : State) (i : G
   late-slots p pl low new = late-core _ _ _ _ _ _ _ _ _ _ _ (i .every .core) p pl _ _ (λ a b. omega arith) (λ a b. omega arith) (λ y. former-same (publisher s p .place) pl (publisher s p .held) y low new)
 
   pub sync-keeps : (p : ℕ) → AllClear (syncTests (K .versions) s p)
-      → law .own (readers (s .words)) (record { place = 35; held = publisher s p .held; walk = newWalk (K .versions .markAt (version (s .words))) }) ≡ false
+      → law .own (readers (s .words)) (publisher s p atPlace 35 walk≔ newWalk (K .versions .markAt (version (s .words)))) ≡ false
       → GraceInvariant K z (advance g (Sync p) (Synced (K .versions .markAt (version (s .words))))) (sync (K .versions) s p .after)
   sync-keeps p f clear =
       let lt = leb-false (publishers (s .words)) p (f .0) in
       let at34 = eqb-true (publisher s p .place) 34 (not-false _ (f .1 .0)) in
-      let y : Publisher = record { place = 35; held = publisher s p .held; walk = newWalk (K .versions .markAt (version (s .words))) } in
+      let y : Publisher = publisher s p atPlace 35 walk≔ newWalk (K .versions .markAt (version (s .words))) in
       let ok = publisher-undamaged law (readers (s .words)) (slots (s .words)) y clear (record {
         held-below = λ _. publisher-fine p lt .held-below (omega arith);
         mark-fits = λ _. law .versions-law .mark-fits (version (s .words)) (i .every .fine .head .version-fits) (f .1 .1 .0);
@@ -125,17 +126,17 @@ module _ (K : Kind) (law : KindLaw K) (z : Given) (g : Ghost) (s : State) (i : G
 
   -- RAISE, at 35 or 36.
   module _ (p : ℕ) (lt : p < publishers (s .words)) (low : 35 ≤ publisher s p .place) (high : publisher s p .place ≤ 36) where
-    pub raise-keeps : law .own (readers (s .words)) (atPlace (publisher s p) 37) ≡ false
+    pub raise-keeps : law .own (readers (s .words)) (publisher s p atPlace 37) ≡ false
         → GraceInvariant K z (advance g (Raise p) (raise (K .versions) s p .reply)) (raise (K .versions) s p .after)
     raise-keeps clear =
         let pf = publisher-fine p lt in
-        let ok = publisher-undamaged law (readers (s .words)) (slots (s .words)) (atPlace (publisher s p) 37) clear (record { held-below = λ _. pf .held-below (omega arith); mark-fits = λ _. pf .mark-fits low; waits-low = λ _. pf .waits-low low }) in
+        let ok = publisher-undamaged law (readers (s .words)) (slots (s .words)) (publisher s p atPlace 37) clear (record { held-below = λ _. pf .held-below (omega arith); mark-fits = λ _. pf .mark-fits low; waits-low = λ _. pf .waits-low low }) in
         raise-split (λ (o : Outcome). GraceInvariant K z (advance g (Raise p) (o .reply)) (o .after)) (K .versions) s p
         (λ e. to _ _ (publisher-moves-head (i .every .fine) p _ lt VERSION-AT (publisher s p .walk .mark) (omega arith) (omega arith)) (law .versions-law .raised-fits _ (pf .mark-fits low)) ok)
         (to _ _ (publisher-moves (i .every .fine) p _ lt) (i .every .fine .head .version-fits) ok)
       where
-        to : (w′ : List ℕ) (ver : ℕ) → MovesPublisher (s .words) w′ p (atPlace (publisher s p) 37) (current (s .words)) ver (releases (s .words)) → K .versions .tooLarge ver ≡ false
-            → K .publisherDamaged (readers (s .words)) (slots (s .words)) (atPlace (publisher s p) 37) ≡ false → GraceInvariant K z (record { model = g .model; told = g .told; pend = g .pend; tally = withPhase (g .tally) p raised }) (state w′ (s .entries))
+        to : (w′ : List ℕ) (ver : ℕ) → MovesPublisher (s .words) w′ p (publisher s p atPlace 37) (current (s .words)) ver (releases (s .words)) → K .versions .tooLarge ver ≡ false
+            → K .publisherDamaged (readers (s .words)) (slots (s .words)) (publisher s p atPlace 37) ≡ false → GraceInvariant K z (record { model = g .model; told = g .told; pend = g .pend; tally = withPhase (g .tally) p raised }) (state w′ (s .entries))
         to w′ ver m fits ok = publisher-moved-grace K z s _ w′ _ p _ _ ver _ m
             (publisher-moved K z g s (i .every) _ w′ _ p _ _ ver _ m refl (i .every .fine .head .current-below) fits ok (late-slots p 37 (omega arith) (omega arith)) (move-phases _ _ _ _ (i .every .phases) p 37 raised refl))
             (wait-grace (g .told) _ _ _ _ _ (i .grace) p 37 _ low (omega arith) (omega arith) (λ e. absurd (omega arith)) (λ y. former-same (publisher s p .place) 37 (publisher s p .held) y (omega arith) (omega arith)))

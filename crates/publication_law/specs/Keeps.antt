@@ -23,11 +23,12 @@ use Rattle.calls.specs.Tally.Phase.{idle, writing, swapped}
 use Rattle.layout.specs.declared.Reader.{Reader}
 use Rattle.layout.specs.declared.Publisher.{Publisher}
 use Rattle.layout.specs.Layout.{HEAD, KIND-AT, READERS-AT, PUBLISHERS-AT, SLOTS-AT, CURRENT-AT, VERSION-AT, readers, publishers, slots, current, entryAt, fresh, noReader, noPublisher}
+use Rattle.layout.specs.Records.{_atPlace_, _held≔_}
 use Rattle.layout.specs.Laws.{fresh-long, fresh-head, fresh-reader, fresh-publisher}
 use Rattle.statement.specs.Machine.{State, Given, heldSlot}
 use Rattle.statement.specs.Demand3.{Slots, Picks}
 use Rattle.statement.specs.Kept.{Ghost, ghost₀, advance}
-use Rattle.publication_law.specs.Steps.{reader, publisher, atPlace, lookTests, claim, inUse, writeTests, write, swapTests, swap, made}
+use Rattle.publication_law.specs.Steps.{reader, publisher, lookTests, claim, inUse, writeTests, write, swapTests, swap, made}
 use Rattle.publication_law.specs.Clear.{MakingClear, ClaimClear}
 use Rattle.publication_law.specs.Damage.{Kind}
 use Rattle.publication_law.specs.DamageLaws.{Fine}
@@ -48,7 +49,7 @@ module _ (K : Kind) (z : Given) (g : Ghost) (s : State) (i : Invariant K z g s) 
   not-current x e = eqb-false _ _ (or-false (eqb (current (s .words)) x) _ e .0)
 
   pub claim-keeps : (e : Bool) (p x : ℕ) → ClaimClear e s p x
-      → K .publisherDamaged (readers (s .words)) (slots (s .words)) (record { place = 1; held = x; walk = publisher s p .walk }) ≡ false
+      → K .publisherDamaged (readers (s .words)) (slots (s .words)) (publisher s p atPlace 1 held≔ x) ≡ false
       → Invariant K z (advance g (Claim p x) (Claimed x)) (claim s p x .after)
   claim-keeps e p x f ok =
       let lt = f .publisher-named in
@@ -65,7 +66,7 @@ module _ (K : Kind) (z : Given) (g : Ghost) (s : State) (i : Invariant K z g s) 
       safe-core _ _ _ _ _ _ _ _ _ _ _ (i .core) r x d (free-core _ _ _ _ _ _ _ _ _ _ _ (i .core) x (not-current x free-slot) (unheld x free-slot))
 
   pub write-keeps : (p : ℕ) (v : ℤ) → AllClear (writeTests s p v) → publisher s p .held < slots (s .words)
-      → K .publisherDamaged (readers (s .words)) (slots (s .words)) (atPlace (publisher s p) (publisher s p .place + 1)) ≡ false
+      → K .publisherDamaged (readers (s .words)) (slots (s .words)) (publisher s p atPlace (publisher s p .place + 1)) ≡ false
       → Invariant K z (advance g (Write p v) (Written (publisher s p .place))) (write s p v .after)
   write-keeps p v f held-below ok =
       let lt = leb-false (publishers (s .words)) p (f .0) in
@@ -81,7 +82,7 @@ module _ (K : Kind) (z : Given) (g : Ghost) (s : State) (i : Invariant K z g s) 
       (stay-phases _ _ _ _ (i .phases) p (publisher s p .place + 1) (phase-writing (publisher s p .place + 1) (omega arith) (omega arith) ∙ sym (phase-writing (publisher s p .place) low (omega arith))))
 
   pub swap-keeps : (p : ℕ) → AllClear (swapTests s p) → publisher s p .held < slots (s .words)
-      → K .publisherDamaged (readers (s .words)) (slots (s .words)) (record { place = 34; held = current (s .words); walk = publisher s p .walk }) ≡ false
+      → K .publisherDamaged (readers (s .words)) (slots (s .words)) (publisher s p atPlace 34 held≔ current (s .words)) ≡ false
       → Invariant K z (advance g (Swap p) (Swapped (current (s .words)))) (swap s p .after)
   swap-keeps p f held-below ok =
       let lt = leb-false (publishers (s .words)) p (f .0) in

@@ -30,13 +30,14 @@ use Rattle.calls.specs.Tally.Phase.{idle, writing, swapped, returned}
 use Rattle.layout.specs.declared.Reader.{Reader}
 use Rattle.layout.specs.declared.Publisher.{Publisher}
 use Rattle.layout.specs.Layout.{HEAD, READERS-AT, PUBLISHERS-AT, SLOTS-AT, CURRENT-AT, VERSION-AT, RELEASES-AT, readers, publishers, slots, current, version, blankReader, noPublisher}
+use Rattle.layout.specs.Records.{_atPlace_, _held≔_}
 use Rattle.layout.specs.Laws.{publisher-back, fresh-head, fresh-long, fresh-indicator, fresh-reader, fresh-publisher}
 use Rattle.statement.specs.Machine.{State, state, Outcome, outcome, Given, Fresh, events, afterAll}
 use Rattle.statement.specs.Demand3.{Demand3}
 use Rattle.statement.specs.Frame.{PlaceAndOne, LeaveStays, nextEntry, Writes}
 use Rattle.statement.specs.Companions.{GraceTraits, IsFresh, MakesFresh, MakingAccepts, InTurn, StateCompanions, GraceStateCompanions, GraceCompanions}
 use Rattle.statement.specs.Kept.{Ghost, ghost₀, advance, next, nextAll, Back, GraceKept, kept-after, grace-demand3, grace-companions}
-use Rattle.publication_law.specs.Steps.{reader, publisher, atPlace, anotherBusy, enterTests, leaveTests, syncTests, sync, raise, walk, oneMore, makingTests, made}
+use Rattle.publication_law.specs.Steps.{reader, publisher, anotherBusy, enterTests, leaveTests, syncTests, sync, raise, walk, oneMore, makingTests, made}
 use Rattle.publication_law.specs.Clear.{MakingClear, making-clear, making-rows, claim-clear, claim-rows}
 use Rattle.publication_law.specs.Damage.{Kind, sharedDamage}
 use Rattle.publication_law.specs.Table.{damaged, rows, step, making, machine}
@@ -178,7 +179,7 @@ module _ (R : Rules) (T : GraceTraits) (L : Lawful R T) where
     unfolding After
     claim-kept p x f =
         let c = claim-clear (R .exclusive) s p x f in
-        let y : Publisher = record { place = 1; held = x; walk = publisher s p .walk } in
+        let y : Publisher = publisher s p atPlace 1 held≔ x in
         let idle-now : publisher s p .place ≡ 0 = c .in-turn in
         let m = publisher-moves (i .shared .every .fine) p y (c .publisher-named) in record {
           shared = early-keeps (R .kind) z g s (i .shared) _ _ _ p y _ _ m
@@ -192,7 +193,7 @@ module _ (R : Rules) (T : GraceTraits) (L : Lawful R T) where
     write-kept p v f =
         let lt : p < publishers (s .words) = leb-false _ _ (f .0) in
         let range = within 1 32 (publisher s p .place) (f .1 .1 .0) in
-        let y : Publisher = atPlace (publisher s p) (publisher s p .place + 1) in
+        let y : Publisher = publisher s p atPlace (publisher s p .place + 1) in
         let low-now : publisher s p .place + 1 ≤ 34 = omega (arith, range .1) in
         let held-below : publisher s p .held < slots (s .words) = publisher-fine (R .kind) (L .kind-law) z g s (i .shared) p lt .held-below (range .0) in
         let m = publisher-moves (i .shared .every .fine) p y lt in record {
@@ -207,7 +208,7 @@ module _ (R : Rules) (T : GraceTraits) (L : Lawful R T) where
     swap-kept p f =
         let lt : p < publishers (s .words) = leb-false _ _ (f .0) in
         let at33 : publisher s p .place ≡ 33 = eqb-true _ _ (not-false _ (f .1 .0)) in
-        let y : Publisher = record { place = 34; held = current (s .words); walk = publisher s p .walk } in
+        let y : Publisher = publisher s p atPlace 34 held≔ current (s .words) in
         let m = publisher-moves-head (i .shared .every .fine) p y lt CURRENT-AT (publisher s p .held) (omega arith) (omega arith) in record {
           shared = early-keeps (R .kind) z g s (i .shared) _ _ _ p y _ _ m
               (swap-keeps (R .kind) z g s (i .shared .every) p f (publisher-fine (R .kind) (L .kind-law) z g s (i .shared) p lt .held-below (omega arith))
@@ -219,7 +220,7 @@ module _ (R : Rules) (T : GraceTraits) (L : Lawful R T) where
     release-kept : (p : ℕ) → AllClear (tableBy R .tests s (Release p)) → After (Release p) (tableBy R .act s (Release p))
     unfolding After
     release-kept p f =
-        let y : Publisher = atPlace (publisher s p) 0 in record {
+        let y : Publisher = publisher s p atPlace 0 in record {
           shared = release-keeps (R .kind) z g s (i .shared) p f (early-fits (L .kind-law) (readers (s .words)) (slots (s .words)) y (omega arith) (λ l. absurd (omega arith)));
           own = L .early-own g _ s _ _ p y _ _ (i .own) refl
               (publisher-moves-head (i .shared .every .fine) p y (leb-false _ _ (f .0)) RELEASES-AT (oneMore s) (omega arith) (omega arith)) refl (omega arith);

@@ -10,6 +10,7 @@ use lib.Dec.{eqb}
 use borrow.Author.Tests.{eqb-true, eqb-false}
 use Rattle.calls.specs.Base.{pick, upd}
 use Rattle.calls.specs.Numbers.{READERS-MAX, PUBLISHERS-MAX}
+use Rattle.calls.specs.RowLaws.{same}
 use Rattle.layout.specs.declared.Reader.{Reader}
 use Rattle.layout.specs.declared.Publisher.{Publisher}
 use Rattle.layout.specs.Layout.{HEAD, indicator, CURRENT-AT, VERSION-AT, RELEASES-AT, WORDS, readers, publishers, current, version, releases, readerAt, publisherAt, withReader, withPublisher}
@@ -43,6 +44,10 @@ pub record MovesPublisher (w w′ : List ℕ) (p : ℕ) (y : Publisher) (cur ver
   pub releases-is : releases w′ ≡ rel
   pub readers-stay : readerAt w′ ≡ readerAt w
   pub publishers-are : publisherAt w′ ≡ upd (publisherAt w) p y
+
+-- The record that was written is the one that is read.
+pub publisher-written : {w w′ : List ℕ} {p : ℕ} {y : Publisher} {cur ver rel : ℕ} → MovesPublisher w w′ p y cur ver rel → publisherAt w′ p ≡ y
+publisher-written {p = p} m = ap (λ (f : ℕ → Publisher). f p) (m .publishers-are) ∙ rw (same p) refl
 
 pub publisher-field : {B : Type 0} (f : Publisher → B) (w w′ : List ℕ) (p : ℕ) (y : Publisher) (cur ver rel : ℕ) → MovesPublisher w w′ p y cur ver rel
     → _≡_ {A = ℕ → B} (λ j. f (publisherAt w′ j)) (upd (λ j. f (publisherAt w j)) p (f y))
@@ -89,6 +94,9 @@ pub record MovesReader (w w′ : List ℕ) (r : ℕ) (x : Reader) : Type 0 where
   pub one : One w w′
   pub readers-are : readerAt w′ ≡ upd (readerAt w) r x
   pub publishers-stay : publisherAt w′ ≡ publisherAt w
+
+pub reader-written : {w w′ : List ℕ} {r : ℕ} {x : Reader} → MovesReader w w′ r x → readerAt w′ r ≡ x
+reader-written {r = r} m = ap (λ (f : ℕ → Reader). f r) (m .readers-are) ∙ rw (same r) refl
 
 pub reader-field : {B : Type 0} (f : Reader → B) (w w′ : List ℕ) (r : ℕ) (x : Reader) → MovesReader w w′ r x
     → _≡_ {A = ℕ → B} (λ j. f (readerAt w′ j)) (upd (λ j. f (readerAt w j)) r (f x))

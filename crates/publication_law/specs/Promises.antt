@@ -18,12 +18,13 @@ use Rattle.calls.specs.AnswerLaws.{NarrowPitch, Proper}
 use Rattle.calls.specs.Events.{accepted}
 use Rattle.layout.specs.declared.Publisher.{Publisher}
 use Rattle.layout.specs.declared.Progress.{Progress}
-use Rattle.layout.specs.Layout.{VERSION-AT, publishers, version, publisherAt}
+use Rattle.layout.specs.Layout.{VERSION-AT, publishers, version, publisherAt, noWalk}
+use Rattle.layout.specs.Records.{_atPlace_, _walk≔_, _mark≔_, _next≔_, _looks≔_, _waits≔_}
 use Rattle.statement.specs.Machine.{State, Outcome, Given, Fresh, afterAll}
 use Rattle.statement.specs.Demand3.{Demand3}
 use Rattle.statement.specs.Frame.{Frame}
 use Rattle.statement.specs.Companions.{GraceTraits, MakingAccepts, MakesFresh, RefusedLeaves, GraceCompanions}
-use Rattle.publication_law.specs.Steps.{publisher, atPlace, raise, walked}
+use Rattle.publication_law.specs.Steps.{publisher, raise, walked}
 use Rattle.publication_law.specs.Table.{Table, damaged, rows, step, making, machine}
 use Rattle.publication_law.specs.Rules.{Rules, tableBy}
 use Rattle.publication_law.specs.DamageLaws.{Fine}
@@ -38,13 +39,13 @@ use Rattle.publication_law.specs.Lawful.{Lawful, demand3-of, companions-
 -- SYNC: the reply is the mark that it stores, the version's successor; next, looks and waits are 0.
 pub record SyncFacts (successor : ℕ → ℕ) (s : State) (p : ℕ) (o : Outcome) : Type 0 where
   pub reply-is : o .reply ≡ Synced (successor (version (s .words)))
-  pub record-is : publisher (o .after) p ≡ record { place = 35; held = publisher s p .held; walk = record { mark = successor (version (s .words)); next = 0; looks = 0; waits = 0 } }
+  pub record-is : publisher (o .after) p ≡ publisher s p atPlace 35 walk≔ (noWalk mark≔ successor (version (s .words)) next≔ 0 looks≔ 0 waits≔ 0)
 
 -- RAISE: raised exactly if the version was one before the mark, and the version then is the mark; else shared, and the version stays. Place 37 either way.
 pub record RaiseFacts (successor : ℕ → ℕ) (s : State) (p : ℕ) (o : Outcome) : Type 0 where
   pub raised : successor (version (s .words)) ≡ publisher s p .walk .mark → (o .reply ≡ Raised) × (version (o .after .words) ≡ publisher s p .walk .mark)
   pub shared : successor (version (s .words)) ≢ publisher s p .walk .mark → (o .reply ≡ Shared) × (version (o .after .words) ≡ version (s .words))
-  pub record-is : publisher (o .after) p ≡ record { place = 37; held = publisher s p .held; walk = publisher s p .walk }
+  pub record-is : publisher (o .after) p ≡ publisher s p atPlace 37
 
 pub record Promises (R : Table) (T : GraceTraits) : Type 0 where
   pub demand3 : Demand3 (machine R) (T .every .first)
@@ -78,13 +79,13 @@ module _ (R : Rules) (T : GraceTraits) (L : Lawful R T) where
   -- A RAISE of a publisher whose mark fits.
   raise-acts : (s : State) (p : ℕ) → Fine (R .kind) s → p < publishers (s .words) → R .kind .versions .wrongMark (publisher s p .walk .mark) ≡ false → RaiseFacts (T .successor) s p (raise (R .kind .versions) s p)
   raise-acts s p fine lt fits = rw (L .successor-is) (pick-split (λ (o : Outcome). RaiseFacts (R .kind .versions .markAt) s p o) (eqb (version (s .words)) (R .kind .versions .beforeMark (publisher s p .walk .mark)))
-      (λ e. let m = publisher-moves-head fine p (atPlace (publisher s p) 37) lt VERSION-AT (publisher s p .walk .mark) (omega arith) (omega arith) in
+      (λ e. let m = publisher-moves-head fine p (publisher s p atPlace 37) lt VERSION-AT (publisher s p .walk .mark) (omega arith) (omega arith) in
       record {
         raised = λ _. (refl, m .version-is);
         shared = λ ne. absurd (ne (ap (R .kind .versions .markAt) (eqb-true _ _ e) ∙ L .kind-law .versions-law .mark-after _ fits));
         record-is = own-record s _ p _ _ _ _ m;
       })
-      (λ e. let m = publisher-moves fine p (atPlace (publisher s p) 37) lt in
+      (λ e. let m = publisher-moves fine p (publisher s p atPlace 37) lt in
       record {
         raised = λ q. absurd (eqb-false _ _ e (sym (L .kind-law .versions-law .before-mark (version (s .words))) ∙ ap (R .kind .versions .beforeMark) q));
         shared = λ ne. (refl, m .version-is);

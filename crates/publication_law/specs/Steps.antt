@@ -17,7 +17,8 @@ use Rattle.layout.specs.declared.Reader.{Reader}
 use Rattle.layout.specs.declared.Publisher.{Publisher}
 use Rattle.layout.specs.declared.Walk.{Walk}
 use Rattle.layout.specs.declared.Progress.{Progress}
-use Rattle.layout.specs.Layout.{WORDS, readers, publishers, slots, current, version, releases, withCurrent, withVersion, withReleases, readerAt, publisherAt, withPublisher, fresh, entryAt}
+use Rattle.layout.specs.Layout.{WORDS, readers, publishers, slots, current, version, releases, withCurrent, withVersion, withReleases, readerAt, publisherAt, withPublisher, noWalk, fresh, entryAt}
+use Rattle.layout.specs.Records.{_atPlace_, _held≔_, _walk≔_, _mark≔_, _next≔_, _looks≔_, _waits≔_}
 use Rattle.statement.specs.Machine.{State, state, Outcome, outcome, Given, heldSlot}
 
 -- What a kind fixes of versions and marks.
@@ -45,9 +46,6 @@ publisher s p = publisherAt (s .words) p
 
 abbrev pub putPublisher : State → ℕ → Publisher → State
 putPublisher s p y = state (withPublisher (s .words) p y) (s .entries)
-
-abbrev pub atPlace : Publisher → ℕ → Publisher
-atPlace y n = record { place = n; held = y .held; walk = y .walk }
 
 -- The first row that applies refuses, and a refused call changes nothing; where none applies the call is accepted.
 abbrev pub decide : List Test → Outcome → State → Outcome
@@ -109,7 +107,7 @@ claimTests exclusive s p x =
     ∷ ((exclusive && anotherBusy s p) gives BUSY) ∷ (inUse s x gives SLOT-IN-USE) ∷ []
 
 abbrev pub claim : State → ℕ → ℕ → Outcome
-claim s p x = outcome (Claimed x) (putPublisher s p (record { place = 1; held = x; walk = publisher s p .walk }))
+claim s p x = outcome (Claimed x) (putPublisher s p (publisher s p atPlace 1 held≔ x))
 
 -- WRITE p v: stores the next entry, replies with the number written. At places 1 to 32 place - 1 entries are written.
 abbrev pub writeTests : State → ℕ → ℤ → List Test
@@ -118,7 +116,7 @@ writeTests s p v = noSuchPublisher s p ∷ badPitch v ∷ publisherTurn (outside
 abbrev pub write : State → ℕ → ℤ → Outcome
 write s p v =
     let y = publisher s p in
-    outcome (Written (y .place)) (state (withPublisher (s .words) p (atPlace y (y .place + 1))) (set (s .entries) (entryAt (y .held) (y .place - 1)) v))
+    outcome (Written (y .place)) (state (withPublisher (s .words) p (y atPlace (y .place + 1))) (set (s .entries) (entryAt (y .held) (y .place - 1)) v))
 
 -- SWAP p: 33 to 34; its slot becomes current, it holds the former one and replies with that.
 abbrev pub swapTests : State → ℕ → List Test
@@ -126,7 +124,7 @@ swapTests s p = noSuchPublisher s p ∷ publisherTurn (not (eqb (publisher s p .
 
 abbrev pub swap : State → ℕ → Outcome
 swap s p = outcome (Swapped (current (s .words))) (state
-    (withCurrent (withPublisher (s .words) p (record { place = 34; held = current (s .words); walk = publisher s p .walk })) (publisher s p .held))
+    (withCurrent (withPublisher (s .words) p (publisher s p atPlace 34 held≔ current (s .words))) (publisher s p .held))
     (s .entries))
 
 -- SYNC p: 34 to 35; mark = version + 1; next, looks and waits become 0. Replies with the mark. 32 version is the last.
@@ -135,11 +133,11 @@ syncTests vs s p =
     noSuchPublisher s p ∷ publisherTurn (not (eqb (publisher s p .place) 34)) ∷ (vs .isLast (version (s .words)) gives VERSION-IS-LAST) ∷ []
 
 abbrev pub newWalk : ℕ → Walk
-newWalk m = record { mark = m; next = 0; looks = 0; waits = 0 }
+newWalk m = noWalk mark≔ m next≔ 0 looks≔ 0 waits≔ 0
 
 abbrev pub sync : Versions → State → ℕ → Outcome
 sync vs s p = outcome (Synced (vs .markAt (version (s .words))))
-    (putPublisher s p (record { place = 35; held = publisher s p .held; walk = newWalk (vs .markAt (version (s .words))) }))
+    (putPublisher s p (publisher s p atPlace 35 walk≔ newWalk (vs .markAt (version (s .words)))))
 
 -- RAISE p (at which place is each kind's own): if version = mark - 1 it becomes mark, reply raised; otherwise reply shared. Place 37 either way.
 abbrev pub raiseTests : (ℕ → Bool) → State → ℕ → List Test
@@ -147,8 +145,8 @@ raiseTests raisesAt s p = noSuchPublisher s p ∷ publisherTurn (not (raisesAt (
 
 abbrev pub raise : Versions → State → ℕ → Outcome
 raise vs s p = pick (eqb (version (s .words)) (vs .beforeMark (publisher s p .walk .mark)))
-    (outcome Raised (state (withVersion (withPublisher (s .words) p (atPlace (publisher s p) 37)) (publisher s p .walk .mark)) (s .entries)))
-    (outcome Shared (putPublisher s p (atPlace (publisher s p) 37)))
+    (outcome Raised (state (withVersion (withPublisher (s .words) p (publisher s p atPlace 37)) (publisher s p .walk .mark)) (s .entries)))
+    (outcome Shared (putPublisher s p (publisher s p atPlace 37)))
 
 -- WALK p b (at which places is each kind's own) moves the four numbers of the publisher named and of no other. 33 looks + b above 2^64 - 1.
 abbrev pub walkTests : (ℕ → Bool) → State → ℕ → ℕ → List Test
@@ -164,7 +162,7 @@ placeAfter place Quiet = 36
 placeAfter place (Returned l w) = 38
 
 abbrev pub walked : Publisher → Progress → Publisher
-walked y k = record { place = placeAfter (y .place) (k .reply); held = y .held; walk = k .walk }
+walked y k = y atPlace (placeAfter (y .place) (k .reply)) walk≔ k .walk
 
 abbrev pub walk : State → ℕ → Progress → Outcome
 walk s p k = outcome (Walked (k .reply)) (putPublisher s p (walked (publisher s p) k))
@@ -178,7 +176,7 @@ oneMore s = (releases (s .words) + 1) % MODULUS
 
 abbrev pub release : State → ℕ → Outcome
 release s p = outcome (Freed (publisher s p .held) (oneMore s)) (state
-    (withReleases (withPublisher (s .words) p (atPlace (publisher s p) 0)) (oneMore s))
+    (withReleases (withPublisher (s .words) p (publisher s p atPlace 0)) (oneMore s))
     (s .entries))
 
 -- Making. 1 at any other length of the words, before all else;

@@ -2,14 +2,16 @@
 // `count_look` takes the record apart and is proved by hand; every caller uses `look_counted`, whose parameters are plain.
 // It uses layout and calls; its contracts cite publication_law and what lies below.
 ghost use mathlib.Core.Path.{_≡_};
+ghost use Rattle.layout.specs.Layout.{noWalk};
+ghost use Rattle.layout.specs.Records.{_mark≔_, _next≔_, _looks≔_, _waits≔_};
 ghost use Rattle.publication_law.specs.Looks.{withLook};
 ghost use Rattle.publication_looks.specs.Fits.{Fits};
 use layout::Walk;
 
 // The four numbers after one look more, which passed so many readers and waited so often.
 fn moved(mark: u64, next: u64, looks: u64, waits: u64, passed: u64, waited: u64) -> Walk
-    requires { ⌜ Fits (record { mark = mark; next = next; looks = looks; waits = waits }) passed waited ⌝ }
-    ensures { λ k. ⌜ k ≡ withLook (record { mark = mark; next = next; looks = looks; waits = waits }) passed waited ⌝ }
+    requires { ⌜ Fits (noWalk mark≔ mark next≔ next looks≔ looks waits≔ waits) passed waited ⌝ }
+    ensures { λ k. ⌜ k ≡ withLook (noWalk mark≔ mark next≔ next looks≔ looks waits≔ waits) passed waited ⌝ }
 {
     Walk {
         mark: mark,

@@ -9,7 +9,8 @@ use Rattle.calls.specs.declared.Call.the-variants.{Enter, Look, Leave, Claim, W
 use Rattle.calls.specs.declared.Reply.the-variants.{Made, Swapped, Walked, Freed, Refused}
 use Rattle.calls.specs.declared.WalkReply.the-variants.{Spent, Returned}
 use Rattle.layout.specs.declared.Publisher.{Publisher}
-use Rattle.layout.specs.Layout.{WORDS, withCurrent, withPublisher}
+use Rattle.layout.specs.Layout.{WORDS, withCurrent, withPublisher, noPublisher, noWalk}
+use Rattle.layout.specs.Records.{_atPlace_, _held≔_, _walk≔_, _mark≔_, _looks≔_}
 use Rattle.statement.specs.Machine.{State, state, Given, given, Machine}
 use Rattle.statement.specs.Examples.{Example, lentFor, enters, tableOf}
 use Rattle.statement.specs.Examples.Example.{shows, makes, each}
@@ -91,7 +92,7 @@ spoiledRows M =
 -- WALK of a publisher that has made 2^64 - 1 looks, at place 38 and at 37: 21 before 33. Neither store is damaged: a RELEASE and a WALK 0 are accepted.
 -- With 2^64 - 2 looks made a WALK 2 gets 33, and a WALK 1 is accepted.
 abbrev pub looked : ℕ → ℕ → Publisher
-looked place looks = record { place = place; held = 1; walk = record { mark = 1; next = 0; looks = looks; waits = 0 } }
+looked place looks = noPublisher atPlace place held≔ 1 walk≔ (noWalk mark≔ 1 looks≔ looks)
 
 abbrev pub walkRows : Machine → List Example
 walkRows M =

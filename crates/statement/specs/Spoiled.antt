@@ -11,7 +11,8 @@ use Rattle.calls.specs.declared.Reply.{Reply}
 use Rattle.calls.specs.declared.Reply.the-variants.{At, Claimed, Refused}
 use Rattle.layout.specs.declared.Reader.{Reader}
 use Rattle.layout.specs.declared.Publisher.{Publisher}
-use Rattle.layout.specs.Layout.{READERS-AT, PUBLISHERS-AT, SLOTS-AT, withCurrent, withVersion, withIndicator, withReader, withPublisher}
+use Rattle.layout.specs.Layout.{READERS-AT, PUBLISHERS-AT, SLOTS-AT, withCurrent, withVersion, withIndicator, withReader, withPublisher, noReader, noPublisher, noWalk}
+use Rattle.layout.specs.Records.{_place≔_, _first≔_, _second≔_, _published≔_, _picked≔_, _atPlace_, _held≔_, _walk≔_, _mark≔_, _next≔_, _looks≔_, _waits≔_}
 use Rattle.statement.specs.Machine.{State, state, Machine}
 use Rattle.statement.specs.Examples.{Example}
 use Rattle.statement.specs.Examples.Example.{each}
@@ -66,10 +67,10 @@ spelled kind = state (kind ∷ 1 ∷ 1 ∷ 2 ∷ 0 ∷ 0 ∷ 0 ∷ 0 ∷ 0 ∷ t
 
 -- The five numbers of a reader and the six of a publisher, in the layout's order.
 abbrev pub readerAs : (place first second published picked : ℕ) → Reader
-readerAs place first second published picked = record { place = place; first = first; second = second; published = published; picked = picked }
+readerAs place first second published picked = noReader place≔ place first≔ first second≔ second published≔ published picked≔ picked
 
 abbrev pub publisherAs : (place held mark next looks waits : ℕ) → Publisher
-publisherAs place held mark next looks waits = record { place = place; held = held; walk = record { mark = mark; next = next; looks = looks; waits = waits } }
+publisherAs place held mark next looks waits = noPublisher atPlace place held≔ held walk≔ (noWalk mark≔ mark next≔ next looks≔ looks waits≔ waits)
 
 -- A size outside the making rules (the slots with as many entries as they need); the largest sizes.
 abbrev pub sizes : List Case

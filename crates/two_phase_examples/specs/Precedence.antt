@@ -7,7 +7,8 @@ use Rattle.calls.specs.declared.Call.the-variants.{Claim}
 use Rattle.calls.specs.declared.Reply.the-variants.{Made, Claimed, Refused}
 use Rattle.calls.specs.Rows.{anyBelow, countBelow}
 use Rattle.layout.specs.declared.Publisher.{Publisher}
-use Rattle.layout.specs.Layout.{indicator, readerAt, publisherAt, withReader, withPublisher, withReaders, fresh}
+use Rattle.layout.specs.Layout.{indicator, readerAt, publisherAt, withReader, withPublisher, withReaders, noPublisher, fresh}
+use Rattle.layout.specs.Records.{_atPlace_, _held≔_}
 use Rattle.statement.specs.Machine.{State, given}
 use Rattle.statement.specs.Examples.{Example, AllHold}
 use Rattle.statement.specs.Examples.Example.{shows, each}
@@ -21,7 +22,7 @@ busyRows = shows TwoPhase (given 1 2 3 0) [] (Claim 1 0 ∷ Claim 0 1 ∷ Claim 
 
 -- A publisher that has claimed slot x.
 abbrev pub claimed : ℕ → Publisher
-claimed x = record { place = 1; held = x; walk = record { mark = 0; next = 0; looks = 0; waits = 0 } }
+claimed x = noPublisher atPlace 1 held≔ x
 
 -- An old store of 3 publishers and 4 slots, put together by hand since 31 keeps calls from leading there: publishers 0 and 1 have both claimed.
 -- It is not damaged.

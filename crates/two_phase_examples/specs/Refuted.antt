@@ -17,11 +17,12 @@ use Rattle.calls.specs.Events.Event.{_⇒_}
 use Rattle.calls.specs.Model.{firstTable}
 use Rattle.calls.specs.Told.{toldBy}
 use Rattle.layout.specs.Layout.{publishers, version, indicator, readerAt, publisherAt, withReader, withPublisher, withReaders, fresh}
+use Rattle.layout.specs.Records.{_atPlace_}
 use Rattle.statement.specs.Machine.{State, Outcome, outcome, Given, given, Machine, Fresh, events, afterAll}
 use Rattle.statement.specs.Demand3.{Demand3}
 use Rattle.statement.specs.Examples.{lentFor, tableOf, publication}
 use Rattle.statement.specs.Refute.{someLeave, not-left, events-append}
-use Rattle.publication_law.specs.Steps.{publisher, putPublisher, atPlace}
+use Rattle.publication_law.specs.Steps.{publisher, putPublisher}
 use Rattle.publication_law.specs.Table.{damaged, step, making}
 use Rattle.publication_law.specs.Rules.{Rules, tableBy}
 use Rattle.publication_law.specs.Varied.{varied}
@@ -47,7 +48,7 @@ publishedStep s (Write p v) = step (tableBy several) s (Write p v)
 publishedStep s (Swap p) = step (tableBy several) s (Swap p)
 publishedStep s (Sync p) = step (tableBy several) s (Sync p)
 publishedStep s (Raise p) = step (tableBy several) s (Raise p)
-publishedStep s (Walk p b) = pick (breaksOff s p) (outcome (Walked Spent) (putPublisher s p (atPlace (publisher s p) 37))) (step (tableBy several) s (Walk p b))
+publishedStep s (Walk p b) = pick (breaksOff s p) (outcome (Walked Spent) (putPublisher s p (publisher s p atPlace 37))) (step (tableBy several) s (Walk p b))
 publishedStep s (Release p) = step (tableBy several) s (Release p)
 
 pub Published : Machine

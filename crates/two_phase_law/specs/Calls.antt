@@ -21,6 +21,7 @@ use Rattle.layout.specs.declared.Reader.{Reader}
 use Rattle.layout.specs.declared.Publisher.{Publisher}
 use Rattle.layout.specs.declared.Walk.{Walk}
 use Rattle.layout.specs.Layout.{readers, current, version, indicator, readerAt, withReader, withIndicator}
+use Rattle.layout.specs.Records.{_place≔_, _first≔_, _picked≔_}
 use Rattle.statement.specs.Machine.{State, state, outcome}
 use Rattle.publication_law.specs.Steps.{reader}
 use Rattle.publication_law.specs.Looks.{withLook}
@@ -150,15 +151,15 @@ module _ (ss : ℕ) (x : Reader) where
 
 -- A reader one place on, by its place.
 module _ (v cur : ℕ) (x : Reader) where
-  pub onward-loads : x .place ≡ 0 → record { place = 1; first = v; second = x .second; published = x .published; picked = x .picked } ≡ onward v cur x
+  pub onward-loads : x .place ≡ 0 → (x place≔ 1 first≔ v) ≡ onward v cur x
   unfolding onward
   onward-loads e = rw e refl
 
-  pub onward-arrives : x .place ≡ 1 → record { place = 4; first = x .first; second = x .second; published = x .published; picked = x .picked } ≡ onward v cur x
+  pub onward-arrives : x .place ≡ 1 → (x place≔ 4) ≡ onward v cur x
   unfolding onward
   onward-arrives e = rw e refl
 
-  pub onward-picks : x .place ≢ 0 → x .place ≢ 1 → record { place = 5; first = x .first; second = x .second; published = x .published; picked = cur } ≡ onward v cur x
+  pub onward-picks : x .place ≢ 0 → x .place ≢ 1 → (x place≔ 5 picked≔ cur) ≡ onward v cur x
   unfolding onward
   onward-picks a b = rw (ne-eqb (x .place) 0 a, ne-eqb (x .place) 1 b) refl
 

@@ -9,17 +9,19 @@ use lib.Dec.{eqb}
 use borrow.Author.Tests.{leb-false}
 use Rattle.calls.specs.declared.Call.the-variants.{Enter, Leave}
 use Rattle.calls.specs.declared.Reply.the-variants.{At, Left}
-use Rattle.calls.specs.Base.{pick, upd}
-use Rattle.calls.specs.RowLaws.{clash, same}
+use Rattle.calls.specs.Base.{pick}
+use Rattle.calls.specs.RowLaws.{clash}
 use Rattle.calls.specs.Events.{accepted}
 use Rattle.layout.specs.declared.Reader.{Reader}
-use Rattle.layout.specs.Layout.{HEAD, readers, current, version, indicator, readerAt, withReader, withIndicator}
+use Rattle.layout.specs.Layout.{HEAD, readers, current, version, indicator, withReader, withIndicator}
+use Rattle.layout.specs.Records.{_place≔_, _first≔_, _picked≔_}
 use Rattle.layout.specs.Laws.{indicator-reader}
 use Rattle.statement.specs.Machine.{State, Outcome}
 use Rattle.publication_law.specs.Steps.{reader}
 use Rattle.publication_law.specs.DamageLaws.{Fine}
 use Rattle.publication_law.specs.Table.{rows, step}
 use Rattle.publication_law.specs.Calls.{undamaged-fine}
+use Rattle.publication_law.specs.Moves.{reader-written}
 use Rattle.publication_law.specs.Decide.{decided}
 use Rattle.two_phase_law.specs.Steps.{kind, entered, enterWords, leaving, leaveWords, rules}
 use Rattle.two_phase_law.specs.Safety.{enter-moves, leave-moves, changed-indicator}
@@ -29,17 +31,17 @@ use Rattle.two_phase_law.specs.Calls.{onward-loads, onward-arrives, onwa
 pub record EnterFacts (s : State) (r : ℕ) (o : Outcome) : Type 0 where
   pub reply-is : o .reply ≡ At (reader (o .after) r .place)
   pub from-0 : reader s r .place ≡ 0
-      → reader (o .after) r ≡ record { place = 1; first = version (s .words); second = reader s r .second; published = reader s r .published; picked = reader s r .picked }
+      → reader (o .after) r ≡ reader s r place≔ 1 first≔ version (s .words)
   pub from-1 : reader s r .place ≡ 1
-      → reader (o .after) r ≡ record { place = 4; first = reader s r .first; second = reader s r .second; published = reader s r .published; picked = reader s r .picked }
+      → reader (o .after) r ≡ reader s r place≔ 4
   pub from-4 : reader s r .place ≡ 4
-      → reader (o .after) r ≡ record { place = 5; first = reader s r .first; second = reader s r .second; published = reader s r .published; picked = current (s .words) }
+      → reader (o .after) r ≡ reader s r place≔ 5 picked≔ current (s .words)
   pub counts : (i : ℕ) → indicator (o .after .words) i ≡ pick (eqb (reader s r .place) 1 && eqb (reader s r .first % 2) i) (indicator (s .words) i + 1) (indicator (s .words) i)
 
 -- LEAVE goes to 0 and takes one from the indicator that r added to.
 pub record LeaveFacts (s : State) (r : ℕ) (o : Outcome) : Type 0 where
   pub reply-is : o .reply ≡ Left
-  pub record-is : reader (o .after) r ≡ record { place = 0; first = reader s r .first; second = reader s r .second; published = reader s r .published; picked = reader s r .picked }
+  pub record-is : reader (o .after) r ≡ reader s r place≔ 0
   pub counts : (i : ℕ) → indicator (o .after .words) i ≡ pick (eqb (reader s r .first % 2) i) (indicator (s .words) i - 1) (indicator (s .words) i)
 
 module _ (s : State) (fine : Fine kind s) (r : ℕ) where
@@ -62,7 +64,7 @@ unfolding step
 old-enter-facts s r = decided (λ (o : Outcome). accepted (o .reply) ≡ true → EnterFacts s r o) (rows rules s (Enter r)) (rules .act s (Enter r)) s refl
     (λ f _.
     let fine = undamaged-fine rules s (f .0) in
-    let is = ap (λ (g : ℕ → Reader). g r) (enter-moves s fine r (leb-false (readers (s .words)) r (f .1 .0)) .readers-are) ∙ mine in record {
+    let is = reader-written (enter-moves s fine r (leb-false (readers (s .words)) r (f .1 .0))) in record {
       reply-is = ap (λ (x : Reader). At (x .place)) (sym is);
       from-0 = λ e. is ∙ sym (onward-loads _ (current (s .words)) (reader s r) e);
       from-1 = λ e. is ∙ sym (onward-arrives (version (s .words)) (current (s .words)) (reader s r) e);
@@ -70,9 +72,6 @@ old-enter-facts s r = decided (λ (o : Outcome). accepted (o .reply) ≡ true �
       counts = enter-counts s fine r;
     })
     (λ ok. clash (sym ok))
-  where
-    mine : upd (readerAt (s .words)) r (entered s r) r ≡ entered s r
-    mine = rw (same r) refl
 
 pub old-leave-facts : (s : State) (r : ℕ) → accepted (step rules s (Leave r) .reply) ≡ true → LeaveFacts s r (step rules s (Leave r))
 unfolding step
@@ -80,10 +79,7 @@ old-leave-facts s r = decided (λ (o : Outcome). accepted (o .reply) ≡ true �
     (λ f _.
     let fine = undamaged-fine rules s (f .0) in record {
       reply-is = refl;
-      record-is = ap (λ (g : ℕ → Reader). g r) (leave-moves s fine r (leb-false (readers (s .words)) r (f .1 .0)) .readers-are) ∙ mine;
+      record-is = reader-written (leave-moves s fine r (leb-false (readers (s .words)) r (f .1 .0)));
       counts = leave-counts s fine r;
     })
     (λ ok. clash (sym ok))
-  where
-    mine : upd (readerAt (s .words)) r (leaving (reader s r)) r ≡ leaving (reader s r)
-    mine = rw (same r) refl

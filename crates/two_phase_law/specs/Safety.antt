@@ -20,6 +20,7 @@ use Rattle.calls.specs.RowLaws.{clash, by-test, neither, or-none, all-false, no
 use Rattle.layout.specs.declared.Reader.{Reader}
 use Rattle.layout.specs.declared.Publisher.{Publisher}
 use Rattle.layout.specs.Layout.{HEAD, INDICATORS, INDICATORS-AT, readers, publishers, slots, current, version, indicator, readerAt, withReader, withIndicator}
+use Rattle.layout.specs.Records.{_place≔_, _first≔_, _picked≔_}
 use Rattle.layout.specs.Laws.{length-reader, indicator-reader, indicator-put, fresh-indicator, fresh-reader}
 use Rattle.statement.specs.Machine.{State, state, Given}
 use Rattle.statement.specs.Frame.{PlaceAndOne}
@@ -59,28 +60,28 @@ detector = record {
 
 -- ENTER, by the place.
 module _ (ver cur : ℕ) where
-  onward-goes : (pl f s u k : ℕ) → pl ≤ 4 → pl ≢ 2 → pl ≢ 3 → let x = onward ver cur (record { place = pl; first = f; second = s; published = u; picked = k }) in Onward cur pl k (x .place) (x .picked)
+  onward-goes : (x : Reader) (pl : ℕ) → pl ≤ 4 → pl ≢ 2 → pl ≢ 3 → let y = onward ver cur (x place≔ pl) in Onward cur pl (x .picked) (y .place) (y .picked)
   unfolding onward
-  onward-goes zero f s u k l n2 n3 = stays-out (omega arith) (omega arith) refl
-  onward-goes (suc zero) f s u k l n2 n3 = opens (omega arith) refl refl
-  onward-goes (suc (suc zero)) f s u k l n2 n3 = absurd (n2 refl)
-  onward-goes (suc (suc (suc zero))) f s u k l n2 n3 = absurd (n3 refl)
-  onward-goes (suc (suc (suc (suc zero)))) f s u k l n2 n3 = picks refl refl refl
-  onward-goes (suc (suc (suc (suc (suc pl))))) f s u k l n2 n3 = absurd (omega arith)
+  onward-goes x zero l n2 n3 = stays-out (omega arith) (omega arith) refl
+  onward-goes x (suc zero) l n2 n3 = opens (omega arith) refl refl
+  onward-goes x (suc (suc zero)) l n2 n3 = absurd (n2 refl)
+  onward-goes x (suc (suc (suc zero))) l n2 n3 = absurd (n3 refl)
+  onward-goes x (suc (suc (suc (suc zero)))) l n2 n3 = picks refl refl refl
+  onward-goes x (suc (suc (suc (suc (suc pl))))) l n2 n3 = absurd (omega arith)
 
-  onward-fits : (slots pl f s u k : ℕ) → cur < slots → AllFalse (readerRows slots (onward ver cur (record { place = pl; first = f; second = s; published = u; picked = k })))
+  onward-fits : (slots : ℕ) (x : Reader) (pl : ℕ) → cur < slots → AllFalse (readerRows slots (onward ver cur (x place≔ pl)))
   unfolding onward
-  onward-fits slots zero f s u k c = (refl, (refl, (refl, (refl, tt))))
-  onward-fits slots (suc zero) f s u k c = (refl, (refl, (refl, (refl, tt))))
-  onward-fits slots (suc (suc pl)) f s u k c = rw (ne-eqb (suc (suc pl)) 0 (λ z. omega arith), ne-eqb (suc (suc pl)) 1 (λ z. omega arith)) (refl, (refl, (refl, (lt-leb slots cur c, tt))))
+  onward-fits slots x zero c = (refl, (refl, (refl, (refl, tt))))
+  onward-fits slots x (suc zero) c = (refl, (refl, (refl, (refl, tt))))
+  onward-fits slots x (suc (suc pl)) c = rw (ne-eqb (suc (suc pl)) 0 (λ z. omega arith), ne-eqb (suc (suc pl)) 1 (λ z. omega arith)) (refl, (refl, (refl, (lt-leb slots cur c, tt))))
 
 onward-place : (ver cur : ℕ) (x : Reader) → onward ver cur x .place ≡ placeOn (x .place)
 unfolding onward
 onward-place ver cur x = go (eqb (x .place) 0) (eqb (x .place) 1)
   where
-    go : (a b : Bool) → pick {A = Reader} a (record { place = 1; first = ver; second = x .second; published = x .published; picked = x .picked })
-        (pick b (record { place = 4; first = x .first; second = x .second; published = x .published; picked = x .picked })
-        (record { place = 5; first = x .first; second = x .second; published = x .published; picked = cur })) .place ≡ pick a 1 (pick b 4 5)
+    go : (a b : Bool) → pick {A = Reader} a (x place≔ 1 first≔ ver)
+        (pick b (x place≔ 4)
+        (x place≔ 5 picked≔ cur)) .place ≡ pick a 1 (pick b 4 5)
     go true b = refl
     go false true = refl
     go false false = refl
@@ -132,7 +133,7 @@ module _ (z : Given) (g : Ghost) (s : State) (i : Good kind (OwnOf detector) z g
   arrived : (r pl : ℕ) → r < readers (s .words) → reader s r .place ≡ pl → pl ≤ 4 → pl ≢ 2 → pl ≢ 3 → Counted (readers (s .words)) (indicator (enterWords s r)) (upd (readerAt (s .words)) r (entered s r))
   unfolding onward
   arrived r zero rn e l n2 n3 =
-      let x : Reader = record { place = 1; first = version (s .words); second = reader s r .second; published = reader s r .published; picked = reader s r .picked } in
+      let x : Reader = reader s r place≔ 1 first≔ version (s .words) in
       rw (eq-eqb (reader s r .place) 0 e, ne-eqb (reader s r .place) 1 (λ q. omega arith)) (same-counted r x rn (λ k. sym (out-added (reader s r) k (omega arith))))
   arrived r (suc zero) rn e l n2 n3 = rw (ne-eqb (reader s r .place) 0 (λ q. omega arith), eq-eqb (reader s r .place) 1 e)
       (arrives-counted _ (indicator (s .words)) (readerAt (s .words)) (i .own .readers-are) r rn _ _ (omega arith) (omega arith)
@@ -140,7 +141,7 @@ module _ (z : Given) (g : Ghost) (s : State) (i : Good kind (OwnOf detector) z g
   arrived r (suc (suc zero)) rn e l n2 n3 = absurd (n2 refl)
   arrived r (suc (suc (suc zero))) rn e l n2 n3 = absurd (n3 refl)
   arrived r (suc (suc (suc (suc zero)))) rn e l n2 n3 =
-      let x : Reader = record { place = 5; first = reader s r .first; second = reader s r .second; published = reader s r .published; picked = current (s .words) } in
+      let x : Reader = reader s r place≔ 5 picked≔ current (s .words) in
       rw (ne-eqb (reader s r .place) 0 (λ q. omega arith), ne-eqb (reader s r .place) 1 (λ q. omega arith)) (same-counted r x rn (λ k. sym (in-added (reader s r) k (omega arith))))
   arrived r (suc (suc (suc (suc (suc pl))))) rn e l n2 n3 = absurd (omega arith)
 
@@ -152,8 +153,8 @@ module _ (z : Given) (g : Ghost) (s : State) (i : Good kind (OwnOf detector) z g
       let n2 = eqb-false (reader s r .place) 2 (rf .1 .0) in
       let n3 = eqb-false (reader s r .place) 3 (rf .1 .1 .0) in
       enter-good detector kind law z g s i _ r (entered s r) (enter-moves s (i .shared .every .fine) r lt)
-      (none-true (readerRows (slots (s .words)) (entered s r)) (onward-fits _ _ _ _ _ _ _ _ (i .shared .every .fine .head .current-below)))
-      (arrived r _ lt refl l n2 n3) lt (onward-goes _ _ _ _ _ _ _ l n2 n3) (λ four y b. rw (onward-first (version (s .words)) (current (s .words)) (reader s r) four) b)
+      (none-true (readerRows (slots (s .words)) (entered s r)) (onward-fits _ _ _ (reader s r) _ (i .shared .every .fine .head .current-below)))
+      (arrived r _ lt refl l n2 n3) lt (onward-goes _ _ (reader s r) _ l n2 n3) (λ four y b. rw (onward-first (version (s .words)) (current (s .words)) (reader s r) four) b)
 
   leave-kept : (r : ℕ) → AllClear (leaveTests s r) → Good kind (OwnOf detector) z (kept.advance g (Leave r) Left) (state (leaveWords s r) (s .entries))
   leave-kept r f =

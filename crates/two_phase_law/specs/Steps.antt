@@ -13,6 +13,7 @@ use Rattle.layout.specs.declared.Reader.{Reader}
 use Rattle.layout.specs.declared.Publisher.{Publisher}
 use Rattle.layout.specs.declared.Progress.{Progress}
 use Rattle.layout.specs.Layout.{readers, current, version, indicator, readerAt, withIndicator, withReader, blankReader}
+use Rattle.layout.specs.Records.{_place≔_, _first≔_, _picked≔_, _looks≔_, _waits≔_}
 use Rattle.statement.specs.Machine.{State, Machine}
 use Rattle.publication_law.specs.Steps.{Versions, upTo, reader, publisher}
 use Rattle.publication_law.specs.Damage.{Kind, wrongPick, publisherRows}
@@ -57,9 +58,9 @@ miscounted s i = miscountedAt (s .words) (readers (s .words)) i
 -- ENTER r: 0 to 1 loads the version; 1 to 4 adds one to the indicator of its parity; 4 to 5 picks.
 unfoldable pub onward : ℕ → ℕ → Reader → Reader
 onward version current x =
-    pick (eqb (x .place) 0) (record { place = 1; first = version; second = x .second; published = x .published; picked = x .picked })
-    (pick (eqb (x .place) 1) (record { place = 4; first = x .first; second = x .second; published = x .published; picked = x .picked })
-    (record { place = 5; first = x .first; second = x .second; published = x .published; picked = current }))
+    pick (eqb (x .place) 0) (x place≔ 1 first≔ version)
+    (pick (eqb (x .place) 1) (x place≔ 4)
+    (x place≔ 5 picked≔ current))
 
 -- The place that follows: 1, 4, 5.
 abbrev pub placeOn : ℕ → ℕ
@@ -76,7 +77,7 @@ enterWords s r =
 
 -- LEAVE r goes to 0 and takes one from the indicator that r added to. The slot that was picked stays in its word, and counts no more.
 abbrev pub leaving : Reader → Reader
-leaving x = record { place = 0; first = x .first; second = x .second; published = x .published; picked = x .picked }
+leaving x = x place≔ 0
 
 abbrev pub leaveWords : State → ℕ → List ℕ
 leaveWords s r =
@@ -88,7 +89,7 @@ abbrev pub watched : Publisher → ℕ
 watched y = pick (eqb (y .place) 35) (parity (y .walk .mark)) (1 - parity (y .walk .mark))
 
 abbrev pub progress : Publisher → ℕ → ℕ → WalkReply → Progress
-progress y looks waits a = record { walk = record { mark = y .walk .mark; next = y .walk .next; looks = looks; waits = waits }; reply = a }
+progress y looks waits a = record { walk = y .walk looks≔ looks waits≔ waits; reply = a }
 
 -- At 35 zero gives quiet and place 36; at 37 zero gives returned and place 38. Nonzero: waits rises, waiting with the indicator's number.
 -- Spent exactly if b = 0. Every look, passed or not, adds one to looks.

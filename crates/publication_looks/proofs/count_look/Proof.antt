@@ -39,6 +39,7 @@ use denote.Triple.Table.{entered, cited}
 use denote.Triple.Walked.{says, needs, Stays, stay-ref, stay-none, walkOf, goes-none, goes-ref, Walks, ends-at, walked, walk-meets}
 use denote.Exit.{yes}
 use Rattle.layout.specs.declared.Walk.{Walk}
+use Rattle.layout.specs.Records.{_mark≔_}
 use Rattle.publication_law.specs.Looks.{withLook}
 use Rattle.publication_looks.specs.Fits.{Fits}
 use Rattle.layout.proofs.Walk as T
@@ -78,7 +79,7 @@ module _ {M : Type 1} (𝓤 : URA M) (H : Heap 𝓤) (A : Atoms 𝓤) (W : Given
 
   -- the record with the numbers of r but for the mark
   abbrev put : Walk → Walk
-  put r = record { mark = h .mark; next = r .next; looks = r .looks; waits = r .waits }
+  put r = r mark≔ h .mark
 
   abbrev Post : Val → SProp 𝓤
   Post = walkOf 𝓤 H A count-look.ended stayed (count-look.clauses 𝓤 H A at-mem run) .post (((κ, tt), (s, tt), tt, x, at), tt)

@@ -1,0 +1,57 @@
+-- A record with one number anew: `x place≔ 1 first≔ v` is the reader x with place 1 and first v, and every other number as it was.
+-- A reader's place is set by place≔, a publisher's by atPlace.
+use Prim.Native.Nat.{ℕ}
+use Rattle.layout.specs.declared.Reader.{Reader}
+use Rattle.layout.specs.declared.Publisher.{Publisher}
+use Rattle.layout.specs.declared.Walk.{Walk}
+
+-- Readers.
+infixl 20 _place≔_
+abbrev pub _place≔_ : Reader → ℕ → Reader
+x place≔ n = record { place = n; first = x .first; second = x .second; published = x .published; picked = x .picked }
+
+infixl 20 _first≔_
+abbrev pub _first≔_ : Reader → ℕ → Reader
+x first≔ n = record { place = x .place; first = n; second = x .second; published = x .published; picked = x .picked }
+
+infixl 20 _second≔_
+abbrev pub _second≔_ : Reader → ℕ → Reader
+x second≔ n = record { place = x .place; first = x .first; second = n; published = x .published; picked = x .picked }
+
+infixl 20 _published≔_
+abbrev pub _published≔_ : Reader → ℕ → Reader
+x published≔ n = record { place = x .place; first = x .first; second = x .second; published = n; picked = x .picked }
+
+infixl 20 _picked≔_
+abbrev pub _picked≔_ : Reader → ℕ → Reader
+x picked≔ n = record { place = x .place; first = x .first; second = x .second; published = x .published; picked = n }
+
+-- Publishers.
+infixl 20 _atPlace_
+abbrev pub _atPlace_ : Publisher → ℕ → Publisher
+y atPlace n = record { place = n; held = y .held; walk = y .walk }
+
+infixl 20 _held≔_
+abbrev pub _held≔_ : Publisher → ℕ → Publisher
+y held≔ n = record { place = y .place; held = n; walk = y .walk }
+
+infixl 20 _walk≔_
+abbrev pub _walk≔_ : Publisher → Walk → Publisher
+y walk≔ k = record { place = y .place; held = y .held; walk = k }
+
+-- Walks.
+infixl 20 _mark≔_
+abbrev pub _mark≔_ : Walk → ℕ → Walk
+k mark≔ n = record { mark = n; next = k .next; looks = k .looks; waits = k .waits }
+
+infixl 20 _next≔_
+abbrev pub _next≔_ : Walk → ℕ → Walk
+k next≔ n = record { mark = k .mark; next = n; looks = k .looks; waits = k .waits }
+
+infixl 20 _looks≔_
+abbrev pub _looks≔_ : Walk → ℕ → Walk
+k looks≔ n = record { mark = k .mark; next = k .next; looks = n; waits = k .waits }
+
+infixl 20 _waits≔_
+abbrev pub _waits≔_ : Walk → ℕ → Walk
+k waits≔ n = record { mark = k .mark; next = k .next; looks = k .looks; waits = n }
