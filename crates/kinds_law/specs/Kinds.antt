@@ -1,5 +1,6 @@
 -- Words of any kind: the kind word tells which store they are, and that store's own making and step are what is done.
 use Prim.Native.Nat.{ℕ}
+use mathlib.Core.Bool.{Bool, false}
 use mathlib.Core.Option.{Option, none, some}
 use lib.Dec.{eqb}
 use Rattle.calls.specs.declared.Call.{Call}
@@ -39,6 +40,11 @@ stepOf (some k) s c = step (rulesOf k) s c
 -- Each call takes the words, whatever kind they are, and hands them back with a reply.
 unfoldable pub anyStep : State → Call → Outcome
 anyStep s c = stepOf (named (kind (s .words))) s c
+
+-- Whether the words' kind lacks a call. Words of no kind lack none: each gets 1.
+abbrev pub lackedBy : Option Name → Call → Bool
+lackedBy none c = false
+lackedBy (some k) c = rulesOf k .lacks c
 
 -- Making is its kind's own; a kind that there is not gets 1 before all else, and words and entries stay as lent.
 abbrev pub makingOf : Option Name → Given → State → Outcome

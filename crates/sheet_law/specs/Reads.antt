@@ -5,7 +5,7 @@ use Prim.Native.Nat.{ℕ, _+_, _*_, _<_, _≤_}
 use native.Mathlib.Omega.{arith}
 use mathlib.Core.Path.{_≡_, refl, sym, ap, _∙_}
 use mathlib.Core.Bool.{Bool, true, false}
-use mathlib.Core.Option.{none}
+use mathlib.Core.Option.{Option, none, some}
 use mathlib.Core.List.{List, [], _∷_, _++_, flatten, append-assoc}
 use lib.Dec.{eqb, ltb}
 use lib.ListN.{length, take, length-append, length-take, take-append-drop}
@@ -17,7 +17,8 @@ use Rattle.calls.specs.declared.Reply.the-variants.{Refused}
 use Rattle.calls.specs.Numbers.{TABLE, NUMBER-MAX, DAMAGED}
 use Rattle.layout.specs.Layout.{kind}
 use Rattle.statement.specs.Machine.{State, state, outcome, given}
-use Rattle.kinds_law.specs.Kinds.{named, anyStep}
+use Rattle.kinds_law.specs.Kinds.{Name, named, anyStep, lackedBy}
+use Rattle.kinds_law.specs.Kinds.Name.{new, old}
 use Rattle.kinds_law.specs.Calls.{any-making-leaves}
 use Rattle.sheet_law.specs.declared.Command.the-variants.{Make, Run}
 use Rattle.sheet_law.specs.declared.Line.{Line}
@@ -108,13 +109,18 @@ pub next-is : (n : ℕ) → n < NUMBER-MAX → next n ≡ n + 1
 next-is n l = omega arith
 
 -- Every line is read as its bytes say: no kind lacks a call today.
+lacks-none : (o : Option Name) (c : Call) → lackedBy o c ≡ false
+lacks-none none c = refl
+lacks-none (some new) c = refl
+lacks-none (some old) c = refl
+
 pub known-all : (s : State) (l : List ℕ) → lineFor s l ≡ lineOf l
 known-all s l = go (lineOf l)
   where
     go : (x : Line) → known (kind (s .words)) x ≡ x
     go Unread = refl
     go (Read (Make k rs ps ss v)) = refl
-    go (Read (Run c)) = refl
+    go (Read (Run c)) = rw (lacks-none (named (kind (s .words))) c) refl
 
 -- An unread line makes no call: it says `unread`, and the store is the one before.
 pub unread-makes-no-call : (s : State) (l : List ℕ) → lineOf l ≡ Unread → (saidTo s (lineFor s l) ≡ text "unread") × (afterLine s (lineFor s l) ≡ s)

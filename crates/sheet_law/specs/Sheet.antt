@@ -5,12 +5,11 @@ use mathlib.Core.List.{List, [], _∷_, _++_}
 use lib.Dec.{eqb, ltb}
 use lib.IntN.{ℤ, pos}
 use lib.ListN.{length, take, drop, replicate}
-use Rattle.calls.specs.declared.Call.{Call}
 use Rattle.calls.specs.Base.{pick}
 use Rattle.calls.specs.Numbers.{MODULUS, TABLE, SLOTS-MAX}
 use Rattle.layout.specs.Layout.{WORDS, kind, slots}
 use Rattle.statement.specs.Machine.{State, state, Outcome, outcome, given}
-use Rattle.kinds_law.specs.Kinds.{anyStep, anyMaking}
+use Rattle.kinds_law.specs.Kinds.{named, anyStep, lackedBy, anyMaking}
 use Rattle.sheet_law.specs.declared.Command.{Command}
 use Rattle.sheet_law.specs.declared.Command.the-variants.{Make, Run}
 use Rattle.sheet_law.specs.declared.Line.{Line}
@@ -40,13 +39,10 @@ played s (Make k rs ps ss v) = lent (ss * TABLE) (anyMaking k (given rs ps ss v)
 played s (Run c) = lent (slots (s .words) * TABLE) (λ (t : State). anyStep t c) s
 
 -- A call that the made store's kind lacks is unread. Both kinds have the ten calls, so that no call is; before a made store each gets 1.
-abbrev pub lacks : ℕ → Call → Bool
-lacks kind c = false
-
 abbrev pub known : ℕ → Line → Line
 known kind Unread = Unread
 known kind (Read (Make k rs ps ss v)) = Read (Make k rs ps ss v)
-known kind (Read (Run c)) = pick (lacks kind c) Unread (Read (Run c))
+known kind (Read (Run c)) = pick (lackedBy (named kind) c) Unread (Read (Run c))
 
 abbrev pub lineFor : State → List ℕ → Line
 lineFor s l = known (kind (s .words)) (lineOf l)
