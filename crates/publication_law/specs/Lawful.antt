@@ -4,29 +4,26 @@ use Prim.Native.Nat.{ℕ, _+_, _%_, _<_, _≤_}
 use native.Mathlib.Omega.{arith}
 use mathlib.Core.Path.{_≡_, refl, sym, ap, _∙_, subst}
 use mathlib.Core.Logic.{_≢_}
-use mathlib.Core.Bool.{Bool, true, false, not, _&&_}
+use mathlib.Core.Bool.{Bool, true, false, not}
 use mathlib.Core.List.{List, [], _∷_}
-use mathlib.Core.Option.{some}
 use lib.IntN.{ℤ, pos}
-use lib.Signed.{ltZ}
-use lib.ListN.{getD, length, length-set, replicate}
+use lib.ListN.{getD, length-set, replicate}
 use lib.Seq.{getD-set-same, getD-set-other}
-use lib.Dec.{leb, eqb}
-use borrow.Author.Tests.{eqb-true, eqb-false, eq-eqb, ne-eqb, leb-false, lt-leb, lt-ltb, ltb-false, le-ltb, not-true, not-false}
+use lib.Dec.{eqb}
+use borrow.Author.Tests.{eqb-true, eq-eqb, leb-false, lt-leb, lt-ltb, ltb-false, le-ltb, not-false}
 use Rattle.calls.specs.declared.Call.{Call}
 use Rattle.calls.specs.declared.Call.the-variants.{Enter, Look, Leave, Claim, Write, Swap, Sync, Raise, Walk, Release}
 use Rattle.calls.specs.declared.Reply.{Reply}
-use Rattle.calls.specs.declared.Reply.the-variants.{Made, At, Pitch, Left, Written, Swapped, Synced, Walked, Freed, Refused}
+use Rattle.calls.specs.declared.Reply.the-variants.{Made, At, Left, Synced, Walked, Freed, Refused}
 use Rattle.calls.specs.declared.WalkReply.the-variants.{Spent, Returned}
-use Rattle.calls.specs.Numbers.{READERS-MAX, TABLE, PITCH-LOW, PITCH-HIGH, FEATHERED, NUMBER-MAX, NOT-READING, MODULUS, DAMAGED, BUSY}
-use Rattle.calls.specs.Rows.{outside}
-use Rattle.calls.specs.RowLaws.{clash, and-not, neither, negated, within, not-outside, no-below, some-below, AllClear, allAbove, all-above}
+use Rattle.calls.specs.Numbers.{READERS-MAX, FEATHERED, NUMBER-MAX, NOT-READING, MODULUS, DAMAGED}
+use Rattle.calls.specs.RowLaws.{clash, neither, negated, within, AllClear, allAbove, all-above}
 use Rattle.calls.specs.AnswerLaws.{Proper}
 use Rattle.calls.specs.Events.{accepted}
 use Rattle.calls.specs.Events.Event.{_⇒_}
-use Rattle.calls.specs.Model.{entry, firstTable}
+use Rattle.calls.specs.Model.{firstTable}
 use Rattle.calls.specs.Tally.{Phase, firstPlace}
-use Rattle.calls.specs.Tally.Phase.{idle, writing, swapped, returned}
+use Rattle.calls.specs.Tally.Phase.{swapped, returned}
 use Rattle.layout.specs.declared.Reader.{Reader}
 use Rattle.layout.specs.declared.Publisher.{Publisher}
 use Rattle.layout.specs.Layout.{HEAD, READERS-AT, PUBLISHERS-AT, SLOTS-AT, CURRENT-AT, VERSION-AT, RELEASES-AT, readers, publishers, slots, current, version, blankReader, noPublisher}
@@ -37,20 +34,21 @@ use Rattle.statement.specs.Demand3.{Demand3}
 use Rattle.statement.specs.Frame.{PlaceAndOne, LeaveStays, nextEntry, Writes}
 use Rattle.statement.specs.Companions.{GraceTraits, IsFresh, MakesFresh, MakingAccepts, InTurn, StateCompanions, GraceStateCompanions, GraceCompanions}
 use Rattle.statement.specs.Kept.{Ghost, ghost₀, advance, next, nextAll, Back, GraceKept, kept-after, grace-demand3, grace-companions}
-use Rattle.publication_law.specs.Steps.{reader, publisher, anotherBusy, enterTests, leaveTests, syncTests, sync, raise, walk, oneMore, makingTests, made}
-use Rattle.publication_law.specs.Clear.{MakingClear, making-clear, making-rows, claim-clear, claim-rows}
+use Rattle.publication_law.specs.Steps.{reader, publisher, enterTests, leaveTests, syncTests, sync, raise, walk, oneMore, makingTests, made}
+use Rattle.publication_law.specs.Clear.{MakingClear, making-clear, making-rows, claim-clear}
 use Rattle.publication_law.specs.Damage.{Kind, sharedDamage}
 use Rattle.publication_law.specs.Table.{damaged, rows, step, making, machine}
 use Rattle.publication_law.specs.Rules.{Rules, tableBy}
 use Rattle.publication_law.specs.DamageLaws.{Fine, fine-to, publisher-below}
 use Rattle.publication_law.specs.Moves.{MovesPublisher, MovesReader, publisher-moves, publisher-moves-head}
-use Rattle.publication_law.specs.Phases.{phaseAt, phase-writing, phase-turn}
+use Rattle.publication_law.specs.Phases.{phaseAt, phase-turn}
 use Rattle.publication_law.specs.GraceInvariant.{GraceInvariant}
 use Rattle.publication_law.specs.KindLaw.{KindLaw, places, fine-publisher, early-fits}
-use Rattle.publication_law.specs.Keeps.{claim-keeps, claim-unpicked, write-keeps, swap-keeps, look-right, slots-right, picks-right, table-right, placed, idle-told, busy-told, former-told, free-told}
+use Rattle.publication_law.specs.Keeps.{claim-keeps, write-keeps, swap-keeps, slots-right, picks-right, table-right, placed, idle-told, former-told}
+use Rattle.publication_law.specs.Served.{SharedCalls, named-reader, named-publisher, look-turn, claim-turn, write-turn, swap-turn, look-shelf, claim-safe, looks-on, claims-on, refused-busy, writes-on, swaps-on}
 use Rattle.publication_law.specs.GraceKeeps.{early-keeps, release-keeps, released-in-order, idle-empty, publisher-fine, made-invariant}
 use Rattle.publication_law.specs.TableLaws.{Acted, ActLaws, only-damaged}
-use Rattle.publication_law.specs.Calls.{undamaged-fine}
+use Rattle.publication_law.specs.Calls.{step-undamaged, undamaged-fine}
 use Rattle.publication_law.specs.Decide.{raise-split, decided, decide-accepts}
 use Rattle.publication_law.specs.Frames.{same-framed, reader-framed, claim-framed, write-framed, swap-framed, sync-framed, raise-framed, walk-framed, release-framed}
 
@@ -249,16 +247,6 @@ module _ (R : Rules) (T : GraceTraits) (L : Lawful R T) where
     unfolding After step
     stepped c = decided (After c) (rows (tableBy R) s c) (tableBy R .act s c) s (all-numbers s c) (λ f. act-kept c (f .1)) i
 
-    look-shelf : (r k : ℕ) → accepted (step (tableBy R) s (Look r k) .reply) ≡ true → (v : ℤ) × (step (tableBy R) s (Look r k) .reply ≡ Pitch v) × (entry (g .model .note r) k ≡ some v)
-    unfolding step
-    look-shelf r k = decided (λ (o : Outcome). accepted (o .reply) ≡ true → (v : ℤ) × (o .reply ≡ Pitch v) × (entry (g .model .note r) k ≡ some v)) (rows (tableBy R) s (Look r k)) (tableBy R .act s (Look r k)) s refl
-        (λ f ok. (_, refl, look-right (R .kind) z g s (i .shared .every) r k (f .1))) (λ ok. clash (sym ok))
-
-    claim-safe : (p x r : ℕ) → accepted (step (tableBy R) s (Claim p x) .reply) ≡ true → ¬ (g .told .picked r ≡ some x)
-    unfolding step
-    claim-safe p x r = decided (λ (o : Outcome). accepted (o .reply) ≡ true → ¬ (g .told .picked r ≡ some x)) (rows (tableBy R) s (Claim p x)) (tableBy R .act s (Claim p x)) s refl
-        (λ f ok. claim-unpicked (R .kind) z g s (i .shared .every) (R .exclusive) p x (claim-clear (R .exclusive) s p x (f .1)) r) (λ ok. clash (sym ok))
-
     return-back : (p b l w : ℕ) → step (tableBy R) s (Walk p b) .reply ≡ Walked (Returned l w) → Back T z g p l w
     unfolding step
     return-back p b l w = decided (λ (o : Outcome). o .reply ≡ Walked (Returned l w) → Back T z g p l w) (rows (tableBy R) s (Walk p b)) (tableBy R .act s (Walk p b)) s refl
@@ -277,46 +265,17 @@ module _ (R : Rules) (T : GraceTraits) (L : Lawful R T) where
     unfolding step
     accepts c f = decide-accepts (rows (tableBy R) s c) (tableBy R .act s c) s (undamaged-now, f)
 
-    named-reader : (r : ℕ) → r < z .readers → leb (readers (s .words)) r ≡ false
-    named-reader r l = lt-leb (readers (s .words)) r (omega (arith, i .shared .every .sized .readers-are))
-
-    named-publisher : (p : ℕ) → p < z .publishers → leb (publishers (s .words)) p ≡ false
-    named-publisher p l = lt-leb (publishers (s .words)) p (omega (arith, i .shared .every .sized .publishers-are))
-
-    named-slot : (x : ℕ) → x < z .slots → leb (slots (s .words)) x ≡ false
-    named-slot x l = lt-leb (slots (s .words)) x (omega (arith, i .shared .every .sized .slots-are))
-
-    idle-turn : (p : ℕ) → g .tally .phase p ≡ idle → not (eqb (publisher s p .place) 0) ≡ false
-    idle-turn p e = negated _ (eq-eqb (publisher s p .place) 0 (placed (R .kind) z g s (i .shared .every) p idle e))
-
-    nobody-busy : (p : ℕ) → (R .exclusive ≡ true → (q : ℕ) → q ≢ p → g .tally .phase q ≡ idle) → (R .exclusive && anotherBusy s p) ≡ false
-    nobody-busy p f = and-not (R .exclusive) (anotherBusy s p) (λ e. no-below _ (publishers (s .words)) (λ q l. and-not (not (eqb q p)) (not (eqb (publisher s q .place) 0)) (λ d. idle-turn q (f e q (eqb-false q p (not-true _ d))))))
-
-    refused-busy : R .exclusive ≡ true → (p x q : ℕ) → p < z .publishers → x < z .slots → g .tally .phase p ≡ idle → q ≢ p → g .tally .phase q ≢ idle
-        → step (tableBy R) s (Claim p x) .reply ≡ Refused BUSY
-    unfolding step
-    refused-busy e p x q pn xn idle-now ne busy =
-        let b = busy-told (R .kind) z g s (i .shared .every) q busy in
-        let another : anotherBusy s p ≡ true = some-below (λ q. not (eqb q p) && not (eqb (publisher s q .place) 0)) (publishers (s .words)) q (b .0) (rw (ne-eqb q p ne, b .1) refl) in
-        rw (undamaged-now, named-publisher p pn, named-slot x xn, idle-turn p idle-now, e, another) refl
-
-    writes-on : (p : ℕ) (v : ℤ) → p < z .publishers → g .tally .phase p ≡ writing → length (g .model .draft p) < TABLE → ltZ v PITCH-LOW ≡ false → ltZ PITCH-HIGH v ≡ false
-        → step (tableBy R) s (Write p v) .reply ≡ Written (length (g .model .draft p) + 1)
-    writes-on p v pn ph short low high =
-        let at = placed (R .kind) z g s (i .shared .every) p writing ph in
-        let pl = i .shared .every .core .publishers p .drafted (at .0) (at .1) in
-        let turn : outside 1 32 (publisher s p .place) ≡ false = not-outside 1 32 (publisher s p .place) (at .0) (omega arith) in
-        rw (accepts (Write p v) (named-publisher p pn, (neither (ltZ v PITCH-LOW) (ltZ PITCH-HIGH v) low high, (turn, tt)))) (ap Written (sym pl))
-
-    swaps-on : (p : ℕ) → p < z .publishers → g .tally .phase p ≡ writing → length (g .model .draft p) ≡ TABLE → (x : ℕ) × (g .told .current ≡ some x) × (step (tableBy R) s (Swap p) .reply ≡ Swapped x)
-    swaps-on p pn ph all =
-        let at = placed (R .kind) z g s (i .shared .every) p writing ph in
-        let pl = i .shared .every .core .publishers p .drafted (at .0) (at .1) in
-        let turn : not (eqb (publisher s p .place) 33) ≡ false = negated _ (eq-eqb (publisher s p .place) 33 (omega arith)) in
-        (current (s .words), i .shared .every .core .current-is, rw (accepts (Swap p) (named-publisher p pn, (turn, tt))) refl)
+    -- What every kind serves.
+    shared-calls : SharedCalls (R .exclusive) (machine (tableBy R)) s
+    shared-calls = record {
+      looks = λ r k. sym (step-undamaged (tableBy R) s (Look r k) undamaged-now);
+      claims = λ p x. sym (step-undamaged (tableBy R) s (Claim p x) undamaged-now);
+      writes = λ p v. sym (step-undamaged (tableBy R) s (Write p v) undamaged-now);
+      swaps = λ p. sym (step-undamaged (tableBy R) s (Swap p) undamaged-now);
+    }
 
     syncs-on : (p : ℕ) → p < z .publishers → g .tally .phase p ≡ swapped → version (s .words) < T .every .last → accepted (step (tableBy R) s (Sync p) .reply) ≡ true
-    syncs-on p pn ph low = rw (accepts (Sync p) (named-publisher p pn, (negated _ (eq-eqb (publisher s p .place) 34 (placed (R .kind) z g s (i .shared .every) p swapped ph)), (L .below-last (version (s .words)) low, tt)))) refl
+    syncs-on p pn ph low = rw (accepts (Sync p) (named-publisher (R .kind) z g s (i .shared .every) p pn, (negated _ (eq-eqb (publisher s p .place) 34 (placed (R .kind) z g s (i .shared .every) p swapped ph)), (L .below-last (version (s .words)) low, tt)))) refl
 
     -- Whether RAISE and WALK are in turn is told by the phase.
     turn-told : (f : ℕ → Bool) → ((pl : ℕ) → pl ≤ 34 → f pl ≡ false) → (p : ℕ) → p < publishers (s .words) → f (firstPlace (g .tally .phase p)) ≡ f (publisher s p .place)
@@ -331,14 +290,14 @@ module _ (R : Rules) (T : GraceTraits) (L : Lawful R T) where
 
     raises-on : (p : ℕ) → p < z .publishers → T .every .raisesIn (g .tally .phase p) ≡ true → accepted (step (tableBy R) s (Raise p) .reply) ≡ true
     raises-on p pn e =
-        let turn : R .raisesAt (publisher s p .place) ≡ true = sym (raise-told p (leb-false _ _ (named-publisher p pn))) ∙ e in
-        let f : AllClear (tableBy R .tests s (Raise p)) = (named-publisher p pn, (negated _ turn, tt)) in
+        let turn : R .raisesAt (publisher s p .place) ≡ true = sym (raise-told p (leb-false _ _ (named-publisher (R .kind) z g s (i .shared .every) p pn))) ∙ e in
+        let f : AllClear (tableBy R .tests s (Raise p)) = (named-publisher (R .kind) z g s (i .shared .every) p pn, (negated _ turn, tt)) in
         rw (accepts (Raise p) f) (acted s (Raise p) (undamaged-now, f) .accepts)
 
     walks-on : (p b : ℕ) → p < z .publishers → T .every .walksIn (g .tally .phase p) ≡ true → publisher s p .walk .looks + b ≤ NUMBER-MAX → accepted (step (tableBy R) s (Walk p b) .reply) ≡ true
     walks-on p b pn e few-looks =
-        let turn : R .walksAt (publisher s p .place) ≡ true = sym (walk-told p (leb-false _ _ (named-publisher p pn))) ∙ e in
-        rw (accepts (Walk p b) (named-publisher p pn, (negated _ turn, (le-ltb NUMBER-MAX (publisher s p .walk .looks + b) few-looks, tt)))) refl
+        let turn : R .walksAt (publisher s p .place) ≡ true = sym (walk-told p (leb-false _ _ (named-publisher (R .kind) z g s (i .shared .every) p pn))) ∙ e in
+        rw (accepts (Walk p b) (named-publisher (R .kind) z g s (i .shared .every) p pn, (negated _ turn, (le-ltb NUMBER-MAX (publisher s p .walk .looks + b) few-looks, tt)))) refl
 
     -- An accepted call is in its turn.
     at-phase : (p pl : ℕ) (x : Phase) → eqb (publisher s p .place) pl ≡ true → phaseAt pl ≡ x → g .tally .phase p ≡ x
@@ -346,17 +305,11 @@ module _ (R : Rules) (T : GraceTraits) (L : Lawful R T) where
 
     turn-clear : (c : Call) → AllClear (tableBy R .tests s c) → InTurn (T .every) (g .model) (g .tally) c
     turn-clear (Enter r) f = let l = leb-false 5 (reader s r .place) (f .1 .0) in omega (arith, i .shared .every .phases .places r)
-    turn-clear (Look r k) f = i .shared .every .phases .places r ∙ eqb-true (reader s r .place) 5 (not-false _ (f .1 .1 .0))
+    turn-clear (Look r k) f = look-turn (R .kind) z g s (i .shared .every) r k f
     turn-clear (Leave r) f = let l = ltb-false (reader s r .place) 4 (f .1 .0) in omega (arith, i .shared .every .phases .places r)
-    turn-clear (Claim p x) f = i .shared .every .phases .phases p ∙ ap phaseAt (claim-clear (R .exclusive) s p x f .in-turn)
-    turn-clear (Write p v) f =
-        let range = within 1 32 (publisher s p .place) (f .1 .1 .0) in
-        let drafted = i .shared .every .core .publishers p .drafted (range .0) (omega (arith, range .1)) in
-        (i .shared .every .phases .phases p ∙ phase-writing (publisher s p .place) (range .0) (omega (arith, range .1)), omega (arith, drafted, range .1))
-    turn-clear (Swap p) f =
-        let at33 = eqb-true (publisher s p .place) 33 (not-false _ (f .1 .0)) in
-        let drafted = i .shared .every .core .publishers p .drafted (omega arith) (omega arith) in
-        (at-phase p 33 writing (not-false _ (f .1 .0)) refl, omega (arith, drafted, at33))
+    turn-clear (Claim p x) f = claim-turn (R .kind) z g s (i .shared .every) (R .exclusive) p x f
+    turn-clear (Write p v) f = write-turn (R .kind) z g s (i .shared .every) p v f
+    turn-clear (Swap p) f = swap-turn (R .kind) z g s (i .shared .every) p f
     turn-clear (Sync p) f = at-phase p 34 swapped (not-false _ (f .1 .0)) refl
     turn-clear (Raise p) f = raise-told p (leb-false _ _ (f .0)) ∙ not-false _ (f .1 .0)
     turn-clear (Walk p b) f = walk-told p (leb-false _ _ (f .0)) ∙ not-false _ (f .1 .0)
@@ -371,29 +324,21 @@ module _ (R : Rules) (T : GraceTraits) (L : Lawful R T) where
         → (x : ℕ) × (g .told .former p x ≡ true) × (step (tableBy R) s (Release p) .reply ≡ Freed x ((g .tally .releases + 1) % MODULUS))
     frees-on p pn ph =
         let at = placed (R .kind) z g s (i .shared .every) p returned ph in
-        let top = places (L .kind-law) (readers (s .words)) (slots (s .words)) (publisher s p) (i .shared .every .fine .publishers-fine p (leb-false _ _ (named-publisher p pn))) in
+        let top = places (L .kind-law) (readers (s .words)) (slots (s .words)) (publisher s p) (i .shared .every .fine .publishers-fine p (leb-false _ _ (named-publisher (R .kind) z g s (i .shared .every) p pn))) in
         let turn : not (eqb (publisher s p .place) 38) ≡ false = negated _ (eq-eqb (publisher s p .place) 38 (omega arith)) in
         let n : oneMore s ≡ (g .tally .releases + 1) % MODULUS = omega (arith, i .shared .tallied .releases-are) in
-        (publisher s p .held, former-told (R .kind) z g s (i .shared .every) p (omega arith), rw (accepts (Release p) (named-publisher p pn, (turn, tt)), n) refl)
+        (publisher s p .held, former-told (R .kind) z g s (i .shared .every) p (omega arith), rw (accepts (Release p) (named-publisher (R .kind) z g s (i .shared .every) p pn, (turn, tt)), n) refl)
 
     state-companions : StateCompanions (machine (tableBy R)) (T .every) z (g .model) (g .told) (g .tally) s
     state-companions = record {
       undamaged = λ c _. not-damaged c;
       in-turn = turn-right;
-      looks = λ r k rn k32 five.
-          rw (accepts (Look r k) (named-reader r rn, (le-ltb 31 k (omega arith), (negated _ (eq-eqb (reader s r .place) 5 (sym (i .shared .every .phases .places r) ∙ five)), tt)))) refl;
-      claims = λ p x pn xn fr idle-now others.
-          rw (accepts (Claim p x) (claim-rows (R .exclusive) s p x (record {
-            publisher-named = leb-false _ _ (named-publisher p pn);
-            slot-named = leb-false _ _ (named-slot x xn);
-            in-turn = placed (R .kind) z g s (i .shared .every) p idle idle-now;
-            nobody-busy = nobody-busy p (rw (L .exclusive-is) at others);
-            unused = free-told (R .kind) z g s (i .shared .every) x fr;
-          }))) refl;
-      busy = λ e. refused-busy (sym (L .exclusive-is) ∙ e);
+      looks = looks-on (R .kind) z g s (i .shared .every) (R .exclusive) (machine (tableBy R)) shared-calls;
+      claims = rw (L .exclusive-is) (claims-on (R .kind) z g s (i .shared .every) (R .exclusive) (machine (tableBy R)) shared-calls);
+      busy = rw (L .exclusive-is) (refused-busy (R .kind) z g s (i .shared .every) (R .exclusive) (machine (tableBy R)) shared-calls);
       idle-if = idle-told (R .kind) z g s (i .shared .every);
-      writes = writes-on;
-      swaps = swaps-on;
+      writes = writes-on (R .kind) z g s (i .shared .every) (R .exclusive) (machine (tableBy R)) shared-calls;
+      swaps = swaps-on (R .kind) z g s (i .shared .every) (R .exclusive) (machine (tableBy R)) shared-calls;
     }
 
     grace-state-companions : GraceStateCompanions (machine (tableBy R)) T z (g .model) (g .told) (g .tally) s
@@ -401,8 +346,8 @@ module _ (R : Rules) (T : GraceTraits) (L : Lawful R T) where
       enters = λ r rn low.
           let pl : g .tally .place r ≡ reader s r .place = i .shared .every .phases .places r in
           let rs : r < readers (s .words) = omega (arith, i .shared .every .sized .readers-are) in
-          rw (accepts (Enter r) (named-reader r rn, (lt-leb 5 (reader s r .place) (omega arith), tt)), pl) (ap At (L .enter-place s (i .shared .every .fine) r rs (omega arith)));
-      leaves = λ r rn four. rw (accepts (Leave r) (named-reader r rn, (le-ltb (reader s r .place) 4 (omega (arith, i .shared .every .phases .places r)), tt))) refl;
+          rw (accepts (Enter r) (named-reader (R .kind) z g s (i .shared .every) r rn, (lt-leb 5 (reader s r .place) (omega arith), tt)), pl) (ap At (L .enter-place s (i .shared .every .fine) r rs (omega arith)));
+      leaves = λ r rn four. rw (accepts (Leave r) (named-reader (R .kind) z g s (i .shared .every) r rn, (le-ltb (reader s r .place) 4 (omega (arith, i .shared .every .phases .places r)), tt))) refl;
       idle-only-if = idle-empty (R .kind) z g s (i .shared);
       syncs = syncs-on;
       raises = raises-on;
@@ -459,8 +404,8 @@ module _ (R : Rules) (T : GraceTraits) (L : Lawful R T) where
       Inv = Good (R .kind) (L .Own);
       start = λ s f. rw (L .first-is) (start s f);
       keep = stepped;
-      look = look-shelf;
-      claim = claim-safe;
+      look = λ z g s i. look-shelf (R .kind) z g s (i .shared .every) (R .exclusive) (machine (tableBy R)) (shared-calls z g s i);
+      claim = λ z g s i. claim-safe (R .kind) z g s (i .shared .every) (R .exclusive) (machine (tableBy R)) (shared-calls z g s i);
       slots = λ z g s i. slots-right (R .kind) z g s (i .shared .every);
       picks = λ z g s i. picks-right (R .kind) z g s (i .shared .every);
       table = λ z g s i. table-right (R .kind) z g s (i .shared .every);

@@ -15,6 +15,7 @@ pub mod Invariant
 pub mod GraceInvariant
 pub mod KindLaw
 pub mod Keeps
+pub mod Served
 pub mod GraceKeeps
 pub mod Sound
 pub mod Calls
