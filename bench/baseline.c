@@ -13,70 +13,70 @@
     do { \
         if (words_len != WORDS) \
             return refused(1); \
-        if (words[0] == 1) \
+        if (words[0] == RAHUVYTE_KIND_NEW) \
             return new_##call(words, words_len, entries, entries_len, __VA_ARGS__); \
-        if (words[0] == 2) \
+        if (words[0] == RAHUVYTE_KIND_OLD) \
             return old_##call(words, words_len, entries, entries_len, __VA_ARGS__); \
         return refused(1); \
     } while (0)
 
-struct rahuvyte_reply c_make(uint64_t *words, size_t words_len, int16_t *entries, size_t entries_len, uint16_t kind, uint16_t readers, uint16_t publishers, uint16_t slots, uint64_t version)
+struct rahuvyte_reply c_make(uint64_t *words, size_t words_len, rahuvyte_pitch *entries, size_t entries_len, uint16_t kind, uint16_t readers, uint16_t publishers, uint16_t slots, uint64_t version)
 {
     if (words_len != WORDS)
         return refused(1);
-    if (kind == 1)
+    if (kind == RAHUVYTE_KIND_NEW)
         return new_make(words, words_len, entries, entries_len, readers, publishers, slots, version);
-    if (kind == 2)
+    if (kind == RAHUVYTE_KIND_OLD)
         return old_make(words, words_len, entries, entries_len, readers, publishers, slots, version);
     return refused(1);
 }
 
-struct rahuvyte_reply c_enter(uint64_t *words, size_t words_len, const int16_t *entries, size_t entries_len, uint16_t r)
+struct rahuvyte_reply c_enter(uint64_t *words, size_t words_len, const rahuvyte_pitch *entries, size_t entries_len, uint16_t r)
 {
     BY_KIND(enter, r);
 }
 
-struct rahuvyte_reply c_look(const uint64_t *words, size_t words_len, const int16_t *entries, size_t entries_len, uint16_t r, uint16_t k)
+struct rahuvyte_reply c_look(const uint64_t *words, size_t words_len, const rahuvyte_pitch *entries, size_t entries_len, uint16_t r, uint16_t k)
 {
     BY_KIND(look, r, k);
 }
 
-struct rahuvyte_reply c_leave(uint64_t *words, size_t words_len, const int16_t *entries, size_t entries_len, uint16_t r)
+struct rahuvyte_reply c_leave(uint64_t *words, size_t words_len, const rahuvyte_pitch *entries, size_t entries_len, uint16_t r)
 {
     BY_KIND(leave, r);
 }
 
-struct rahuvyte_reply c_claim(uint64_t *words, size_t words_len, const int16_t *entries, size_t entries_len, uint16_t p, uint16_t x)
+struct rahuvyte_reply c_claim(uint64_t *words, size_t words_len, const rahuvyte_pitch *entries, size_t entries_len, uint16_t p, uint16_t x)
 {
     BY_KIND(claim, p, x);
 }
 
-struct rahuvyte_reply c_write(uint64_t *words, size_t words_len, int16_t *entries, size_t entries_len, uint16_t p, int16_t v)
+struct rahuvyte_reply c_write(uint64_t *words, size_t words_len, rahuvyte_pitch *entries, size_t entries_len, uint16_t p, rahuvyte_pitch v)
 {
     BY_KIND(write, p, v);
 }
 
-struct rahuvyte_reply c_swap(uint64_t *words, size_t words_len, const int16_t *entries, size_t entries_len, uint16_t p)
+struct rahuvyte_reply c_swap(uint64_t *words, size_t words_len, const rahuvyte_pitch *entries, size_t entries_len, uint16_t p)
 {
     BY_KIND(swap, p);
 }
 
-struct rahuvyte_reply c_sync(uint64_t *words, size_t words_len, const int16_t *entries, size_t entries_len, uint16_t p)
+struct rahuvyte_reply c_sync(uint64_t *words, size_t words_len, const rahuvyte_pitch *entries, size_t entries_len, uint16_t p)
 {
     BY_KIND(sync, p);
 }
 
-struct rahuvyte_reply c_raise(uint64_t *words, size_t words_len, const int16_t *entries, size_t entries_len, uint16_t p)
+struct rahuvyte_reply c_raise(uint64_t *words, size_t words_len, const rahuvyte_pitch *entries, size_t entries_len, uint16_t p)
 {
     BY_KIND(raise, p);
 }
 
-struct rahuvyte_reply c_walk(uint64_t *words, size_t words_len, const int16_t *entries, size_t entries_len, uint16_t p, uint16_t b)
+struct rahuvyte_reply c_walk(uint64_t *words, size_t words_len, const rahuvyte_pitch *entries, size_t entries_len, uint16_t p, uint16_t b)
 {
     BY_KIND(walk, p, b);
 }
 
-struct rahuvyte_reply c_release(uint64_t *words, size_t words_len, const int16_t *entries, size_t entries_len, uint16_t p)
+struct rahuvyte_reply c_release(uint64_t *words, size_t words_len, const rahuvyte_pitch *entries, size_t entries_len, uint16_t p)
 {
     BY_KIND(release, p);
 }

@@ -5,16 +5,16 @@
 
 #include "../include/rahuvyte.h"
 
-struct rahuvyte_reply c_make(uint64_t *words, size_t words_len, int16_t *entries, size_t entries_len, uint16_t kind, uint16_t readers, uint16_t publishers, uint16_t slots, uint64_t version);
-struct rahuvyte_reply c_enter(uint64_t *words, size_t words_len, const int16_t *entries, size_t entries_len, uint16_t r);
-struct rahuvyte_reply c_look(const uint64_t *words, size_t words_len, const int16_t *entries, size_t entries_len, uint16_t r, uint16_t k);
-struct rahuvyte_reply c_leave(uint64_t *words, size_t words_len, const int16_t *entries, size_t entries_len, uint16_t r);
-struct rahuvyte_reply c_claim(uint64_t *words, size_t words_len, const int16_t *entries, size_t entries_len, uint16_t p, uint16_t x);
-struct rahuvyte_reply c_write(uint64_t *words, size_t words_len, int16_t *entries, size_t entries_len, uint16_t p, int16_t v);
-struct rahuvyte_reply c_swap(uint64_t *words, size_t words_len, const int16_t *entries, size_t entries_len, uint16_t p);
-struct rahuvyte_reply c_sync(uint64_t *words, size_t words_len, const int16_t *entries, size_t entries_len, uint16_t p);
-struct rahuvyte_reply c_raise(uint64_t *words, size_t words_len, const int16_t *entries, size_t entries_len, uint16_t p);
-struct rahuvyte_reply c_walk(uint64_t *words, size_t words_len, const int16_t *entries, size_t entries_len, uint16_t p, uint16_t b);
-struct rahuvyte_reply c_release(uint64_t *words, size_t words_len, const int16_t *entries, size_t entries_len, uint16_t p);
+struct rahuvyte_reply c_make(uint64_t *words, size_t words_len, rahuvyte_pitch *entries, size_t entries_len, uint16_t kind, uint16_t readers, uint16_t publishers, uint16_t slots, uint64_t version);
+struct rahuvyte_reply c_enter(uint64_t *words, size_t words_len, const rahuvyte_pitch *entries, size_t entries_len, uint16_t r);
+struct rahuvyte_reply c_look(const uint64_t *words, size_t words_len, const rahuvyte_pitch *entries, size_t entries_len, uint16_t r, uint16_t k);
+struct rahuvyte_reply c_leave(uint64_t *words, size_t words_len, const rahuvyte_pitch *entries, size_t entries_len, uint16_t r);
+struct rahuvyte_reply c_claim(uint64_t *words, size_t words_len, const rahuvyte_pitch *entries, size_t entries_len, uint16_t p, uint16_t x);
+struct rahuvyte_reply c_write(uint64_t *words, size_t words_len, rahuvyte_pitch *entries, size_t entries_len, uint16_t p, rahuvyte_pitch v);
+struct rahuvyte_reply c_swap(uint64_t *words, size_t words_len, const rahuvyte_pitch *entries, size_t entries_len, uint16_t p);
+struct rahuvyte_reply c_sync(uint64_t *words, size_t words_len, const rahuvyte_pitch *entries, size_t entries_len, uint16_t p);
+struct rahuvyte_reply c_raise(uint64_t *words, size_t words_len, const rahuvyte_pitch *entries, size_t entries_len, uint16_t p);
+struct rahuvyte_reply c_walk(uint64_t *words, size_t words_len, const rahuvyte_pitch *entries, size_t entries_len, uint16_t p, uint16_t b);
+struct rahuvyte_reply c_release(uint64_t *words, size_t words_len, const rahuvyte_pitch *entries, size_t entries_len, uint16_t p);
 
 #endif

@@ -12,7 +12,7 @@ enum { WORDS = RAHUVYTE_WORDS, TABLE = RAHUVYTE_TABLE, ENTRIES_MAX = RAHUVYTE_SL
 enum { FIRST_READER = 9, READER_WORDS = 5, FIRST_PUBLISHER = 329, PUBLISHER_WORDS = 6 };
 
 static uint64_t words[2][WORDS];
-static int16_t entries[2][ENTRIES_MAX];
+static rahuvyte_pitch entries[2][ENTRIES_MAX];
 static size_t entries_len;
 static uint64_t state;
 
@@ -55,7 +55,7 @@ static void reader_goes_on(uint16_t r)
 static void publisher_goes_on(uint16_t p, uint16_t slots)
 {
     const uint16_t slot = (uint16_t)below(slots), b = (uint16_t)below(9);
-    const int16_t v = (int16_t)((int)below(10001) - 500);
+    const rahuvyte_pitch v = (rahuvyte_pitch)((int)below(RAHUVYTE_PITCH_HIGH - RAHUVYTE_PITCH_LOW + 1) + RAHUVYTE_PITCH_LOW);
     switch (words[1][FIRST_PUBLISHER + PUBLISHER_WORDS * p]) {
     case 0:
         BOTH(claim, p, slot);

@@ -6,7 +6,7 @@
 
 static inline bool NAMED(damaged)(const struct store *s, size_t words_len, size_t entries_len)
 {
-    if (words_len != WORDS || s->kind != 1)
+    if (words_len != WORDS || s->kind != RAHUVYTE_KIND_NEW)
         return true;
     const uint64_t readers = s->readers, publishers = s->publishers, slots = s->slots;
     if (readers - 1 >= READERS_MAX || publishers - 1 >= PUBLISHERS_MAX || slots - 2 > SLOTS_MAX - 2)
@@ -48,7 +48,7 @@ static inline bool NAMED(damaged)(const struct store *s, size_t words_len, size_
 
 #include "shared_calls.h"
 
-static struct rahuvyte_reply NAMED(make)(uint64_t *words, size_t words_len, int16_t *entries, size_t entries_len, uint16_t readers, uint16_t publishers, uint16_t slots, uint64_t version)
+static struct rahuvyte_reply NAMED(make)(uint64_t *words, size_t words_len, rahuvyte_pitch *entries, size_t entries_len, uint16_t readers, uint16_t publishers, uint16_t slots, uint64_t version)
 {
     struct store *s = (struct store *)words;
     if (words_len != WORDS)
@@ -64,7 +64,7 @@ static struct rahuvyte_reply NAMED(make)(uint64_t *words, size_t words_len, int1
     if (version > LAST)
         return refused(6);
     memset(s, 0, sizeof *s);
-    s->kind = 1;
+    s->kind = RAHUVYTE_KIND_NEW;
     s->readers = readers;
     s->publishers = publishers;
     s->slots = slots;
@@ -73,11 +73,11 @@ static struct rahuvyte_reply NAMED(make)(uint64_t *words, size_t words_len, int1
         s->reader[r].published = NOT_READING;
     for (uint16_t i = 0; i < slots; i++)
         for (int k = 0; k < TABLE; k++)
-            entries[i * TABLE + k] = 9000;
+            entries[i * TABLE + k] = RAHUVYTE_FEATHERED;
     return accepted(100, 0, 0);
 }
 
-static struct rahuvyte_reply NAMED(enter)(uint64_t *words, size_t words_len, const int16_t *entries, size_t entries_len, uint16_t r)
+static struct rahuvyte_reply NAMED(enter)(uint64_t *words, size_t words_len, const rahuvyte_pitch *entries, size_t entries_len, uint16_t r)
 {
     struct store *s = (struct store *)words;
     (void)entries;
@@ -109,7 +109,7 @@ static struct rahuvyte_reply NAMED(enter)(uint64_t *words, size_t words_len, con
     return accepted(101, ++x->place, 0);
 }
 
-static struct rahuvyte_reply NAMED(leave)(uint64_t *words, size_t words_len, const int16_t *entries, size_t entries_len, uint16_t r)
+static struct rahuvyte_reply NAMED(leave)(uint64_t *words, size_t words_len, const rahuvyte_pitch *entries, size_t entries_len, uint16_t r)
 {
     struct store *s = (struct store *)words;
     (void)entries;
@@ -125,7 +125,7 @@ static struct rahuvyte_reply NAMED(leave)(uint64_t *words, size_t words_len, con
     return accepted(103, 0, 0);
 }
 
-static struct rahuvyte_reply NAMED(claim)(uint64_t *words, size_t words_len, const int16_t *entries, size_t entries_len, uint16_t p, uint16_t x)
+static struct rahuvyte_reply NAMED(claim)(uint64_t *words, size_t words_len, const rahuvyte_pitch *entries, size_t entries_len, uint16_t p, uint16_t x)
 {
     struct store *s = (struct store *)words;
     (void)entries;
@@ -147,7 +147,7 @@ static struct rahuvyte_reply NAMED(claim)(uint64_t *words, size_t words_len, con
     return accepted(104, x, 0);
 }
 
-static struct rahuvyte_reply NAMED(raise)(uint64_t *words, size_t words_len, const int16_t *entries, size_t entries_len, uint16_t p)
+static struct rahuvyte_reply NAMED(raise)(uint64_t *words, size_t words_len, const rahuvyte_pitch *entries, size_t entries_len, uint16_t p)
 {
     struct store *s = (struct store *)words;
     (void)entries;
@@ -165,7 +165,7 @@ static struct rahuvyte_reply NAMED(raise)(uint64_t *words, size_t words_len, con
     return accepted(108, 0, 0);
 }
 
-static struct rahuvyte_reply NAMED(walk)(uint64_t *words, size_t words_len, const int16_t *entries, size_t entries_len, uint16_t p, uint16_t b)
+static struct rahuvyte_reply NAMED(walk)(uint64_t *words, size_t words_len, const rahuvyte_pitch *entries, size_t entries_len, uint16_t p, uint16_t b)
 {
     struct store *s = (struct store *)words;
     (void)entries;

@@ -15,7 +15,7 @@ enum call { ENTER, LEAVE, SWAP, SYNC, RAISE, RELEASE, LOOK, CLAIM, WALK, WRITE }
 
 static uint64_t words[RAHUVYTE_WORDS];
 /* Room for any number of slots that can be written on a sheet: making refuses what is too many. */
-static int16_t entries[RAHUVYTE_ENTRIES(UINT16_MAX)];
+static rahuvyte_pitch entries[RAHUVYTE_ENTRIES(UINT16_MAX)];
 static size_t entries_len;
 
 #define STORE words, RAHUVYTE_WORDS, entries, entries_len
@@ -113,7 +113,7 @@ static inline bool named(const char *line, enum call *call, const char **at)
 #undef IS
 }
 
-static struct rahuvyte_reply called(enum call call, uint16_t name, uint16_t second, int16_t pitch)
+static struct rahuvyte_reply called(enum call call, uint16_t name, uint16_t second, rahuvyte_pitch pitch)
 {
     switch (call) {
     case ENTER: return c_enter(STORE, name);
@@ -170,7 +170,7 @@ static bool played(const char *line, struct rahuvyte_reply *reply)
     }
     if (!closed(at))
         return false;
-    *reply = called(call, (uint16_t)name, (uint16_t)second, (int16_t)pitch);
+    *reply = called(call, (uint16_t)name, (uint16_t)second, (rahuvyte_pitch)pitch);
     return true;
 }
 

@@ -1,5 +1,5 @@
 /* LOOK, WRITE, SWAP, SYNC and RELEASE, which the two kinds by hand share: included by each after its NAMED, its LAST and its damage test. */
-static struct rahuvyte_reply NAMED(look)(const uint64_t *words, size_t words_len, const int16_t *entries, size_t entries_len, uint16_t r, uint16_t k)
+static struct rahuvyte_reply NAMED(look)(const uint64_t *words, size_t words_len, const rahuvyte_pitch *entries, size_t entries_len, uint16_t r, uint16_t k)
 {
     const struct store *s = (const struct store *)words;
     if (NAMED(damaged)(s, words_len, entries_len))
@@ -14,14 +14,14 @@ static struct rahuvyte_reply NAMED(look)(const uint64_t *words, size_t words_len
     return accepted(102, (uint64_t)(int64_t)entries[x->picked * TABLE + k], 0);
 }
 
-static struct rahuvyte_reply NAMED(write)(uint64_t *words, size_t words_len, int16_t *entries, size_t entries_len, uint16_t p, int16_t v)
+static struct rahuvyte_reply NAMED(write)(uint64_t *words, size_t words_len, rahuvyte_pitch *entries, size_t entries_len, uint16_t p, rahuvyte_pitch v)
 {
     struct store *s = (struct store *)words;
     if (NAMED(damaged)(s, words_len, entries_len))
         return refused(1);
     if (p >= s->publishers)
         return refused(11);
-    if (v < -500 || v > 9500)
+    if (v < RAHUVYTE_PITCH_LOW || v > RAHUVYTE_PITCH_HIGH)
         return refused(14);
     struct publisher *y = &s->publisher[p];
     const uint64_t place = y->place;
@@ -32,7 +32,7 @@ static struct rahuvyte_reply NAMED(write)(uint64_t *words, size_t words_len, int
     return accepted(105, place, 0);
 }
 
-static struct rahuvyte_reply NAMED(swap)(uint64_t *words, size_t words_len, const int16_t *entries, size_t entries_len, uint16_t p)
+static struct rahuvyte_reply NAMED(swap)(uint64_t *words, size_t words_len, const rahuvyte_pitch *entries, size_t entries_len, uint16_t p)
 {
     struct store *s = (struct store *)words;
     (void)entries;
@@ -50,7 +50,7 @@ static struct rahuvyte_reply NAMED(swap)(uint64_t *words, size_t words_len, cons
     return accepted(106, former, 0);
 }
 
-static struct rahuvyte_reply NAMED(sync)(uint64_t *words, size_t words_len, const int16_t *entries, size_t entries_len, uint16_t p)
+static struct rahuvyte_reply NAMED(sync)(uint64_t *words, size_t words_len, const rahuvyte_pitch *entries, size_t entries_len, uint16_t p)
 {
     struct store *s = (struct store *)words;
     (void)entries;
@@ -69,7 +69,7 @@ static struct rahuvyte_reply NAMED(sync)(uint64_t *words, size_t words_len, cons
     return accepted(107, y->mark, 0);
 }
 
-static struct rahuvyte_reply NAMED(release)(uint64_t *words, size_t words_len, const int16_t *entries, size_t entries_len, uint16_t p)
+static struct rahuvyte_reply NAMED(release)(uint64_t *words, size_t words_len, const rahuvyte_pitch *entries, size_t entries_len, uint16_t p)
 {
     struct store *s = (struct store *)words;
     (void)entries;

@@ -10,7 +10,7 @@
 enum { FIRST_READER = 9, READER_WORDS = 5, FIRST_PUBLISHER = 329, PUBLISHER_WORDS = 6 };
 
 static uint64_t words[RAHUVYTE_WORDS];
-static int16_t entries[RAHUVYTE_ENTRIES(RAHUVYTE_SLOTS_MAX)];
+static rahuvyte_pitch entries[RAHUVYTE_ENTRIES(RAHUVYTE_SLOTS_MAX)];
 static size_t entries_len;
 static uint16_t readers, publishers, slots;
 static uint64_t state;
@@ -26,9 +26,9 @@ static uint16_t below(uint64_t n)
     return (uint16_t)(state % n);
 }
 
-static int16_t pitch(void)
+static rahuvyte_pitch pitch(void)
 {
-    return (int16_t)(below(10001) - 500);
+    return (rahuvyte_pitch)(below(RAHUVYTE_PITCH_HIGH - RAHUVYTE_PITCH_LOW + 1) + RAHUVYTE_PITCH_LOW);
 }
 
 /* A reader goes on: it enters, looks a few times, and leaves. */
@@ -61,7 +61,7 @@ static void publisher_asks(uint16_t p)
 static void publisher_goes_on(uint16_t p)
 {
     const uint16_t slot = below(slots);
-    const int16_t v = pitch();
+    const rahuvyte_pitch v = pitch();
     switch (words[FIRST_PUBLISHER + PUBLISHER_WORDS * p]) {
     case 0: TWO(claim, p, slot); break;
     case 33: ONE(swap, p); break;
@@ -92,7 +92,7 @@ static uint16_t publisher_in_turn(void)
 static void stray(void)
 {
     const uint16_t name = below(80), second = below(40);
-    const int16_t v = (int16_t)(pitch() * 3);
+    const rahuvyte_pitch v = (rahuvyte_pitch)(pitch() * 3);
     switch (below(11)) {
     case 0: ONE(enter, name); break;
     case 1: TWO(look, name, second); break;

@@ -71,7 +71,12 @@ static void entries_lengths(uint16_t kind)
 /* Words that are no kind, among them some whose low bits are one. */
 static void unknown_kinds(uint16_t kind)
 {
-    static const uint64_t kinds[] = { 0, 3, 255, 257, 258, 65537, 65538, 4294967297u, 4294967298u, UINT64_MAX };
+    static const uint64_t kinds[] = {
+        0, 3, 255, UINT64_MAX,
+        UINT64_C(0x100) + RAHUVYTE_KIND_NEW, UINT64_C(0x100) + RAHUVYTE_KIND_OLD,
+        UINT64_C(0x10000) + RAHUVYTE_KIND_NEW, UINT64_C(0x10000) + RAHUVYTE_KIND_OLD,
+        UINT64_C(0x100000000) + RAHUVYTE_KIND_NEW, UINT64_C(0x100000000) + RAHUVYTE_KIND_OLD,
+    };
     for (size_t i = 0; i < sizeof kinds / sizeof kinds[0]; i++) {
         const struct lent l = store_made(kind, RAHUVYTE_WORDS, RAHUVYTE_ENTRIES(3));
         l.store[0] = kinds[i];
@@ -94,11 +99,12 @@ static void damaged_words(uint16_t kind)
 
 int main(void)
 {
-    for (uint16_t kind = RAHUVYTE_KIND_NEW; kind <= RAHUVYTE_KIND_OLD; kind++) {
-        store_lengths(kind);
-        entries_lengths(kind);
-        unknown_kinds(kind);
-        damaged_words(kind);
+    static const uint16_t kinds[] = { RAHUVYTE_KIND_NEW, RAHUVYTE_KIND_OLD };
+    for (size_t i = 0; i < sizeof kinds / sizeof kinds[0]; i++) {
+        store_lengths(kinds[i]);
+        entries_lengths(kinds[i]);
+        unknown_kinds(kinds[i]);
+        damaged_words(kinds[i]);
     }
     printf("lengths: %u calls refused, nothing changed\n", tried);
     return 0;

@@ -1,5 +1,6 @@
 pub mod Base
 pub mod Numbers
+pub mod PitchLaws
 pub mod Rows
 pub mod Events
 pub mod Model

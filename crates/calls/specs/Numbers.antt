@@ -18,7 +18,14 @@ SLOTS-MAX = 32
 abbrev pub TABLE : ℕ
 TABLE = 32
 
--- A pitch is in hundredths of a degree, -500 to 9500; a fresh store has every entry 9000 (feathered).
+-- A pitch is a signed number of this many bits: from -PITCH-HALF up to, but not including, PITCH-HALF.
+abbrev pub PITCH-BITS : ℕ
+PITCH-BITS = 16
+
+abbrev pub PITCH-HALF : ℕ
+PITCH-HALF = 32768
+
+-- It is in hundredths of a degree, -500 to 9500; a fresh store has every entry 9000 (feathered).
 abbrev pub PITCH-LOW : ℤ
 PITCH-LOW = negℤ (pos 500)
 

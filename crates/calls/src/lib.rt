@@ -2,8 +2,10 @@
 // specs/: rows of refusals as data, what the calls alone tell, document 01's plain shelf, a reply's numbers for C.
 // It uses nothing.
 
-// A pitch, in hundredths of a degree.
+// A pitch, in hundredths of a degree, and half of the numbers that its type holds: the size of the least.
 pub type Pitch = i16;
+
+pub const PITCH_HALF: u64 = 32768;
 
 // Its range.
 pub const PITCH_LOW: Pitch = -500;

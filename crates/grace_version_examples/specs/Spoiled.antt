@@ -3,6 +3,7 @@ use mathlib.Core.Path.{_≡_, refl, sym, subst}
 use mathlib.Core.List.{List, [], _∷_, _++_}
 use Rattle.calls.specs.declared.Call.the-variants.{Enter, Claim}
 use Rattle.calls.specs.declared.Reply.the-variants.{At, Refused}
+use Rattle.calls.specs.Numbers.{KIND-NEW}
 use Rattle.calls.specs.Rows.{anyBelow}
 use Rattle.layout.specs.Layout.{readerAt, publisherAt, withReader, withPublisher, withReaders, fresh}
 use Rattle.statement.specs.Machine.{State}
@@ -29,11 +30,11 @@ own =
 unfoldable pub clauses : List Case
 clauses = own ++ sharedCases 18446744073709551614
 
-pub fresh-spelled : freshOf GraceVersion small ≡ spelled 1
+pub fresh-spelled : freshOf GraceVersion small ≡ spelled KIND-NEW
 unfolding withReader withReaders fresh making
 fresh-spelled = refl
 
-on-spelled : AllHold (casesOn GraceVersion (spelled 1) clauses)
+on-spelled : AllHold (casesOn GraceVersion (spelled KIND-NEW) clauses)
 unfolding clauses readerAt publisherAt withReader withPublisher withReaders fresh anyBelow damaged onward looksFrom step making
 on-spelled = (refl, (refl, (refl, (refl, (refl, (refl, (refl, (refl, (refl, (refl, (refl, (refl, (refl, (refl, (refl, (refl, (refl, (refl, (refl, (refl, (refl, (refl, (refl, (refl, (refl, (refl, (refl, (refl, (refl, (refl, (refl, (refl, (refl, (refl, (refl, (refl, (refl, (refl, (refl, (refl, (refl, (refl, tt))))))))))))))))))))))))))))))))))))))))))
 

@@ -191,7 +191,7 @@ makingTests vs g s =
     ∷ (vs .tooLarge (g .version) gives BAD-VERSION)
     ∷ []
 
--- A fresh store has every entry 9000, slot 0 current, readers and publishers at place 0, the version and the sizes as given
+-- A fresh store has every entry feathered, slot 0 current, readers and publishers at place 0, the version and the sizes as given
 -- and every other number 0, but for the kind word and what a kind's fresh reader x has.
 abbrev pub made : ℕ → Reader → Given → State → State
 made kind x g s = state (fresh kind (g .readers) (g .publishers) (g .slots) (g .version) x) (replicate (length (s .entries)) FEATHERED)

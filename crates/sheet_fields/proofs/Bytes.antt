@@ -12,10 +12,11 @@ use lib.ListN.{length, getD, take, drop, drop-of-length-le}
 use lib.Seq.{drop-cons, take-suc, append-snoc}
 use borrow.Author.Tests.{lt-ltb, le-ltb, eq-eqb, ne-eqb}
 use Rattle.calls.specs.Base.{pick}
+use Rattle.calls.specs.Numbers.{PITCH-HALF}
 use Rattle.sheet_law.specs.declared.Number.the-variants.{Fine, Bad}
 use Rattle.sheet_law.specs.declared.Angle.the-variants.{At, Wrong}
 use Rattle.sheet_law.specs.Text.{same, SPACE, MINUS, DIGIT-0, DIGIT-9}
-use Rattle.sheet_law.specs.Reading.{first, rest, digits, plain, within, negative, positive, angle, PITCH-MIN, PITCH-MAX}
+use Rattle.sheet_law.specs.Reading.{first, rest, digits, plain, within, negative, positive, angle}
 
 at-place : (l : List ℕ) (i : ℕ) → i < length l → drop i l ≡ getD l i 0 ∷ drop (i + 1) l
 at-place l i h = drop-cons l i 0 h ∙ ap (λ (n : ℕ). getD l i 0 ∷ drop n l) (sym (add-one i))
@@ -138,12 +139,12 @@ unfolding angle
 angle-empty [] e = refl
 angle-empty (b ∷ l) e = absurd (omega arith)
 
-pub angle-minus : (l : List ℕ) → (length l ≡ 0 → ⊥) → getD l 0 0 ≡ MINUS → angle l ≡ negative (within PITCH-MIN (plain (drop 1 l)))
+pub angle-minus : (l : List ℕ) → (length l ≡ 0 → ⊥) → getD l 0 0 ≡ MINUS → angle l ≡ negative (within PITCH-HALF (plain (drop 1 l)))
 unfolding angle
 angle-minus [] h e = absurd (h refl)
 angle-minus (b ∷ l) h e = rw (eq-eqb b MINUS e) refl
 
-pub angle-plain : (l : List ℕ) → (length l ≡ 0 → ⊥) → (getD l 0 0 ≡ MINUS → ⊥) → angle l ≡ positive (within PITCH-MAX (plain l))
+pub angle-plain : (l : List ℕ) → (length l ≡ 0 → ⊥) → (getD l 0 0 ≡ MINUS → ⊥) → angle l ≡ positive (within (PITCH-HALF - 1) (plain l))
 unfolding angle
 angle-plain [] h e = absurd (h refl)
 angle-plain (b ∷ l) h e = rw (ne-eqb b MINUS e) refl

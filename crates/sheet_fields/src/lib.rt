@@ -1,13 +1,14 @@
 // The fields of a run sheet's line, by the definitions of sheet_law: words compared, a text cut at its first space, decimals and pitches read.
 // Every public function is total. It uses sheet_law and what lies below.
-ghost use Prim.Native.Nat.{_<_, _≤_};
+ghost use Prim.Native.Nat.{_-_, _<_, _≤_};
 ghost use mathlib.Core.Path.{_≡_};
 ghost use lib.IntN.{pos, negsuc};
 ghost use lib.ListN.{length, take, drop};
-ghost use Rattle.calls.specs.Numbers.{NUMBER-MAX};
+ghost use Rattle.calls.specs.Numbers.{PITCH-HALF, NUMBER-MAX};
 ghost use Rattle.sheet_law.specs.Text.{same as Text·same};
-ghost use Rattle.sheet_law.specs.Reading.{PITCH-MAX, PITCH-MIN, first, rest, digits as Reading·digits, plain, within, negative as Reading·negative, positive as Reading·positive, angle as Reading·angle};
+ghost use Rattle.sheet_law.specs.Reading.{first, rest, digits as Reading·digits, plain, within, negative as Reading·negative, positive as Reading·positive, angle as Reading·angle};
 use calls::NUMBER_MAX;
+use calls::PITCH_HALF;
 use calls::Pitch;
 use sheet_law::Angle;
 use sheet_law::Number;
@@ -20,10 +21,8 @@ const DIGIT_0: u8 = b'0';
 
 const DIGIT_9: u8 = b'9';
 
-// The greatest pitch of 16 bits, and the size of the least.
-const PITCH_MAX: u64 = 32767;
-
-const PITCH_MIN: u64 = 32768;
+// The greatest pitch that its type holds.
+const PITCH_MAX: u64 = PITCH_HALF - 1;
 
 // Whether two texts are the same.
 pub fn same(s: &[u8], w: &[u8]) -> bool
@@ -119,16 +118,16 @@ pub fn number(s: &[u8], most: u64) -> Number
     Number::Fine(v)
 }
 
-// A number below 32768 as a pitch, and the pitch that is one less than its opposite.
+// A number below PITCH_HALF as a pitch, and the pitch that is one less than its opposite.
 fn above(v: u64) -> Pitch
-    requires { ⌜ v < 32768 ⌝ }
+    requires { ⌜ v < PITCH-HALF ⌝ }
     ensures { λ r. ⌜ r ≡ pos v ⌝ }
 {
     v as Pitch
 }
 
 fn below(v: u64) -> Pitch
-    requires { ⌜ v < 32768 ⌝ }
+    requires { ⌜ v < PITCH-HALF ⌝ }
     ensures { λ r. ⌜ r ≡ negsuc v ⌝ }
 {
     -1 - (v as Pitch)
@@ -136,9 +135,9 @@ fn below(v: u64) -> Pitch
 
 // What stands after a minus: a decimal that is not 0.
 fn negative(s: &[u8]) -> Angle
-    ensures { λ r. ⌜ r ≡ Reading·negative (within PITCH-MIN (plain (now (s .entry)))) ⌝ }
+    ensures { λ r. ⌜ r ≡ Reading·negative (within PITCH-HALF (plain (now (s .entry)))) ⌝ }
 {
-    let Number::Fine(v) = number(s, PITCH_MIN) else {
+    let Number::Fine(v) = number(s, PITCH_HALF) else {
         return Angle::Wrong;
     };
     if v == 0 {
@@ -148,7 +147,7 @@ fn negative(s: &[u8]) -> Angle
 }
 
 fn positive(s: &[u8]) -> Angle
-    ensures { λ r. ⌜ r ≡ Reading·positive (within PITCH-MAX (plain (now (s .entry)))) ⌝ }
+    ensures { λ r. ⌜ r ≡ Reading·positive (within (PITCH-HALF - 1) (plain (now (s .entry)))) ⌝ }
 {
     let Number::Fine(v) = number(s, PITCH_MAX) else {
         return Angle::Wrong;

@@ -14,7 +14,7 @@ use Rattle.calls.specs.declared.Call.{Call}
 use Rattle.calls.specs.declared.Call.the-variants as call
 use Rattle.calls.specs.Base.{pick}
 use Rattle.calls.specs.RowLaws.{pick-split}
-use Rattle.calls.specs.Numbers.{NUMBER-MAX, KIND-NEW, KIND-OLD}
+use Rattle.calls.specs.Numbers.{PITCH-BITS, PITCH-HALF, NUMBER-MAX, KIND-NEW, KIND-OLD}
 use Rattle.sheet_law.specs.declared.Number.the-variants.{Fine}
 use Rattle.sheet_law.specs.declared.Angle.the-variants.{At}
 use Rattle.sheet_law.specs.declared.Word.{Word}
@@ -23,7 +23,7 @@ use Rattle.sheet_law.specs.declared.Command.{Command}
 use Rattle.sheet_law.specs.declared.Command.the-variants.{Make, Run}
 use Rattle.sheet_law.specs.declared.Line.the-variants.{Read}
 use Rattle.sheet_law.specs.Text.{text, SPACE, CLOSE, decimal}
-use Rattle.sheet_law.specs.Reading.{LINE-MAX, NARROW-MAX, PITCH-MAX, PITCH-MIN, first, rest, within, narrow, wide, angle, named, word, kindNamed, oneOf, twoOf, one, two, writing, making, command, lineOf}
+use Rattle.sheet_law.specs.Reading.{LINE-MAX, NARROW-MAX, first, rest, within, narrow, wide, angle, named, word, kindNamed, oneOf, twoOf, one, two, writing, making, command, lineOf}
 use Rattle.sheet_law.specs.Printing.{withOne, withTwo}
 use Rattle.sheet_law.specs.Decimals.{plain-decimal, decimal-first, decimal-rest, signed, signed-decimal, decimal-length}
 
@@ -61,7 +61,7 @@ inBrackets w = text "(" ++ (w ++ text ")")
 abbrev pub commandText : Command → List ℕ
 commandText c = inBrackets (innerText c)
 
--- Widths: pitches signed 16 bits, versions 64, all other arguments 16, unsigned; the kind is `new` or `old`.
+-- Widths: pitches signed PITCH-BITS, versions 64, all other arguments 16, unsigned; the kind is `new` or `old`.
 abbrev pub FitsNarrow : ℕ → Type 0
 FitsNarrow n = n < 2 ^ 16
 
@@ -69,8 +69,8 @@ abbrev pub FitsWide : ℕ → Type 0
 FitsWide n = n < 2 ^ 64
 
 abbrev pub FitsAngle : ℤ → Type 0
-FitsAngle (pos n) = n < 2 ^ 15
-FitsAngle (negsuc n) = suc n ≤ 2 ^ 15
+FitsAngle (pos n) = n < 2 ^ (PITCH-BITS - 1)
+FitsAngle (negsuc n) = suc n ≤ 2 ^ (PITCH-BITS - 1)
 
 abbrev pub FitsCall : Call → Type 0
 FitsCall (call.Enter r) = FitsNarrow r
@@ -114,15 +114,15 @@ kind-back k (inl e) l = rw e (refl, refl)
 kind-back k (inr e) l = rw e (refl, refl)
 
 -- A pitch is a decimal that may have a minus before it, either within its width.
-angle-signed : (l : List ℕ) → angle l ≡ signed (within PITCH-MIN) (within PITCH-MAX) l
+angle-signed : (l : List ℕ) → angle l ≡ signed (within PITCH-HALF) (within (PITCH-HALF - 1)) l
 unfolding angle
 angle-signed [] = refl
 angle-signed (b ∷ l) = refl
 
 angle-back : (v : ℤ) → FitsAngle v → angle (angleText v) ≡ At v
 unfolding angle
-angle-back (pos n) fits = angle-signed (decimal n) ∙ (signed-decimal (within PITCH-MIN) (within PITCH-MAX) n ∙ rw (le-ltb PITCH-MAX n (omega arith)) refl)
-angle-back (negsuc n) fits = rw (plain-decimal (suc n), le-ltb PITCH-MIN (suc n) (omega arith)) refl
+angle-back (pos n) fits = angle-signed (decimal n) ∙ (signed-decimal (within PITCH-HALF) (within (PITCH-HALF - 1)) n ∙ rw (le-ltb (PITCH-HALF - 1) n (omega arith)) refl)
+angle-back (negsuc n) fits = rw (plain-decimal (suc n), le-ltb PITCH-HALF (suc n) (omega arith)) refl
 
 -- What stands between the brackets is read back.
 one-back : (w : Word) (n : ℕ) → FitsNarrow n → one w (decimal n) ≡ oneOf w n
@@ -180,9 +180,10 @@ narrow-length n fits = decimal-length 5 n (omega arith) (omega arith)
 wide-length : (n : ℕ) → FitsWide n → length (decimal n) ≤ 20
 wide-length n fits = decimal-length 20 n (omega arith) (omega arith)
 
-angle-length : (v : ℤ) → FitsAngle v → length (angleText v) ≤ 6
-angle-length (pos n) fits = let d = decimal-length 5 n (omega arith) (omega arith) in omega arith
-angle-length (negsuc n) fits = let d = decimal-length 5 (suc n) (omega arith) (omega arith) in omega arith
+-- A pitch has at most 64 bits.
+angle-length : (v : ℤ) → FitsAngle v → length (angleText v) ≤ 21
+angle-length (pos n) fits = let d = wide-length n (omega arith) in omega arith
+angle-length (negsuc n) fits = let d = wide-length (suc n) (omega arith) in omega arith
 
 kind-length : (k : ℕ) → length (kindText k) ≤ 3
 kind-length k = pick-split (λ x. length x ≤ 3) (eqb k KIND-NEW) (λ _. omega arith) (λ _. omega arith)
@@ -198,7 +199,7 @@ call-length (call.Enter r) f = omega (arith, narrow-length r f)
 call-length (call.Look r k) (f, g) = omega (arith, pair-length r k f g)
 call-length (call.Leave r) f = omega (arith, narrow-length r f)
 call-length (call.Claim p s) (f, g) = omega (arith, pair-length p s f g)
-call-length (call.Write p v) (f, g) = omega (arith, spaced-length 5 6 (decimal p) (angleText v) (narrow-length p f) (angle-length v g))
+call-length (call.Write p v) (f, g) = omega (arith, spaced-length 5 21 (decimal p) (angleText v) (narrow-length p f) (angle-length v g))
 call-length (call.Swap p) f = omega (arith, narrow-length p f)
 call-length (call.Sync p) f = omega (arith, narrow-length p f)
 call-length (call.Raise p) f = omega (arith, narrow-length p f)

@@ -13,7 +13,7 @@ use lib.Seq.{take-suc, take-length}
 use borrow.Author.Tests.{ltb-true, eqb-true}
 use Rattle.calls.specs.declared.Call.the-variants as call
 use Rattle.calls.specs.RowLaws.{pick-split, and-true, clash}
-use Rattle.calls.specs.Numbers.{NUMBER-MAX, KIND-NEW, KIND-OLD}
+use Rattle.calls.specs.Numbers.{PITCH-HALF, NUMBER-MAX, KIND-NEW, KIND-OLD}
 use Rattle.sheet_law.specs.declared.Number.{Number}
 use Rattle.sheet_law.specs.declared.Number.the-variants.{Fine, Bad}
 use Rattle.sheet_law.specs.declared.Word.{Word}
@@ -23,7 +23,7 @@ use Rattle.sheet_law.specs.declared.Command.the-variants.{Make, Run}
 use Rattle.sheet_law.specs.declared.Line.{Line}
 use Rattle.sheet_law.specs.declared.Line.the-variants.{Read, Unread}
 use Rattle.sheet_law.specs.Text.{text, same, SPACE, OPEN, CLOSE, MINUS, decimal}
-use Rattle.sheet_law.specs.Reading.{LINE-MAX, NARROW-MAX, PITCH-MAX, PITCH-MIN, first, rest, plain, within, narrow, wide, negative, positive, angle, named, word, kindNamed, given, givenAngle, oneOf, twoOf, making, command, bracketed, inner, lineOf}
+use Rattle.sheet_law.specs.Reading.{LINE-MAX, NARROW-MAX, first, rest, plain, within, narrow, wide, negative, positive, angle, named, word, kindNamed, given, givenAngle, oneOf, twoOf, making, command, bracketed, inner, lineOf}
 use Rattle.sheet_law.specs.Widths.{bad-fine, within-most, within-is}
 use Rattle.sheet_law.specs.Decimals.{plain-decimal, plain-only}
 use Rattle.sheet_law.specs.Canonical.{kindText, angleText, innerText, inBrackets, commandText, FitsNarrow, FitsWide, FitsAngle, Fits, text-length, reads-back}
@@ -70,8 +70,8 @@ module _ (Q : Line → Type 0) (bad : Q Unread) where
   unfolding angle
   angle-only [] f h = bad
   angle-only (b ∷ l) f h = pick-split (λ x. Q (givenAngle x f)) (eqb b MINUS)
-      (λ t. negative-only (within PITCH-MIN (plain l)) f (λ n e. let q = within-only PITCH-MIN l (suc n) e in h (negsuc n) (ap₂ _∷_ (sym (eqb-true b MINUS t)) (q .0)) (omega arith)))
-      (λ _. positive-only (within PITCH-MAX (plain (b ∷ l))) f (λ n e. let q = within-only PITCH-MAX (b ∷ l) n e in h (pos n) (q .0) (omega arith)))
+      (λ t. negative-only (within PITCH-HALF (plain l)) f (λ n e. let q = within-only PITCH-HALF l (suc n) e in h (negsuc n) (ap₂ _∷_ (sym (eqb-true b MINUS t)) (q .0)) (omega arith)))
+      (λ _. positive-only (within (PITCH-HALF - 1) (plain (b ∷ l))) f (λ n e. let q = within-only (PITCH-HALF - 1) (b ∷ l) n e in h (pos n) (q .0) (omega arith)))
 
 -- A text with something after its first space is what stands before it, the space, and what stands after it.
 space-or-none : (l : List ℕ) → (rest l ≡ []) ⊎ (first l ++ (SPACE ∷ rest l) ≡ l)

@@ -9,7 +9,7 @@ use lib.ListN.{length, getD, take, drop}
 use Rattle.calls.specs.declared.Call.the-variants as call
 use Rattle.calls.specs.Base.{pick}
 use Rattle.calls.specs.Rows.{outside}
-use Rattle.calls.specs.Numbers.{NUMBER-MAX, KIND-NEW, KIND-OLD}
+use Rattle.calls.specs.Numbers.{PITCH-HALF, NUMBER-MAX, KIND-NEW, KIND-OLD}
 use Rattle.sheet_law.specs.declared.Number.{Number}
 use Rattle.sheet_law.specs.declared.Number.the-variants.{Fine, Bad}
 use Rattle.sheet_law.specs.declared.Angle.{Angle}
@@ -21,18 +21,12 @@ use Rattle.sheet_law.specs.declared.Line.{Line}
 use Rattle.sheet_law.specs.declared.Line.the-variants.{Read, Unread}
 use Rattle.sheet_law.specs.Text.{text, same, SPACE, OPEN, CLOSE, MINUS, DIGIT-0, DIGIT-9}
 
--- Widths: 80 bytes a line; pitches signed 16 bits (PITCH-MIN is the size of the least, -32768), versions 64, all other arguments 16, unsigned.
+-- Widths: 80 bytes a line; pitches signed PITCH-BITS (the size of the least is PITCH-HALF), versions 64, all other arguments 16, unsigned.
 abbrev pub LINE-MAX : ℕ
 LINE-MAX = 80
 
 abbrev pub NARROW-MAX : ℕ
 NARROW-MAX = 65535
-
-abbrev pub PITCH-MAX : ℕ
-PITCH-MAX = 32767
-
-abbrev pub PITCH-MIN : ℕ
-PITCH-MIN = 32768
 
 -- One space between: the text before the first space and the text after it; where there is no space, all of it and nothing.
 unfoldable pub first : List ℕ → List ℕ
@@ -77,7 +71,7 @@ positive (Fine n) = At (pos n)
 
 unfoldable pub angle : List ℕ → Angle
 angle [] = Wrong
-angle (b ∷ l) = pick (eqb b MINUS) (negative (within PITCH-MIN (plain l))) (positive (within PITCH-MAX (plain (b ∷ l))))
+angle (b ∷ l) = pick (eqb b MINUS) (negative (within PITCH-HALF (plain l))) (positive (within (PITCH-HALF - 1) (plain (b ∷ l))))
 
 -- Words are the calls in small letters and `store`.
 infix 70 _names_

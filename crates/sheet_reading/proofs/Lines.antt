@@ -9,12 +9,13 @@ use Rattle.sheet_law.specs.Widths.{fine-same, bad-fine}
 use lib.ListN.{length, getD, take, drop}
 use borrow.Author.Tests.{lt-ltb, le-ltb, eq-eqb, ne-eqb}
 use Rattle.calls.specs.Base.{pick}
+use Rattle.calls.specs.Numbers.{KIND-NEW, KIND-OLD}
 use Rattle.sheet_law.specs.declared.Number.the-variants.{Fine, Bad}
 use Rattle.sheet_law.specs.declared.Word.{Word}
 use Rattle.sheet_law.specs.declared.Word.the-variants.{Unknown}
 use Rattle.sheet_law.specs.declared.Line.the-variants.{Unread}
 use Rattle.sheet_law.specs.Text.{text, same, OPEN, CLOSE}
-use Rattle.sheet_law.specs.Reading.{first, rest, kindNamed, Row, named, word, command, inner, LINE-MAX, lineOf}
+use Rattle.sheet_law.specs.Reading.{first, rest, kindNamed, Row, named, word, command, inner, LINE-MAX, NARROW-MAX, lineOf}
 use Rattle.sheet_law.specs.Reading.Row.{_names_}
 
 -- A row of the table of words names the word, or the rows after it do.
@@ -32,13 +33,13 @@ unfolding named
 named-none w = refl
 
 -- A kind's number has 16 bits.
-pub kind-narrow : (w : List ℕ) (n : ℕ) → kindNamed w ≡ Fine n → n ≤ 2
+pub kind-narrow : (w : List ℕ) (n : ℕ) → kindNamed w ≡ Fine n → n ≤ NARROW-MAX
 unfolding kindNamed
 kind-narrow w n e = go (same w (text "new")) (same w (text "old")) e
   where
-    go : (a b : Bool) → pick a (Fine 1) (pick b (Fine 2) Bad) ≡ Fine n → n ≤ 2
-    go true b f = omega (arith, fine-same 1 n f)
-    go false true f = omega (arith, fine-same 2 n f)
+    go : (a b : Bool) → pick a (Fine KIND-NEW) (pick b (Fine KIND-OLD) Bad) ≡ Fine n → n ≤ NARROW-MAX
+    go true b f = omega (arith, fine-same KIND-NEW n f)
+    go false true f = omega (arith, fine-same KIND-OLD n f)
     go false false f = absurd (bad-fine n f)
 
 -- A whole line of at most 80 bytes.

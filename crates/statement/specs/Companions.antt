@@ -5,7 +5,7 @@ use mathlib.Core.Logic.{_≢_}
 use mathlib.Core.Bool.{Bool, true, false}
 use mathlib.Core.List.{List, _∷_, _++_}
 use mathlib.Core.Option.{some}
-use lib.IntN.{ℤ, pos}
+use lib.IntN.{ℤ}
 use lib.Signed.{ltZ}
 use lib.ListN.{length, replicate}
 use Rattle.calls.specs.declared.Call.{Call}
@@ -13,7 +13,7 @@ use Rattle.calls.specs.declared.Call.the-variants.{Enter, Look, Leave, Claim, W
 use Rattle.calls.specs.declared.Reply.{Reply}
 use Rattle.calls.specs.declared.Reply.the-variants.{Made, At, Left, Claimed, Written, Swapped, Walked, Freed, Refused}
 use Rattle.calls.specs.declared.WalkReply.the-variants.{Returned}
-use Rattle.calls.specs.Numbers.{READERS-MAX, PUBLISHERS-MAX, SLOTS-MIN, SLOTS-MAX, TABLE, PITCH-LOW, PITCH-HIGH, NUMBER-MAX, MODULUS, DAMAGED, BUSY}
+use Rattle.calls.specs.Numbers.{READERS-MAX, PUBLISHERS-MAX, SLOTS-MIN, SLOTS-MAX, TABLE, PITCH-LOW, PITCH-HIGH, FEATHERED, NUMBER-MAX, MODULUS, DAMAGED, BUSY}
 use Rattle.calls.specs.Events.{Event, accepted}
 use Rattle.calls.specs.Events.Event.{_⇒_}
 use Rattle.calls.specs.Model.{Model, modelOf}
@@ -55,7 +55,7 @@ abbrev pub MakingAccepts : Machine → Traits → Type 0
 MakingAccepts M T = (g : Given) (s : State) → length (s .words) ≡ WORDS → 1 ≤ g .readers → g .readers ≤ READERS-MAX → 1 ≤ g .publishers → g .publishers ≤ PUBLISHERS-MAX
     → SLOTS-MIN ≤ g .slots → g .slots ≤ SLOTS-MAX → length (s .entries) ≡ g .slots * TABLE → g .version ≤ T .last → M .making g s .reply ≡ Made
 
--- A fresh store, to the letter: every entry 9000, slot 0 current, readers and publishers at place 0, published versions NOT_READING, the version and the sizes as given
+-- A fresh store, to the letter: every entry feathered, slot 0 current, readers and publishers at place 0, published versions NOT_READING, the version and the sizes as given
 -- and every other number 0.
 pub record IsFresh (z : Given) (s : State) : Type 0 where
   pub long : length (s .words) ≡ WORDS
@@ -68,7 +68,7 @@ pub record IsFresh (z : Given) (s : State) : Type 0 where
   pub indicators-are : (i : ℕ) → indicator (s .words) i ≡ 0
   pub readers-are : (r : ℕ) → r < 64 → readerAt (s .words) r ≡ blankReader 18446744073709551615
   pub publishers-are : (p : ℕ) → publisherAt (s .words) p ≡ noPublisher
-  pub entries-are : s .entries ≡ replicate (z .slots * 32) (pos 9000)
+  pub entries-are : s .entries ≡ replicate (z .slots * TABLE) FEATHERED
 
 abbrev pub MakesFresh : Machine → Type 0
 MakesFresh M = (s : State) (f : Fresh M s) → IsFresh (f .arguments) s

@@ -3,6 +3,7 @@ use mathlib.Core.Path.{_≡_, refl, sym, subst}
 use mathlib.Core.List.{List, [], _∷_, _++_}
 use Rattle.calls.specs.declared.Call.the-variants.{Enter, Claim}
 use Rattle.calls.specs.declared.Reply.the-variants.{At, Claimed, Refused}
+use Rattle.calls.specs.Numbers.{KIND-OLD}
 use Rattle.calls.specs.Rows.{anyBelow, countBelow}
 use Rattle.layout.specs.Layout.{indicator, readerAt, publisherAt, withReader, withPublisher, withReaders, fresh}
 use Rattle.statement.specs.Machine.{State}
@@ -37,11 +38,11 @@ indicators =
 unfoldable pub clauses : List Case
 clauses = ownPlaces ++ (indicators ++ (walking 9223372036854775807 36 ++ sharedCases 9223372036854775807))
 
-pub fresh-spelled : freshOf TwoPhase small ≡ spelled 2
+pub fresh-spelled : freshOf TwoPhase small ≡ spelled KIND-OLD
 unfolding withReader withReaders fresh making
 fresh-spelled = refl
 
-on-spelled : AllHold (casesOn TwoPhase (spelled 2) clauses)
+on-spelled : AllHold (casesOn TwoPhase (spelled KIND-OLD) clauses)
 unfolding clauses indicator readerAt publisherAt withReader withPublisher withReaders fresh anyBelow countBelow damaged onward lookAt step making
 on-spelled = (refl, (refl, (refl, (refl, (refl, (refl, (refl, (refl, (refl, (refl, (refl, (refl, (refl, (refl, (refl, (refl, (refl, (refl, (refl, (refl, (refl, (refl, (refl, (refl, (refl, (refl, (refl, (refl, (refl, (refl, (refl, (refl, (refl, (refl, (refl, (refl, (refl, (refl, (refl, (refl, (refl, (refl, (refl, (refl, (refl, (refl, (refl, (refl, (refl, tt)))))))))))))))))))))))))))))))))))))))))))))))))
 

@@ -10,7 +10,7 @@ use second::demand3::Demand3;
 use second::layout::{self, publisher_at, reader_at, KIND, PUBLISHERS, READERS, WORDS};
 use second::lent;
 use second::rules::Rules;
-use second::store::Kind;
+use second::store::{Kind, Pitch};
 use std::fmt;
 
 pub const MOST_WORDS: usize = 2048;
@@ -18,7 +18,7 @@ pub const MOST_ENTRIES: usize = 4096;
 
 struct Side {
     words: Guarded<u64>,
-    entries: Guarded<i16>,
+    entries: Guarded<Pitch>,
 }
 
 impl Side {
@@ -87,7 +87,7 @@ impl Both {
     }
 
     /// Lends these entries on both sides.
-    pub fn set_entries(&mut self, entries: &[i16]) {
+    pub fn set_entries(&mut self, entries: &[Pitch]) {
         self.library.entries.set(entries);
         self.second.entries.set(entries);
     }
@@ -238,7 +238,7 @@ pub struct Difference {
     library: Numbers,
     second: Numbers,
     word: Option<(Option<usize>, u64, u64)>,
-    entry: Option<(Option<usize>, i16, i16)>,
+    entry: Option<(Option<usize>, Pitch, Pitch)>,
     fault: Option<String>,
 }
 

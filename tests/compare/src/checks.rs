@@ -10,7 +10,7 @@ use second::rules::{Alteration, Rules};
 use second::store::Kind;
 
 const MAKE: Call = Call::Make {
-    kind: 1,
+    kind: Kind::New.number() as u16,
     readers: 2,
     publishers: 2,
     slots: 3,

@@ -6,15 +6,18 @@ use second::call::Call;
 use second::layout::{KIND, SLOTS, WORDS};
 use second::random::Random;
 use second::rules::Rules;
-use second::store::Kind;
+use second::store::{Kind, Pitch, KINDS};
 use second::turns::{call_by, call_numbered, Scheduler};
+
+const NEW: u64 = Kind::New.number();
+const OLD: u64 = Kind::Old.number();
 
 /// Each of the eleven calls with something wrong before all else.
 pub fn play(both: &mut Both, random: &mut Random) -> Result<(), Stop> {
     both.part = "wrong lengths and kinds";
-    let kind = random.pick(&[Kind::New, Kind::Old]);
+    let kind = random.pick(&KINDS);
     let words = lived_in(kind, random);
-    let entries = vec![random.word() as i16; words[SLOTS] as usize * 32];
+    let entries = vec![random.word() as Pitch; words[SLOTS] as usize * 32];
     let wrong = random.below(5);
     for index in 0..=10 {
         match wrong {
@@ -69,7 +72,19 @@ fn lived_in(kind: Kind, random: &mut Random) -> [u64; WORDS] {
 
 fn making(kind: Kind, words: &[u64; WORDS], unknown: bool, random: &mut Random) -> Call {
     let kind = if unknown {
-        random.pick(&[0, 3, 4, 5, 255, 256, 257, 258, 32_769, u16::MAX])
+        let number = random.pick(&[
+            0,
+            3,
+            4,
+            5,
+            255,
+            256,
+            256 + NEW,
+            256 + OLD,
+            32_768 + NEW,
+            65_535,
+        ]);
+        number as u16
     } else {
         kind.number() as u16
     };
@@ -103,7 +118,7 @@ fn lend_wrong_words(both: &mut Both, words: &[u64; WORDS], random: &mut Random) 
     both.set_words(&lent);
 }
 
-fn lend_some_entries(both: &mut Both, entries: &[i16], random: &mut Random) {
+fn lend_some_entries(both: &mut Both, entries: &[Pitch], random: &mut Random) {
     match random.below(4) {
         0 => lend_wrong_entries(both, entries, random),
         1 => both.set_null_entries(),
@@ -111,7 +126,7 @@ fn lend_some_entries(both: &mut Both, entries: &[i16], random: &mut Random) {
     }
 }
 
-fn lend_wrong_entries(both: &mut Both, entries: &[i16], random: &mut Random) {
+fn lend_wrong_entries(both: &mut Both, entries: &[Pitch], random: &mut Random) {
     let n = entries.len();
     let length = random.pick(&[
         0,
@@ -139,13 +154,13 @@ fn with_unknown_kind(words: &[u64; WORDS], random: &mut Random) -> [u64; WORDS] 
         65_535,
         1 << 63,
         255,
-        257,
-        65_537,
-        65_538,
-        (1 << 32) + 1,
-        (1 << 32) + 2,
-        (1 << 63) + 1,
-        (1 << 63) + 2,
+        (1 << 8) + NEW,
+        (1 << 16) + NEW,
+        (1 << 16) + OLD,
+        (1 << 32) + NEW,
+        (1 << 32) + OLD,
+        (1 << 63) + NEW,
+        (1 << 63) + OLD,
         u64::MAX,
     ];
     words[KIND] = random.pick(&kinds);

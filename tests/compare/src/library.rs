@@ -1,6 +1,7 @@
 //! The library under test, by its C names.
 
 use second::call::{Call, Numbers};
+use second::store::Pitch;
 
 #[repr(C)]
 struct CReply {
@@ -10,7 +11,7 @@ struct CReply {
 }
 
 type Words = *mut u64;
-type Entries = *mut i16;
+type Entries = *mut Pitch;
 
 extern "C" {
     fn rahuvyte_make(
@@ -28,7 +29,7 @@ extern "C" {
     fn rahuvyte_look(
         store: *const u64,
         sl: usize,
-        entries: *const i16,
+        entries: *const Pitch,
         el: usize,
         r: u16,
         k: u16,
@@ -48,7 +49,7 @@ extern "C" {
         entries: Entries,
         el: usize,
         p: u16,
-        v: i16,
+        v: Pitch,
     ) -> CReply;
     fn rahuvyte_swap(store: Words, sl: usize, entries: Entries, el: usize, p: u16) -> CReply;
     fn rahuvyte_sync(store: Words, sl: usize, entries: Entries, el: usize, p: u16) -> CReply;

@@ -6,7 +6,7 @@ use second::call::{Call, Reply};
 use second::demand3::Demand3;
 use second::layout::{KIND, WORDS};
 use second::random::Random;
-use second::store::Kind;
+use second::store::{Kind, Pitch, KINDS};
 use second::turns::Scheduler;
 
 struct Sizes {
@@ -18,7 +18,7 @@ struct Sizes {
 /// One list: some refused makings, an accepted one, and calls.
 pub fn play(both: &mut Both, random: &mut Random) -> Result<(), Stop> {
     both.part = "a list from a fresh store";
-    let kind = random.pick(&[Kind::New, Kind::Old]);
+    let kind = random.pick(&KINDS);
     lend_anything(both, random);
     for _ in 0..random.below(3) {
         try_making(both, random)?;
@@ -38,12 +38,17 @@ pub fn play(both: &mut Both, random: &mut Random) -> Result<(), Stop> {
 fn lend_anything(both: &mut Both, random: &mut Random) {
     let mut words = [0; WORDS];
     words.fill_with(|| random.word());
-    words[KIND] = random.below(4);
+    words[KIND] = kind_or_none(random);
     both.set_words(&words);
     let mut entries = [0; 1024];
-    entries.fill_with(|| random.word() as i16);
+    entries.fill_with(|| random.word() as Pitch);
     let slots = random.below(33) as usize;
     both.set_entries(&entries[..slots * 32]);
+}
+
+/// The number of a kind, or one that no kind has.
+fn kind_or_none(random: &mut Random) -> u64 {
+    random.pick(&[0, Kind::New.number(), Kind::Old.number(), 3])
 }
 
 /// A making with one argument wrong, or with wrong ones in any mixture.
@@ -57,7 +62,7 @@ fn try_making(both: &mut Both, random: &mut Random) -> Result<(), Stop> {
 
 /// A making at a border of one refusal, with all else in order.
 fn one_wrong(both: &mut Both, random: &mut Random) -> Call {
-    let kind = random.pick(&[Kind::New, Kind::Old]);
+    let kind = random.pick(&KINDS);
     let Sizes {
         mut readers,
         mut publishers,
@@ -75,7 +80,7 @@ fn one_wrong(both: &mut Both, random: &mut Random) -> Call {
         3 => length = random.pick(&[0, length - 1, length + 1, length + 32]),
         _ => version = kind.last() + random.below(2),
     }
-    both.set_entries(&vec![random.word() as i16; length]);
+    both.set_entries(&vec![random.word() as Pitch; length]);
     Call::Make {
         kind: kind.number() as u16,
         readers,
@@ -88,12 +93,8 @@ fn one_wrong(both: &mut Both, random: &mut Random) -> Call {
 /// A making with wrong arguments in any mixture. The entries lent are mostly
 /// of a wrong length too.
 fn any_wrong(both: &mut Both, random: &mut Random) -> Call {
-    let kind = random.pick(&[1, 2]);
-    let last = if kind == 1 {
-        Kind::New.last()
-    } else {
-        Kind::Old.last()
-    };
+    let kind = random.pick(&KINDS);
+    let last = kind.last();
     let slots = size(2, 32, random);
     if random.one_in(2) && slots <= 64 {
         let length = usize::from(slots) * 32;
@@ -102,10 +103,10 @@ fn any_wrong(both: &mut Both, random: &mut Random) -> Call {
         } else {
             length
         };
-        both.set_entries(&vec![random.word() as i16; length]);
+        both.set_entries(&vec![random.word() as Pitch; length]);
     }
     Call::Make {
-        kind,
+        kind: kind.number() as u16,
         readers: size(1, 64, random),
         publishers: size(1, 16, random),
         slots,
@@ -120,7 +121,7 @@ fn any_wrong(both: &mut Both, random: &mut Random) -> Call {
 
 /// A making that is refused whatever is lent, in the middle of a list.
 fn refused_making(random: &mut Random) -> Call {
-    let kind = random.below(4) as u16;
+    let kind = kind_or_none(random) as u16;
     let (readers, publishers, slots) = random.pick(&[
         (0, 1, 2),
         (65, 1, 2),
@@ -201,7 +202,7 @@ fn make(
         publishers,
         slots,
     } = *sizes;
-    let lent = random.word() as i16;
+    let lent = random.word() as Pitch;
     both.set_entries(&[lent; 1024][..usize::from(slots) * 32]);
     let number = kind.number() as u16;
     let making = Call::Make {

@@ -3,10 +3,12 @@
 use crate::borders::{never_alone, TRIALS};
 use second::call::{Call, Numbers, CALL_NAMES};
 use second::damage::{Clause, CLAUSES};
-use second::store::Kind;
+use second::store::{Kind, KINDS};
 
 const CALLS: usize = 11;
-const KINDS: [Kind; 2] = [Kind::New, Kind::Old];
+
+/// A row for each kind, and the first for no kind.
+const ROWS: usize = 1 + KINDS.len();
 
 /// Slices and kinds that are wrong before all else.
 #[derive(Clone, Copy, PartialEq, Eq, Debug)]
@@ -25,12 +27,12 @@ const UNUSUAL: [Unusual; 4] = [
 ];
 
 pub struct Seen {
-    replies: Box<[[[u64; 128]; CALLS]; 3]>,
-    places: Box<[[[u64; 39]; CALLS]; 3]>,
-    alone: Box<[[[u64; CALLS]; CLAUSES.len()]; 3]>,
-    borders: Box<[[[u64; TRIALS]; CLAUSES.len()]; 3]>,
+    replies: Box<[[[u64; 128]; CALLS]; ROWS]>,
+    places: Box<[[[u64; 39]; CALLS]; ROWS]>,
+    alone: Box<[[[u64; CALLS]; CLAUSES.len()]; ROWS]>,
+    borders: Box<[[[u64; TRIALS]; CLAUSES.len()]; ROWS]>,
     unusual: [[u64; CALLS]; UNUSUAL.len()],
-    makings: [[u64; MAKINGS.len()]; 3],
+    makings: [[u64; MAKINGS.len()]; ROWS],
     pub lists: u64,
     pub returns: u64,
     pub swaps: u64,
@@ -47,19 +49,19 @@ const MAKINGS: [&str; 7] = [
     "with the smallest sizes",
 ];
 
-fn index(kind: Option<Kind>) -> usize {
-    kind.map_or(0, |kind| kind.number() as usize)
+fn row(kind: Option<Kind>) -> usize {
+    kind.map_or(0, |kind| 1 + kind as usize)
 }
 
 impl Seen {
     pub fn new() -> Seen {
         Seen {
-            replies: Box::new([[[0; 128]; CALLS]; 3]),
-            places: Box::new([[[0; 39]; CALLS]; 3]),
-            alone: Box::new([[[0; CALLS]; CLAUSES.len()]; 3]),
-            borders: Box::new([[[0; TRIALS]; CLAUSES.len()]; 3]),
+            replies: Box::new([[[0; 128]; CALLS]; ROWS]),
+            places: Box::new([[[0; 39]; CALLS]; ROWS]),
+            alone: Box::new([[[0; CALLS]; CLAUSES.len()]; ROWS]),
+            borders: Box::new([[[0; TRIALS]; CLAUSES.len()]; ROWS]),
             unusual: [[0; CALLS]; UNUSUAL.len()],
-            makings: [[0; MAKINGS.len()]; 3],
+            makings: [[0; MAKINGS.len()]; ROWS],
             lists: 0,
             returns: 0,
             swaps: 0,
@@ -68,7 +70,7 @@ impl Seen {
 
     /// A call with its reply, and the place it was made from.
     pub fn note(&mut self, kind: Option<Kind>, call: &Call, reply: &Numbers, place: Option<u64>) {
-        let (kind, call) = (index(kind), call.index());
+        let (kind, call) = (row(kind), call.index());
         self.replies[kind][call][reply.code as usize & 127] += 1;
         if let (Some(place @ 0..=38), true) = (place, reply.code != 1) {
             self.places[kind][call][place as usize] += 1;
@@ -77,12 +79,12 @@ impl Seen {
 
     /// A call on a store that is spoiled by this clause and no other.
     pub fn note_alone(&mut self, kind: Kind, clause: Clause, call: &Call) {
-        self.alone[index(Some(kind))][clause as usize][call.index()] += 1;
+        self.alone[row(Some(kind))][clause as usize][call.index()] += 1;
     }
 
     /// A store at a border of this clause, spoiled by no other.
     pub fn note_border(&mut self, kind: Kind, clause: Clause, trial: usize) {
-        self.borders[index(Some(kind))][clause as usize][trial] += 1;
+        self.borders[row(Some(kind))][clause as usize][trial] += 1;
     }
 
     pub fn note_unusual(&mut self, unusual: Unusual, call: &Call) {
@@ -112,7 +114,7 @@ impl Seen {
             sizes == (64, 16, 32),
             sizes == (1, 1, 2),
         ];
-        for (count, met) in self.makings[index(Some(kind))].iter_mut().zip(met) {
+        for (count, met) in self.makings[row(Some(kind))].iter_mut().zip(met) {
             *count += u64::from(met);
         }
     }
@@ -140,7 +142,7 @@ impl Seen {
             self.missing_replies(kind, &mut missing);
             self.missing_places(kind, &mut missing);
             self.missing_alone(kind, &mut missing);
-            for (making, count) in MAKINGS.iter().zip(self.makings[index(Some(kind))]) {
+            for (making, count) in MAKINGS.iter().zip(self.makings[row(Some(kind))]) {
                 if count == 0 {
                     missing.push(format!("{kind} store {making}"));
                 }
@@ -159,7 +161,7 @@ impl Seen {
     fn missing_replies(&self, kind: Kind, missing: &mut Vec<String>) {
         for (call, name) in CALL_NAMES.iter().enumerate() {
             for &code in codes(call, kind) {
-                if self.replies[index(Some(kind))][call][code] == 0 {
+                if self.replies[row(Some(kind))][call][code] == 0 {
                     let what = if code < 100 { "refusal" } else { "reply" };
                     missing.push(format!("{kind} {name}: {what} {code}"));
                 }
@@ -170,7 +172,7 @@ impl Seen {
     fn missing_places(&self, kind: Kind, missing: &mut Vec<String>) {
         for (call, name) in CALL_NAMES.iter().enumerate().skip(1) {
             for place in places(call, kind) {
-                if self.places[index(Some(kind))][call][place] == 0 {
+                if self.places[row(Some(kind))][call][place] == 0 {
                     missing.push(format!("{kind} {name}: from place {place}"));
                 }
             }
@@ -180,12 +182,12 @@ impl Seen {
     fn missing_alone(&self, kind: Kind, missing: &mut Vec<String>) {
         for clause in CLAUSES.into_iter().filter(|clause| clause.of(kind)) {
             for (call, name) in CALL_NAMES.iter().enumerate().skip(1) {
-                if self.alone[index(Some(kind))][clause as usize][call] == 0 {
+                if self.alone[row(Some(kind))][clause as usize][call] == 0 {
                     missing.push(format!("{kind} {name}: spoiled by {clause:?} alone"));
                 }
             }
             for trial in (0..TRIALS).filter(|&trial| !never_alone(clause, trial)) {
-                if self.borders[index(Some(kind))][clause as usize][trial] == 0 {
+                if self.borders[row(Some(kind))][clause as usize][trial] == 0 {
                     missing.push(format!("{kind}: border {trial} of {clause:?}"));
                 }
             }

@@ -9,19 +9,19 @@ use second::damage::{Clause, CLAUSES};
 use second::layout::{pack, WORDS};
 use second::random::Random;
 use second::rules::Rules;
-use second::store::Kind;
+use second::store::{Kind, Pitch, KINDS};
 use second::turns::{any_call, call_by, call_numbered, in_turn, some_actor};
 
 /// Goes over every kind, clause and trial in turn.
 pub struct States {
     cell: usize,
-    entries: Vec<i16>,
+    entries: Vec<Pitch>,
 }
 
 impl States {
     pub fn new(random: &mut Random) -> States {
         let mut entries = vec![0; MOST_ENTRIES];
-        entries.fill_with(|| random.word() as i16);
+        entries.fill_with(|| random.word() as Pitch);
         States { cell: 0, entries }
     }
 
@@ -49,7 +49,7 @@ impl States {
         changed: bool,
         random: &mut Random,
     ) -> Result<(), Stop> {
-        let kind = random.pick(&[Kind::New, Kind::Old]);
+        let kind = random.pick(&KINDS);
         let (calm, tidy) = (random.one_in(4), random.one_in(4));
         let case = undamaged(kind, calm, tidy, random);
         lend(both, &case, &self.entries);
@@ -132,7 +132,7 @@ fn change_words(both: &mut Both, random: &mut Random) {
     both.set_words(&words);
 }
 
-fn lend(both: &mut Both, case: &Case, entries: &[i16]) {
+fn lend(both: &mut Both, case: &Case, entries: &[Pitch]) {
     let mut words = [0; WORDS];
     pack(&case.store, &mut words);
     both.set_words(&words);

@@ -2,6 +2,7 @@
 //! number changes; most bytes give numbers that are in range or near its end.
 
 use second::layout::{publisher_at, VERSION, WORDS};
+use second::store::{Pitch, PITCH_ENDS, PITCH_LOW};
 
 /// What is left of an input.
 pub struct Bytes<'a>(&'a [u8]);
@@ -42,12 +43,11 @@ impl<'a> Bytes<'a> {
     }
 
     /// A pitch in range, near its ends, or any.
-    pub fn pitch(&mut self) -> i16 {
-        const ENDS: [i16; 8] = [-502, -501, -500, 9500, 9501, 9502, i16::MIN, i16::MAX];
+    pub fn pitch(&mut self) -> Pitch {
         match self.byte() {
-            byte @ 0..=239 => i16::from(byte) * 41 - 500,
-            byte @ 240..=247 => ENDS[usize::from(byte) - 240],
-            _ => self.wide() as i16,
+            byte @ 0..=239 => Pitch::from(byte) * 41 + PITCH_LOW,
+            byte @ 240..=247 => PITCH_ENDS[usize::from(byte) - 240],
+            _ => self.wide() as Pitch,
         }
     }
 

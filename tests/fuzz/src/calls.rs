@@ -13,11 +13,11 @@ use second::layout::{
 };
 use second::lent;
 use second::rules::Rules;
-use second::store::Kind;
+use second::store::{Kind, Pitch, KINDS, PITCHES, PITCH_LOW};
 use std::fmt;
 
 /// The library: the words and their number, the entries and theirs, a call.
-pub type Library = unsafe fn(*mut u64, usize, *mut i16, usize, &Call) -> Numbers;
+pub type Library = unsafe fn(*mut u64, usize, *mut Pitch, usize, &Call) -> Numbers;
 
 const MOST_WORDS: usize = 900;
 const MOST_ENTRIES: usize = 1100;
@@ -26,7 +26,7 @@ const MOST_CALLS: u64 = 3000;
 
 struct Side {
     words: Guarded<u64>,
-    entries: Guarded<i16>,
+    entries: Guarded<Pitch>,
 }
 
 impl Side {
@@ -123,7 +123,7 @@ impl Played<'_> {
     /// A making; three times in four beside entries of the length due.
     fn making(&mut self) -> Call {
         let kind = match self.bytes.byte() {
-            byte @ 0..=199 => 1 + u16::from(byte % 2),
+            byte @ 0..=199 => KINDS[usize::from(byte % 2)].number() as u16,
             byte @ 200..=249 => u16::from(byte) - 200,
             _ => self.bytes.wide(),
         };
@@ -135,7 +135,7 @@ impl Played<'_> {
         let flag = self.bytes.byte();
         if flag < 192 && due <= MOST_ENTRIES {
             self.list = None;
-            self.set_entries(&vec![i16::from(flag); due]);
+            self.set_entries(&vec![Pitch::from(flag); due]);
         }
         Call::Make {
             kind,
@@ -212,7 +212,7 @@ impl Played<'_> {
             },
             5 => Call::Write {
                 p,
-                v: (wide % 10_001) as i16 - 500,
+                v: (u64::from(wide) % PITCHES) as Pitch + PITCH_LOW,
             },
             6 => Call::Swap { p },
             7 => Call::Sync { p },
@@ -247,12 +247,12 @@ impl Played<'_> {
         let (n, wide) = (u16::from(self.bytes.byte()), self.bytes.wide());
         let at = publisher_at(usize::from(n % self.size(PUBLISHERS, 16)));
         for time in 0..std::mem::replace(&mut self.times, 1) {
-            let index = match (self.words[at], self.words[KIND]) {
+            let index = match (self.words[at], Kind::from_number(self.words[KIND])) {
                 (0, _) => 4,
                 (1..=32, _) => 5,
                 (33, _) => 6,
                 (34, _) => 7,
-                (37, _) | (35, 2) => 9,
+                (37, _) | (35, Some(Kind::Old)) => 9,
                 (35 | 36, _) => 8,
                 _ => 10,
             };
@@ -359,7 +359,7 @@ impl Played<'_> {
         self.second.words.set(&words);
     }
 
-    fn set_entries(&mut self, entries: &[i16]) {
+    fn set_entries(&mut self, entries: &[Pitch]) {
         self.library.entries.set(entries);
         self.second.entries.set(entries);
     }
@@ -481,7 +481,7 @@ pub struct Difference {
     library: Numbers,
     second: Numbers,
     word: Option<(Option<usize>, u64, u64)>,
-    entry: Option<(Option<usize>, i16, i16)>,
+    entry: Option<(Option<usize>, Pitch, Pitch)>,
     fault: Option<String>,
 }
 

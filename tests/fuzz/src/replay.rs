@@ -10,7 +10,7 @@
 mod library;
 
 use fuzzed::pieces::{Cut, Way};
-use fuzzed::seen::{missing_of_calls, missing_of_sheets, Cell};
+use fuzzed::seen::{missing_of_calls, missing_of_sheets, Answer, Cell};
 use fuzzed::sheet::Given;
 use fuzzed::{calls, program, sheet};
 use second::misread;
@@ -67,7 +67,7 @@ impl Reached {
         ]
     }
 
-    fn answers(&self) -> BTreeSet<(usize, usize, u64)> {
+    fn answers(&self) -> BTreeSet<Answer> {
         self.cells.iter().map(Cell::answer).collect()
     }
 }

@@ -3,23 +3,25 @@
 
 use second::call::CALL_NAMES;
 use second::damage::CLAUSES;
-use second::store::Kind;
+use second::store::{Kind, KINDS};
 
 /// Every code of a reply, and 0 for a line that was unread.
 const CODES: [u64; 33] = [
     0, 1, 2, 3, 4, 5, 6, 10, 11, 12, 13, 14, 20, 21, 30, 31, 32, 33, 100, 101, 102, 103, 104, 105,
     106, 107, 108, 109, 110, 111, 112, 113, 114,
 ];
-const KINDS: usize = 3;
 const PLACES: usize = 40;
 
 /// How many cells there are.
-pub const CELLS: usize = KINDS * CALL_NAMES.len() * PLACES * CODES.len();
+pub const CELLS: usize = (1 + KINDS.len()) * CALL_NAMES.len() * PLACES * CODES.len();
+
+/// What was answered: the kind, the call's number and the code.
+pub type Answer = (Option<Kind>, usize, u64);
 
 /// One call and its answer.
 #[derive(Clone, Copy, PartialEq, Eq, PartialOrd, Ord, Debug)]
 pub struct Cell {
-    kind: usize,
+    kind: Option<Kind>,
     call: usize,
     place: usize,
     code: u64,
@@ -31,7 +33,7 @@ impl Cell {
     pub fn new(kind: Option<Kind>, call: usize, place: Option<u64>, code: u64) -> Cell {
         let beyond = PLACES - 1;
         Cell {
-            kind: kind.map_or(0, |kind| kind.number() as usize),
+            kind,
             call,
             place: place.map_or(beyond, |place| place.min(beyond as u64) as usize),
             code,
@@ -46,12 +48,13 @@ impl Cell {
     /// The cell's number, below `CELLS`.
     pub fn index(&self) -> usize {
         let code = CODES.iter().position(|&code| code == self.code);
-        let row = self.kind * CALL_NAMES.len() + self.call;
+        let kind = self.kind.map_or(0, |kind| 1 + kind as usize);
+        let row = kind * CALL_NAMES.len() + self.call;
         (row * PLACES + self.place) * CODES.len() + code.unwrap_or(0)
     }
 
     /// The cell without its place: kind, call and code.
-    pub fn answer(&self) -> (usize, usize, u64) {
+    pub fn answer(&self) -> Answer {
         (self.kind, self.call, self.code)
     }
 }
@@ -60,7 +63,7 @@ impl Cell {
 /// each clause that alone spoils no store for one of the ten calls.
 pub fn missing_of_calls(cells: &[Cell]) -> Vec<String> {
     let mut missing = missing(cells, needed(|_, _| true));
-    for kind in [Kind::New, Kind::Old] {
+    for kind in KINDS {
         for clause in CLAUSES.into_iter().filter(|clause| clause.of(kind)) {
             for (call, name) in CALL_NAMES.iter().enumerate().skip(1) {
                 let cell = Cell::new(Some(kind), call, Some(clause as u64), 1);
@@ -82,27 +85,27 @@ pub fn missing_of_sheets(cells: &[Cell]) -> Vec<String> {
         109 => kind == Kind::New,
         _ => true,
     });
-    wanted.extend((1..CALL_NAMES.len()).map(|call| (0, call, 1)));
+    wanted.extend((1..CALL_NAMES.len()).map(|call| (None, call, 1)));
     wanted.push(Cell::unread().answer());
     missing(cells, wanted)
 }
 
-fn needed(can: fn(Kind, u64) -> bool) -> Vec<(usize, usize, u64)> {
+fn needed(can: fn(Kind, u64) -> bool) -> Vec<Answer> {
     let mut needed = Vec::new();
-    for kind in [Kind::New, Kind::Old] {
+    for kind in KINDS {
         for call in 0..CALL_NAMES.len() {
             let codes = codes(call, kind).iter().copied();
             let met = codes.filter(|&code| can(kind, code));
-            needed.extend(met.map(|code| (kind.number() as usize, call, code)));
+            needed.extend(met.map(|code| (Some(kind), call, code)));
         }
     }
     needed
 }
 
-fn missing(cells: &[Cell], mut wanted: Vec<(usize, usize, u64)>) -> Vec<String> {
+fn missing(cells: &[Cell], mut wanted: Vec<Answer>) -> Vec<String> {
     wanted.retain(|answer| !cells.iter().any(|cell| cell.answer() == *answer));
-    let name = |(kind, call, code): (usize, usize, u64)| {
-        let kind = ["no kind", "new", "old"][kind];
+    let name = |(kind, call, code): Answer| {
+        let kind = kind.map_or("no kind".to_string(), |kind| kind.to_string());
         format!("{kind}, {}: {code}", CALL_NAMES[call])
     };
     wanted.into_iter().map(name).collect()

@@ -7,13 +7,13 @@ use crate::demand3::Demand3;
 use crate::layout::WORDS;
 use crate::lent;
 use crate::rules::{Alteration, Rules};
-use crate::store::Kind;
+use crate::store::{Kind, Pitch, KINDS};
 
 /// A store being played, with everything that went otherwise than told.
 struct Play {
     rules: Rules,
     words: [u64; WORDS],
-    entries: Vec<i16>,
+    entries: Vec<Pitch>,
     lines: Vec<String>,
     wrong: Vec<String>,
     demand3: Option<Demand3>,
@@ -76,7 +76,7 @@ impl Play {
     }
 
     /// CLAIM and the first n WRITEs of the pitch v.
-    fn writes(&mut self, p: u16, s: u16, n: u64, v: i16) {
+    fn writes(&mut self, p: u16, s: u16, n: u64, v: Pitch) {
         self.says(Call::Claim { p, s }, &format!("claimed {s}"));
         for written in 1..=n {
             self.says(Call::Write { p, v }, &format!("written {written}"));
@@ -84,7 +84,7 @@ impl Play {
     }
 
     /// From CLAIM to SWAP, which hands out the former slot.
-    fn swaps(&mut self, p: u16, s: u16, v: i16, former: u16) {
+    fn swaps(&mut self, p: u16, s: u16, v: Pitch, former: u16) {
         self.writes(p, s, 32, v);
         self.says(Call::Swap { p }, &format!("swapped {former}"));
     }
@@ -115,7 +115,7 @@ const P1_OUTPUT: &str = "(1 made)
 
 fn p1_calls() -> Vec<Call> {
     let mut calls = vec![Call::Make {
-        kind: 1,
+        kind: Kind::New.number() as u16,
         readers: 1,
         publishers: 1,
         slots: 2,
@@ -210,7 +210,7 @@ fn p5(rules: Rules) -> Vec<String> {
 
 fn p6(rules: Rules) -> Vec<String> {
     let mut wrong = Vec::new();
-    for kind in [Kind::New, Kind::Old] {
+    for kind in KINDS {
         let mut play = Play::fresh(rules, kind, (1, 1, 2), 0);
         play.swaps(0, 1, 100, 0);
         play.says(Call::Sync { p: 0 }, "synced 1");

@@ -2,7 +2,7 @@
 //!
 //! Both print as on document 01's run sheet.
 
-use crate::store::Kind;
+use crate::store::{Kind, Pitch};
 use std::fmt;
 
 /// Making and the ten calls. Arguments have the widths that C gives them.
@@ -31,7 +31,7 @@ pub enum Call {
     },
     Write {
         p: u16,
-        v: i16,
+        v: Pitch,
     },
     Swap {
         p: u16,
@@ -143,7 +143,7 @@ pub enum Reply {
     Refused(u64),
     Made,
     At(u64),
-    Pitch(i16),
+    Pitch(Pitch),
     Left,
     Claimed(u64),
     Written(u64),
@@ -213,7 +213,7 @@ impl Reply {
             0..=99 => Reply::Refused(n.code),
             100 => Reply::Made,
             101 => Reply::At(n.first),
-            102 => Reply::Pitch(i16::try_from(n.first as i64).ok()?),
+            102 => Reply::Pitch(Pitch::try_from(n.first as i64).ok()?),
             103 => Reply::Left,
             104 => Reply::Claimed(n.first),
             105 => Reply::Written(n.first),

@@ -4,16 +4,16 @@
 use crate::call::{Call, Numbers, Reply};
 use crate::damage::{Clause, CLAUSES};
 use crate::demand3::Demand3;
-use crate::layout::{name, pack, publisher_at, reader_at, unpack, WORDS};
+use crate::layout::{name, pack, publisher_at, reader_at, unpack, KIND, WORDS};
 use crate::lent;
 use crate::random::Random;
 use crate::rules::{Alteration, Rules};
-use crate::store::{Kind, Store};
+use crate::store::{Kind, Pitch, Store, KINDS};
 use crate::turns::Scheduler;
 
 const AS_WRITTEN: Rules = Rules::AS_WRITTEN;
 
-fn made(kind: Kind, sizes: (u16, u16, u16), version: u64) -> ([u64; WORDS], Vec<i16>) {
+fn made(kind: Kind, sizes: (u16, u16, u16), version: u64) -> ([u64; WORDS], Vec<Pitch>) {
     let (readers, publishers, slots) = sizes;
     let mut words = [77; WORDS];
     let mut entries = vec![-3; usize::from(slots) * 32];
@@ -83,8 +83,8 @@ fn packing_undoes_unpacking_word_by_word() {
     for (n, word) in words.iter_mut().enumerate() {
         *word = n as u64 * 1_000_003 + 1;
     }
-    for kind in [1, 2] {
-        words[0] = kind;
+    for kind in KINDS {
+        words[KIND] = kind.number();
         let store = unpack(&words).expect("a known kind");
         let mut again = [0; WORDS];
         pack(&store, &mut again);
@@ -93,7 +93,7 @@ fn packing_undoes_unpacking_word_by_word() {
         assert_eq!(store.publisher[15].walk.waits, words[424]);
         assert_eq!(store.publisher[0].walk.next, words[332]);
     }
-    words[0] = 3;
+    words[KIND] = 3;
     assert!(unpack(&words).is_none());
 }
 
@@ -135,11 +135,11 @@ fn replies_and_numbers_agree() {
 /// The traps of refusal order and of the ends, each with one call.
 #[test]
 fn refusals_come_in_the_order_of_the_table() {
-    let mut entries = vec![0i16; 64];
+    let mut entries = vec![0; 64];
     let mut words = [5; WORDS];
     let mut refused = |readers, publishers, slots, version| {
         let make = Call::Make {
-            kind: 2,
+            kind: Kind::Old.number() as u16,
             readers,
             publishers,
             slots,
@@ -182,7 +182,7 @@ fn refusals_come_in_the_order_of_the_table() {
 /// 33 looks at looks + b, also when an old walk would make one look only.
 #[test]
 fn sums_of_looks_end_at_the_highest_number() {
-    for kind in [Kind::New, Kind::Old] {
+    for kind in KINDS {
         let (mut words, mut entries) = made(kind, (1, 1, 2), 7);
         let at = publisher_at(0);
         words[at..at + 6].copy_from_slice(&[37, 1, 7, 0, u64::MAX - 3, u64::MAX - 3]);
@@ -255,7 +255,7 @@ fn told(kind: Kind, list: &[(Call, Reply)]) -> Result<(), String> {
 }
 
 /// CLAIM, 32 WRITEs of v, SWAP and SYNC.
-fn publication(p: u16, s: u16, v: i16, former: u64) -> Vec<(Call, Reply)> {
+fn publication(p: u16, s: u16, v: Pitch, former: u64) -> Vec<(Call, Reply)> {
     let mut list = vec![(Call::Claim { p, s }, Reply::Claimed(u64::from(s)))];
     list.extend((1..=32).map(|n| (Call::Write { p, v }, Reply::Written(n))));
     list.push((Call::Swap { p }, Reply::Swapped(former)));
@@ -278,7 +278,7 @@ const FREES: (Call, Reply) = (
     },
 );
 
-fn looks(v: i16) -> (Call, Reply) {
+fn looks(v: Pitch) -> (Call, Reply) {
     (Call::Look { r: 1, k: 3 }, Reply::Pitch(v))
 }
 
@@ -392,7 +392,7 @@ fn first_fault(kind: Kind, rules: Rules, calls: u64) -> Option<String> {
 
 #[test]
 fn demand_3_holds_as_written() {
-    for kind in [Kind::New, Kind::Old] {
+    for kind in KINDS {
         assert_eq!(first_fault(kind, AS_WRITTEN, 100_000), None);
     }
 }

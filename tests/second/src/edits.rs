@@ -3,6 +3,7 @@
 
 use crate::call::{Call, Reply, CALL_NAMES};
 use crate::sheet::{lines, printed, LONGEST};
+use crate::store::{Kind, Pitch, KINDS, PITCH_HIGH, PITCH_LOW};
 
 /// What an argument is.
 #[derive(Clone, Copy, PartialEq, Eq, Debug)]
@@ -228,10 +229,10 @@ pub fn known_kind(text: &[u8]) -> Vec<u8> {
 }
 
 pub fn numbered_kind(text: &[u8]) -> Vec<u8> {
-    match text {
-        b"1" => b"new".to_vec(),
-        b"2" => b"old".to_vec(),
-        _ => text.to_vec(),
+    let number = |kind: &Kind| kind.number().to_string();
+    match KINDS.iter().find(|kind| number(kind).as_bytes() == text) {
+        Some(kind) => kind.to_string().into_bytes(),
+        None => text.to_vec(),
     }
 }
 
@@ -292,11 +293,13 @@ pub fn unsigned_modulo_64(text: &[u8]) -> Vec<u8> {
 }
 
 pub fn signed_modulo_16(text: &[u8]) -> Vec<u8> {
-    with_number(text, |n| Some(i128::from(n as i16)))
+    with_number(text, |n| Some(i128::from(n as Pitch)))
 }
 
 pub fn widest_pitch(text: &[u8]) -> Vec<u8> {
-    with_number(text, |n| Some(n.clamp(-32_768, 32_767)))
+    with_number(text, |n| {
+        Some(n.clamp(Pitch::MIN.into(), Pitch::MAX.into()))
+    })
 }
 
 pub fn at_most(text: &[u8], most: i128) -> Vec<u8> {
@@ -313,14 +316,22 @@ pub fn unread_at(text: &[u8], at: &[u8]) -> Vec<u8> {
 }
 
 pub fn unread_outside(text: &[u8]) -> Vec<u8> {
-    with_number(text, |n| (-500..=9500).contains(&n).then_some(n))
+    with_number(text, |n| {
+        (PITCH_LOW.into()..=PITCH_HIGH.into())
+            .contains(&n)
+            .then_some(n)
+    })
 }
 
 // Calls.
 
 pub fn other_kind(mut call: Call) -> Call {
     if let Call::Make { kind, .. } = &mut call {
-        *kind = 3 - *kind;
+        let other = match Kind::from_number(u64::from(*kind)) {
+            Some(Kind::New) => Kind::Old,
+            _ => Kind::New,
+        };
+        *kind = other.number() as u16;
     }
     call
 }
@@ -362,7 +373,7 @@ pub fn write_exchanged(call: Call) -> Call {
     match call {
         Call::Write { p, v } => Call::Write {
             p: v as u16,
-            v: p as i16,
+            v: p as Pitch,
         },
         _ => call,
     }

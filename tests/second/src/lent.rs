@@ -4,10 +4,10 @@ use crate::call::{Call, Reply};
 use crate::layout::{pack, unpack, WORDS};
 use crate::making::make;
 use crate::rules::{Alteration, Rules};
-use crate::store::Kind;
+use crate::store::{Kind, Pitch};
 
 /// Making or one of the ten calls. A refusal leaves both slices as lent.
-pub fn call(words: &mut [u64], entries: &mut [i16], call: &Call, rules: Rules) -> Reply {
+pub fn call(words: &mut [u64], entries: &mut [Pitch], call: &Call, rules: Rules) -> Reply {
     let Ok(words) = <&mut [u64; WORDS]>::try_from(words) else {
         return Reply::Refused(1);
     };
@@ -17,7 +17,7 @@ pub fn call(words: &mut [u64], entries: &mut [i16], call: &Call, rules: Rules) -
     }
 }
 
-fn make_lent(words: &mut [u64; WORDS], entries: &mut [i16], call: &Call, rules: Rules) -> Reply {
+fn make_lent(words: &mut [u64; WORDS], entries: &mut [Pitch], call: &Call, rules: Rules) -> Reply {
     let Call::Make {
         kind,
         readers,
@@ -45,7 +45,7 @@ fn make_lent(words: &mut [u64; WORDS], entries: &mut [i16], call: &Call, rules: 
     }
 }
 
-fn call_lent(words: &mut [u64; WORDS], entries: &mut [i16], call: &Call, rules: Rules) -> Reply {
+fn call_lent(words: &mut [u64; WORDS], entries: &mut [Pitch], call: &Call, rules: Rules) -> Reply {
     let Some(mut store) = unpack(words) else {
         return Reply::Refused(1);
     };

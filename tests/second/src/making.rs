@@ -3,7 +3,7 @@
 use crate::call::Refusal;
 use crate::rules::{Alteration, Rules};
 use crate::store::{
-    Kind, Publisher, Reader, Store, FEATHERED, MOST_PUBLISHERS, MOST_READERS, MOST_SLOTS,
+    Kind, Pitch, Publisher, Reader, Store, FEATHERED, MOST_PUBLISHERS, MOST_READERS, MOST_SLOTS,
     NOT_READING, TABLE,
 };
 
@@ -14,7 +14,7 @@ pub fn make(
     publishers: u16,
     slots: u16,
     version: u64,
-    entries: &mut [i16],
+    entries: &mut [Pitch],
     rules: Rules,
 ) -> Result<Store, Refusal> {
     let late_version = version > first_version_limit(kind, rules);

@@ -2,7 +2,7 @@
 
 use crate::call::{Answer, Refusal, Reply};
 use crate::rules::{Alteration, Rules};
-use crate::store::{entry_index, Kind, Publisher, Store};
+use crate::store::{entry_index, Kind, Pitch, Publisher, Store, PITCH_HIGH, PITCH_LOW};
 
 impl Store {
     /// Refusal 21 if p is at any other place than this.
@@ -70,21 +70,21 @@ impl Store {
         !current && !held
     }
 
-    pub fn write(&mut self, entries: &mut [i16], p: u16, v: i16, rules: Rules) -> Answer {
+    pub fn write(&mut self, entries: &mut [Pitch], p: u16, v: Pitch, rules: Rules) -> Answer {
         let p = self.publisher_named(p)?;
         let at_turn = matches!(self.publisher[p].place, 1..=32);
         if rules.has(Alteration::TurnBeforePitch) && !at_turn {
             return Err(Refusal(21));
         }
         let lowest = if rules.has(Alteration::PitchFrom501) {
-            -501
+            PITCH_LOW - 1
         } else {
-            -500
+            PITCH_LOW
         };
         let highest = if rules.has(Alteration::PitchTo9499) {
-            9499
+            PITCH_HIGH - 1
         } else {
-            9500
+            PITCH_HIGH
         };
         if !(lowest..=highest).contains(&v) {
             return Err(Refusal(14));

@@ -2,7 +2,7 @@
 
 use crate::call::{Answer, Refusal, Reply};
 use crate::rules::{Alteration, Rules};
-use crate::store::{entry_index, Kind, Store, NOT_READING};
+use crate::store::{entry_index, Kind, Pitch, Store, NOT_READING};
 
 fn parity(version: u64) -> usize {
     (version % 2) as usize
@@ -77,7 +77,7 @@ impl Store {
         Ok(Reply::At(reader.place))
     }
 
-    pub fn look(&self, entries: &[i16], r: u16, k: u16, rules: Rules) -> Answer {
+    pub fn look(&self, entries: &[Pitch], r: u16, k: u16, rules: Rules) -> Answer {
         let r = self.reader_named(r)?;
         let reader = &self.reader[r];
         let at_turn = match reader.place {

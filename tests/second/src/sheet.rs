@@ -3,7 +3,7 @@
 use crate::call::{Call, Reply};
 use crate::making::make;
 use crate::rules::Rules;
-use crate::store::{Kind, Store, TABLE};
+use crate::store::{Kind, Pitch, Store, TABLE};
 
 /// A line of more bytes than this, without its newline, is unread.
 pub const LONGEST: usize = 80;
@@ -92,13 +92,13 @@ fn argument(digits: &[u8]) -> Option<u16> {
 }
 
 /// A plain decimal of 16 bits, signed, with a minus if it is negative.
-fn pitch(text: &[u8]) -> Option<i16> {
+fn pitch(text: &[u8]) -> Option<Pitch> {
     let Some(digits) = text.strip_prefix(b"-") else {
-        return i16::try_from(decimal(text)?).ok();
+        return Pitch::try_from(decimal(text)?).ok();
     };
     match i64::try_from(decimal(digits)?).ok()? {
         0 => None,
-        below_zero => i16::try_from(-below_zero).ok(),
+        below_zero => Pitch::try_from(-below_zero).ok(),
     }
 }
 
@@ -106,7 +106,7 @@ fn pitch(text: &[u8]) -> Option<i16> {
 #[derive(Clone)]
 pub struct Made {
     pub store: Store,
-    pub entries: Vec<i16>,
+    pub entries: Vec<Pitch>,
 }
 
 /// What a sheet has come to: the store last made, if there is one.
@@ -194,6 +194,7 @@ pub fn play(text: &[u8]) -> Vec<u8> {
 mod tests {
     use super::*;
     use crate::examples;
+    use crate::store::{PITCH_HIGH, PITCH_LOW};
 
     #[test]
     fn examples_print_as_worked_out_by_hand() {
@@ -212,14 +213,14 @@ mod tests {
     /// them back.
     #[test]
     fn every_call_is_read_as_it_prints() {
-        let make = |kind, version| Call::Make {
-            kind,
+        let make = |kind: Kind, version| Call::Make {
+            kind: kind.number() as u16,
             readers: 64,
             publishers: 0,
             slots: u16::MAX,
             version,
         };
-        let mut calls = vec![make(1, 0), make(2, u64::MAX)];
+        let mut calls = vec![make(Kind::New, 0), make(Kind::Old, u64::MAX)];
         for n in [0, 1, 9, 10, 65_535] {
             calls.extend([Call::Enter { r: n }, Call::Look { r: n, k: 31 }]);
             calls.extend([Call::Leave { r: n }, Call::Claim { p: 2, s: n }]);
@@ -227,7 +228,7 @@ mod tests {
             calls.extend([Call::Raise { p: n }, Call::Walk { p: 3, b: n }]);
             calls.push(Call::Release { p: n });
         }
-        for v in [i16::MIN, -500, -10, -1, 0, 1, 9500, i16::MAX] {
+        for v in [Pitch::MIN, PITCH_LOW, -10, -1, 0, 1, PITCH_HIGH, Pitch::MAX] {
             calls.push(Call::Write { p: 4, v });
         }
         for call in calls {

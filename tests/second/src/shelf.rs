@@ -3,12 +3,12 @@
 //! It sees calls and replies and none of the store's numbers.
 
 use crate::call::{Call, Reply};
-use crate::store::{FEATHERED, MOST_PUBLISHERS, MOST_READERS, TABLE};
+use crate::store::{Pitch, FEATHERED, MOST_PUBLISHERS, MOST_READERS, TABLE};
 
 pub struct Shelf {
-    table: Vec<i16>,
-    notes: Vec<Option<Vec<i16>>>,
-    drafts: Vec<Vec<i16>>,
+    table: Vec<Pitch>,
+    notes: Vec<Option<Vec<Pitch>>>,
+    drafts: Vec<Vec<Pitch>>,
 }
 
 impl Shelf {

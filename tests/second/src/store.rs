@@ -5,20 +5,40 @@ use crate::rules::{Alteration, Rules};
 use std::fmt;
 
 pub const NOT_READING: u64 = u64::MAX;
-pub const FEATHERED: i16 = 9000;
+/// A pitch, in hundredths of a degree, and its range.
+pub type Pitch = i16;
+pub const PITCH_LOW: Pitch = -500;
+pub const PITCH_HIGH: Pitch = 9500;
+pub const FEATHERED: Pitch = 9000;
+/// How many pitches are in range.
+pub const PITCHES: u64 = (PITCH_HIGH - PITCH_LOW) as u64 + 1;
+/// Pitches at the ends of the range, and at those of their bits.
+pub const PITCH_ENDS: [Pitch; 8] = [
+    PITCH_LOW - 2,
+    PITCH_LOW - 1,
+    PITCH_LOW,
+    PITCH_HIGH,
+    PITCH_HIGH + 1,
+    PITCH_HIGH + 2,
+    Pitch::MIN,
+    Pitch::MAX,
+];
 pub const TABLE: usize = 32;
 pub const MOST_READERS: usize = 64;
 pub const MOST_PUBLISHERS: usize = 16;
 pub const MOST_SLOTS: usize = 32;
 
-#[derive(Clone, Copy, PartialEq, Eq, Debug)]
+#[derive(Clone, Copy, PartialEq, Eq, PartialOrd, Ord, Debug)]
 pub enum Kind {
     New,
     Old,
 }
 
+pub const KINDS: [Kind; 2] = [Kind::New, Kind::Old];
+
 impl Kind {
-    pub fn number(self) -> u64 {
+    /// The kind word.
+    pub const fn number(self) -> u64 {
         match self {
             Kind::New => 1,
             Kind::Old => 2,
@@ -26,11 +46,7 @@ impl Kind {
     }
 
     pub fn from_number(number: u64) -> Option<Kind> {
-        match number {
-            1 => Some(Kind::New),
-            2 => Some(Kind::Old),
-            _ => None,
-        }
+        KINDS.into_iter().find(|kind| kind.number() == number)
     }
 
     /// The last version.
@@ -93,11 +109,11 @@ pub struct Store {
 
 impl Store {
     /// One of the ten calls on this store.
-    pub fn call(&mut self, entries: &mut [i16], call: &Call, rules: Rules) -> Reply {
+    pub fn call(&mut self, entries: &mut [Pitch], call: &Call, rules: Rules) -> Reply {
         Reply::from(self.answer(entries, call, rules))
     }
 
-    fn answer(&mut self, entries: &mut [i16], call: &Call, rules: Rules) -> Answer {
+    fn answer(&mut self, entries: &mut [Pitch], call: &Call, rules: Rules) -> Answer {
         if rules.has(Alteration::NameBeforeSpoiled) {
             self.names_exist(call)?;
         }
@@ -157,7 +173,7 @@ fn named(name: u16, count: u64, room: usize) -> Option<usize> {
 
 /// Where entry k of a slot is among the entries. An altered damage test can
 /// let a slot through that is too large; there is no such entry then.
-pub fn entry_index(slot: u64, k: u64, entries: &[i16]) -> Option<usize> {
+pub fn entry_index(slot: u64, k: u64, entries: &[Pitch]) -> Option<usize> {
     let index = slot.checked_mul(TABLE as u64)?.checked_add(k)?;
     usize::try_from(index).ok().filter(|&i| i < entries.len())
 }

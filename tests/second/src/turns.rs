@@ -3,6 +3,7 @@
 use crate::call::Call;
 use crate::layout::{publisher_at, reader_at, CURRENT, KIND, PUBLISHERS, READERS, SLOTS, WORDS};
 use crate::random::Random;
+use crate::store::{Kind, Pitch, PITCHES, PITCH_ENDS, PITCH_HIGH, PITCH_LOW};
 
 #[derive(Clone, Copy, PartialEq, Eq, Debug)]
 pub enum Actor {
@@ -95,7 +96,7 @@ fn reader_in_turn(place: u64, r: u16, random: &mut Random) -> Call {
 }
 
 fn publisher_in_turn(words: &[u64; WORDS], p: u16, random: &mut Random) -> Call {
-    let old = words[KIND] == 2;
+    let old = Kind::from_number(words[KIND]) == Some(Kind::Old);
     match words[publisher_at(usize::from(p))] {
         0 => Call::Claim {
             p,
@@ -229,17 +230,25 @@ fn seems_free(words: &[u64; WORDS], slot: u64) -> bool {
     words[CURRENT] != slot && !held
 }
 
-fn pitch_in_range(random: &mut Random) -> i16 {
+fn pitch_in_range(random: &mut Random) -> Pitch {
     match random.below(16) {
-        0 => random.pick(&[-500, -499, -1, 0, 1, 9499, 9500]),
-        _ => random.below(10_001) as i16 - 500,
+        0 => random.pick(&[
+            PITCH_LOW,
+            PITCH_LOW + 1,
+            -1,
+            0,
+            1,
+            PITCH_HIGH - 1,
+            PITCH_HIGH,
+        ]),
+        _ => random.below(PITCHES) as Pitch + PITCH_LOW,
     }
 }
 
-fn some_pitch(random: &mut Random) -> i16 {
+fn some_pitch(random: &mut Random) -> Pitch {
     match random.below(3) {
-        0 => random.pick(&[-502, -501, -500, 9500, 9501, 9502, i16::MIN, i16::MAX]),
-        1 => random.word() as i16,
+        0 => random.pick(&PITCH_ENDS),
+        1 => random.word() as Pitch,
         _ => pitch_in_range(random),
     }
 }

@@ -6,7 +6,7 @@ use crate::writer::Written;
 use second::call::{Call, Reply, CALL_NAMES};
 use second::rules::Rules;
 use second::sheet::{lines, read, Sheet};
-use second::store::Kind;
+use second::store::{Kind, KINDS};
 use std::collections::BTreeMap;
 use std::fmt;
 
@@ -205,7 +205,7 @@ fn needed_of_calls() -> Vec<String> {
     for name in &CALL_NAMES[1..] {
         needed.push(call_name(None, name, "refused 1"));
     }
-    for kind in [Kind::New, Kind::Old] {
+    for kind in KINDS {
         let sizes = SIZES.iter().map(|(_, name)| name);
         needed.extend(sizes.map(|name| call_name(Some(kind), "store", name)));
         for name in CALL_NAMES {

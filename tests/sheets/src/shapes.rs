@@ -2,6 +2,7 @@
 
 use second::edits::{joined, parts};
 use second::random::Random;
+use second::store::Kind;
 
 /// A way to misshape a line. A few of them leave some lines well shaped.
 pub struct Shape {
@@ -181,11 +182,13 @@ fn some_word(random: &mut Random) -> Vec<u8> {
 }
 
 fn another_kind(_: &[u8], random: &mut Random) -> Vec<u8> {
+    let new = Kind::New.number().to_string();
+    let old = Kind::Old.number().to_string();
     let kinds = [
         &b""[..],
         b"0",
-        b"1",
-        b"2",
+        new.as_bytes(),
+        old.as_bytes(),
         b"New",
         b"OLD",
         b"ne",

@@ -6,7 +6,7 @@ use second::layout::{pack, publisher_at, PUBLISHERS, WORDS};
 use second::random::Random;
 use second::rules::Rules;
 use second::sheet::{read, Sheet};
-use second::store::Kind;
+use second::store::{Kind, KINDS};
 use second::turns::{call_by, in_turn, Actor, Scheduler};
 
 /// The sheet with a line of several hundred thousand bytes.
@@ -206,7 +206,7 @@ impl<'a> Writer<'a> {
     }
 
     fn store(&mut self) {
-        let kind = self.random.pick(&[Kind::New, Kind::Old]);
+        let kind = self.random.pick(&KINDS);
         let store = some_store(kind, self.random);
         self.add(store.to_string().as_bytes());
         self.scheduler = Scheduler::new(self.random);
@@ -215,7 +215,7 @@ impl<'a> Writer<'a> {
 
     /// A `store` with one or two of its arguments out of range.
     fn refused_store(&mut self) {
-        let kind = self.random.pick(&[Kind::New, Kind::Old]);
+        let kind = self.random.pick(&KINDS);
         let mut store = some_store(kind, self.random);
         for _ in 0..1 + self.random.below(2) {
             out_of_range(kind, &mut store, self.random);
@@ -227,7 +227,7 @@ impl<'a> Writer<'a> {
     fn misshapen(&mut self) {
         let call = match self.random.below(6) {
             0 => {
-                let kind = self.random.pick(&[Kind::New, Kind::Old]);
+                let kind = self.random.pick(&KINDS);
                 some_store(kind, self.random)
             }
             _ => self.next_call(),

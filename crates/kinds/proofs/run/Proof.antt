@@ -1,8 +1,7 @@
--- `run` meets its contract: each call by value is the call of its name, with its numbers; a pitch is the same number in 16 bits. Assumes nothing.
+-- `run` meets its contract: each call by value is the call of its name, with its numbers; a pitch is the same number in its bits. Assumes nothing.
 use borrow.Author.Needs.{needs}
-use mir.Syntax.{w16}
-use mir.ValLaws.{toZ-ofZ}
 use mathlib.Core.Path.{sym, ap, _∙_}
+use Rattle.calls.specs.PitchLaws.{pitch-back}
 use Rattle.kinds_law.specs.Kinds.{anyStep}
 use Rattle.kinds.proofs.run.Statement.{statement}
 use Rattle.kinds.proofs.run.Tie as tie
@@ -122,7 +121,7 @@ same-length-10 : tie.Need-same-length-10
 same-length-10 c = search needs
 
 returns-5 : tie.Need-returns-5
-returns-5 c = (simp (toZ-ofZ w16 (c .before .before .before .before .before .before .before .call5 .given .0 .1 .0) (record { sfits = c .before .before .before .before .before .before .known-told5 .given .1 .0 .1 })) at (c .before .before .before .write .ensures)) ∙ ap (anyStep _) (sym (c .before .before .before .before .before .before .before .call5 .given .1))
+returns-5 c = (simp (pitch-back (c .before .before .before .before .before .before .before .call5 .given .0 .1 .0) (c .before .before .before .before .before .before .known-told5 .given .1 .0 .1)) at (c .before .before .before .write .ensures)) ∙ ap (anyStep _) (sym (c .before .before .before .before .before .before .before .call5 .given .1))
 
 same-length-11 : tie.Need-same-length-11
 same-length-11 c = search needs

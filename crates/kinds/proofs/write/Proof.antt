@@ -1,4 +1,4 @@
--- `write` meets its contract: words of another length and of no kind are refused; else the kind's own call is the step, and a pitch is the same number in 16 bits. Assumes nothing.
+-- `write` meets its contract: words of another length and of no kind are refused; else the kind's own call is the step, and a pitch is the same number in its bits. Assumes nothing.
 use borrow.Author.Needs.{needs}
 use mir.ValLaws.{toZ-ofZ}
 use mathlib.Core.Path.{_∙_}

@@ -1,14 +1,13 @@
 -- `look_up` meets its contract: the refusals are rows of `lookTests`; an accepted look is `look-is`. The picked slot is one of the store, so the entry is there. Assumes nothing.
 use native.Mathlib.Omega.{arith}
 use lib.ListN.{getD}
-use mir.ValLaws.{toZ-ofZ}
-use mir.Syntax.{w16}
 use lib.IntN.{ℤ, pos}
 use mathlib.Core.Path.{refl, ap, _∙_}
 use borrow.Author.Tests.{le-leb, lt-leb, lt-ltb, le-ltb, ne-eqb}
 use Prim.Native.Nat.{_<_, _+_, _*_}
 use Rattle.layout.specs.Layout.{slots}
 use Rattle.calls.specs.declared.Reply.the-variants.{Pitch}
+use Rattle.calls.specs.PitchLaws.{pitch-back}
 use Rattle.statement.specs.Machine.{state, outcome}
 use Rattle.publication_law.specs.Calls.{look-is}
 use Rattle.publication_entries.proofs.look_up.Statement.{statement}
@@ -50,7 +49,7 @@ shared-slice-copy-out-v c = omega (arith, picked c, c .before .before .before .b
 
 returns-4 : tie.Need-returns-4
 returns-4 c =
-    let said = toZ-ofZ w16 (getD (c .before .before .before .before .before .before .before .before .args .entries .now) (c .before .before .before .reader-at .result .picked * 32 + c .before .before .before .before .before .before .before .before .args .k) (pos 0)) (record { sfits = c .v .given }) in
+    let said = pitch-back (getD (c .before .before .before .before .before .before .before .before .args .entries .now) (c .before .before .before .reader-at .result .picked * 32 + c .before .before .before .before .before .before .before .before .args .k) (pos 0)) (c .v .given) in
     ap (λ (v : ℤ). outcome (Pitch v) (state (c .before .before .before .before .before .before .before .before .args .words .now) (c .before .before .before .before .before .before .before .before .args .entries .now))) said
     ∙ look-is _ _ _ _ _ (rw (c .before .before .before .before .before .before .readers-of .ensures) at (c .before .before .before .before .before .if1 .left)) (omega (arith, c .before .before .before .before .if2 .left)) (c .before .before .before .reader-at .ensures) (c .before .if3 .left)
 

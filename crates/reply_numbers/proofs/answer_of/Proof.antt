@@ -1,9 +1,8 @@
 -- `answer_of` meets its contract: by the cases of the reply. Assumes nothing.
 use borrow.Author.Needs.{needs}
 use mathlib.Core.Path.{sym, ap, _∙_}
-use mir.ValLaws.{toZ-ofZ}
-use mir.Syntax.{w16}
 use Rattle.calls.specs.Answer.{answerOf}
+use Rattle.calls.specs.PitchLaws.{pitch-back}
 use Rattle.reply_numbers.proofs.answer_of.Statement.{statement}
 use Rattle.reply_numbers.proofs.answer_of.Tie as tie
 use Rattle.reply_numbers.proofs.answer_of.Reads as reads
@@ -100,7 +99,7 @@ returns-2 : tie.Need-returns-2
 returns-2 c = c .numbers2 .ensures ∙ ap answerOf (sym (c .before .before .reply .given .1))
 
 returns-3 : tie.Need-returns-3
-returns-3 c = c .numbers3 .ensures ∙ rw (c .before .pitch-number .ensures, toZ-ofZ w16 (c .before .before .before .reply2 .given .0 .0) (record { sfits = c .before .before .known-told2 .given .0 .1 })) (ap answerOf (sym (c .before .before .before .reply2 .given .1)))
+returns-3 c = c .numbers3 .ensures ∙ rw (c .before .pitch-number .ensures, pitch-back (c .before .before .before .reply2 .given .0 .0) (c .before .before .known-told2 .given .0 .1)) (ap answerOf (sym (c .before .before .before .reply2 .given .1)))
 
 returns-4 : tie.Need-returns-4
 returns-4 c = c .numbers4 .ensures ∙ ap answerOf (sym (c .before .enum-told2 .given .1))

@@ -1,7 +1,7 @@
 -- `pitch_number` meets its contract: from 0 up a pitch is its own number; a negative v stands -1 - v below 2^64 - 1. Assumes nothing.
 use native.Mathlib.Omega.{arith}
 use mir.Val.{SFits, Fits}
-use mir.Syntax.{w16, w64}
+use mir.Syntax.{w64}
 use mir.ValLaws.{toZ-ofZ}
 use mathlib.Core.Path.{_≡_, refl, sym, _∙_}
 use mathlib.Core.Bool.{true, false}
@@ -10,7 +10,8 @@ use lib.Dec.{T}
 use Prim.Native.Nat.{ℕ, suc, _-_, _<_}
 use lib.IntN.{ℤ, pos, negsuc, natAbs, _-ℤ_}
 use lib.Signed.{leZ, nonNeg, mag}
-use Rattle.calls.specs.Numbers.{NUMBER-MAX}
+use Rattle.calls.specs.Numbers.{PITCH-HALF, NUMBER-MAX}
+use Rattle.calls.specs.PitchLaws.{PITCH-WIDTH}
 use Rattle.calls.specs.RowLaws.{clash}
 use Rattle.calls.specs.Answer.{pitchNumber}
 use Rattle.reply_numbers.proofs.pitch_number.Statement.{statement}
@@ -19,7 +20,7 @@ use Rattle.reply_numbers.proofs.pitch_number.Reads as reads
 use Rattle.reply_numbers.proofs.pitch_number.Lts as lts
 
 -- From 0 up a pitch is its own number.
-plain : (v : ℤ) → leZ (pos 0) v ≡ true → mag v < 32768 → T (nonNeg v) × Fits w64 (natAbs v)
+plain : (v : ℤ) → leZ (pos 0) v ≡ true → mag v < PITCH-HALF → T (nonNeg v) × Fits w64 (natAbs v)
 plain (pos n) e l = (tt, record { fits = omega arith })
 plain (negsuc n) e l = clash (sym e)
 
@@ -31,11 +32,11 @@ plain-number (negsuc n) e = clash (sym e)
 below : (n : ℕ) → negsuc 0 -ℤ negsuc n ≡ pos n
 below n = let e : suc n - 1 ≡ n = omega arith in rw (le-ltb (suc n) 1 (omega arith), e) refl
 
-lower : (v : ℤ) → leZ (pos 0) v ≡ false → mag v < 32768 → SFits w16 (negsuc 0 -ℤ v)
+lower : (v : ℤ) → leZ (pos 0) v ≡ false → mag v < PITCH-HALF → SFits PITCH-WIDTH (negsuc 0 -ℤ v)
 lower (pos n) e l = clash (sym (le-leb 0 n (omega arith)) ∙ e)
 lower (negsuc n) e l = record { sfits = rw (below n) l }
 
-lower-sign : (v : ℤ) → leZ (pos 0) v ≡ false → mag v < 32768 → T (nonNeg (negsuc 0 -ℤ v)) × Fits w64 (natAbs (negsuc 0 -ℤ v))
+lower-sign : (v : ℤ) → leZ (pos 0) v ≡ false → mag v < PITCH-HALF → T (nonNeg (negsuc 0 -ℤ v)) × Fits w64 (natAbs (negsuc 0 -ℤ v))
 lower-sign (pos n) e l = clash (sym (le-leb 0 n (omega arith)) ∙ e)
 lower-sign (negsuc n) e l = rw (below n) (tt, record { fits = omega arith })
 

@@ -2,17 +2,17 @@
 use borrow.Author.Needs.{needs}
 use mathlib.Core.Path.{_≡_, _∙_, ap}
 use lib.IntN.{ℤ, negsuc, _-ℤ_}
-use mir.Syntax.{w16}
 use mir.Val.{SFits, toZ}
-use mir.ValLaws.{toZ-pos, toZ-ofZ}
+use mir.ValLaws.{toZ-pos}
+use Rattle.calls.specs.PitchLaws.{PITCH-WIDTH, pitch-back}
 use Rattle.sheet_fields.proofs.Bytes.{one-less}
 use Rattle.sheet_fields.proofs.below.Statement.{statement}
 use Rattle.sheet_fields.proofs.below.Tie as tie
 
-is : (c : tie.Start) → negsuc 0 -ℤ toZ w16 (c .args .v) ≡ negsuc (c .args .v)
-is c = ap (λ (z : ℤ). negsuc 0 -ℤ z) (toZ-pos w16 _ (c .pre)) ∙ one-less (c .args .v)
+is : (c : tie.Start) → negsuc 0 -ℤ toZ PITCH-WIDTH (c .args .v) ≡ negsuc (c .args .v)
+is c = ap (λ (z : ℤ). negsuc 0 -ℤ z) (toZ-pos PITCH-WIDTH _ (c .pre)) ∙ one-less (c .args .v)
 
-small : (c : tie.Start) → SFits w16 (negsuc (c .args .v))
+small : (c : tie.Start) → SFits PITCH-WIDTH (negsuc (c .args .v))
 small c = record { sfits = c .pre }
 
 cast-result : tie.Need-cast-result
@@ -22,7 +22,7 @@ sub-result : tie.Need-sub-result
 sub-result c = rw (is c) (small c)
 
 returns : tie.Need-returns
-returns c = rw (is c) (toZ-ofZ w16 _ (small c))
+returns c = rw (is c) (pitch-back _ (c .pre))
 
 pub below-spec : {M : Type 1} → statement M
 below-spec = tie.close (tie.spec cast-result sub-result returns)

@@ -1,9 +1,10 @@
--- What was read is at most 2^15 - 1. Assumes nothing.
+-- What was read is below the size of the least pitch. Assumes nothing.
 use borrow.Author.Needs.{needs}
 use native.Mathlib.Omega.{arith}
+use Prim.Native.Nat.{_-_}
 use mathlib.Core.Path.{sym, _∙_, ap}
-use mir.Syntax.{w16}
-use mir.ValLaws.{toZ-ofZ}
+use Rattle.calls.specs.Numbers.{PITCH-HALF}
+use Rattle.calls.specs.PitchLaws.{pitch-back}
 use Rattle.sheet_law.specs.declared.Angle.the-variants.{At}
 use Rattle.sheet_law.specs.Reading.{plain, positive as positive-of}
 use Rattle.sheet_law.specs.Widths.{within-most}
@@ -23,10 +24,10 @@ returns : tie.Need-returns
 returns c = ap positive-of (sym (sym (c .before .before .number .ensures) ∙ c .enum-told .given .1))
 
 above-requires : tie.Need-above-requires
-above-requires c κs = let a = within-most 32767 (plain (c .before .before .before .before .before .args .s .now)) (c .before .v .given .0 .0) (sym (c .before .before .before .number .ensures) ∙ c .before .v .given .1) in omega (arith, a)
+above-requires c κs = let a = within-most (PITCH-HALF - 1) (plain (c .before .before .before .before .before .args .s .now)) (c .before .v .given .0 .0) (sym (c .before .before .before .number .ensures) ∙ c .before .v .given .1) in omega (arith, a)
 
 returns-2 : tie.Need-returns-2
-returns-2 c = rw (toZ-ofZ w16 (c .above .result) (record { sfits = c .above .ok })) (ap At (c .above .ensures) ∙ sym (ap positive-of (sym (c .before .before .before .before .number .ensures) ∙ c .before .before .v .given .1)))
+returns-2 c = rw (pitch-back (c .above .result) (c .above .ok)) (ap At (c .above .ensures) ∙ sym (ap positive-of (sym (c .before .before .before .before .number .ensures) ∙ c .before .before .v .given .1)))
 
 pub positive-spec : {M : Type 1} → statement M
 positive-spec =

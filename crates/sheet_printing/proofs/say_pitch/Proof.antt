@@ -6,9 +6,8 @@ use mathlib.Core.Path.{_≡_, refl, ap, _∙_}
 use lib.IntN.{ℤ, pos, negsuc, natAbs}
 use lib.Signed.{ltZ}
 use borrow.Author.Tests.{ltb-true}
-use mir.Syntax.{w16}
-use mir.ValLaws.{toZ-ofZ}
 use Rattle.calls.specs.RowLaws.{clash}
+use Rattle.calls.specs.PitchLaws.{pitch-back}
 use Rattle.sheet_law.specs.Text.{text}
 use Rattle.sheet_law.specs.Printing.{withOne, pitchText}
 use Rattle.sheet_printing.proofs.Phrases.{says-as}
@@ -37,12 +36,12 @@ say-requires-2 c κs = search needs
 
 returns : tie.Need-returns
 returns c = let s = c .before .before .before in
-    let e = toZ-ofZ w16 (s .args .v) (s .fits .v) in
+    let e = pitch-back (s .args .v) (s .fits .v .sfits) in
     says-as (ap (withOne (text "pitch -")) (c .before .size .ensures ∙ ap natAbs e) ∙ below (s .args .v) (rw e at (c .before .before .if1 .taken))) (c .say .ensures)
 
 returns-2 : tie.Need-returns-2
 returns-2 c = let s = c .before .before .before in
-    let e = toZ-ofZ w16 (s .args .v) (s .fits .v) in
+    let e = pitch-back (s .args .v) (s .fits .v .sfits) in
     says-as (ap (withOne (text "pitch ")) (c .before .size2 .ensures ∙ ap natAbs e) ∙ not-below (s .args .v) (rw e at (c .before .before .if1 .left))) (c .say2 .ensures)
 
 pub say-pitch-spec : {M : Type 1} → statement M

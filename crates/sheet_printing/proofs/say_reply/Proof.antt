@@ -1,8 +1,7 @@
--- Each arm of `say_reply` says the text of its own variant; a pitch is the same number in 16 bits. Assumes nothing.
+-- Each arm of `say_reply` says the text of its own variant; a pitch is the same number in its bits. Assumes nothing.
 use borrow.Author.Needs.{needs}
 use mathlib.Core.Path.{sym, ap, _∙_}
-use mir.Syntax.{w16}
-use mir.ValLaws.{toZ-ofZ}
+use Rattle.calls.specs.PitchLaws.{pitch-back}
 use Rattle.sheet_law.specs.Printing.{pitchText, replyText}
 use Rattle.sheet_printing.proofs.Phrases.{says-as}
 use Rattle.sheet_printing.proofs.say_reply.Statement.{statement}
@@ -93,7 +92,7 @@ returns-2 : tie.Need-returns-2
 returns-2 c = says-as (ap replyText (sym (c .before .before .a .given .1))) (c .say2 .ensures)
 
 returns-3 : tie.Need-returns-3
-returns-3 c = says-as (ap pitchText (toZ-ofZ w16 (c .before .before .a2 .given .0 .0) (record { sfits = c .before .known-told2 .given .0 .1 })) ∙ ap replyText (sym (c .before .before .a2 .given .1))) (c .say-pitch .ensures)
+returns-3 c = says-as (ap pitchText (pitch-back (c .before .before .a2 .given .0 .0) (c .before .known-told2 .given .0 .1)) ∙ ap replyText (sym (c .before .before .a2 .given .1))) (c .say-pitch .ensures)
 
 returns-4 : tie.Need-returns-4
 returns-4 c = says-as (ap replyText (sym (c .before .enum-told2 .given .1))) (c .say3 .ensures)

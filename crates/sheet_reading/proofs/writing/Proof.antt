@@ -1,15 +1,14 @@
--- The text is cut as in the definition; a pitch that was read is the same number in 16 bits. Assumes nothing.
+-- The text is cut as in the definition; a pitch that was read is the same number in its bits. Assumes nothing.
 use borrow.Author.Needs.{needs}
 use native.Mathlib.Omega.{arith}
 use Prim.Native.Nat.{_-_}
 use mathlib.Core.Path.{_≡_, refl, sym, _∙_, ap}
 use lib.ListN.{take}
 use lib.Seq.{length-take-le}
+use Rattle.calls.specs.PitchLaws.{pitch-back}
 use Rattle.sheet_law.specs.declared.Number.the-variants.{Fine, Bad}
 use Rattle.sheet_law.specs.Reading.{first, rest, plain, narrow, angle as angle-of}
 use Rattle.sheet_law.specs.Widths.{read-part, tail-is, within-most}
-use mir.Syntax.{w16}
-use mir.ValLaws.{toZ-ofZ}
 use Rattle.sheet_reading.proofs.writing.Statement.{statement}
 use Rattle.sheet_reading.proofs.writing.Tie as tie
 
@@ -59,7 +58,7 @@ cast-t15 : tie.Need-cast-t15
 cast-t15 c = let a = within-most 65535 (plain (first (c .before .before .before .before .before .before .before .before .before .before .before .before .args .s .now))) (c .before .before .before .before .before .before .p .given .0 .0) (first-read (c .before .before .before .before .before)) in omega (arith, a)
 
 returns-3 : tie.Need-returns-3
-returns-3 c = rw (first-read (c .before .before .before .before .before), sym (ap angle-of (tail-is (c .before .before .before .before .before .before .before .before .before .before .cut .result .next) (c .before .before .before .before .before .before .before .before .before .before .before .before .args .s .now) (rest (c .before .before .before .before .before .before .before .before .before .before .before .before .args .s .now)) (c .before .before .before .before .before .before .before .before .before .before .cut .ensures .3))) ∙ sym (c .before .before .before .angle .ensures) ∙ c .before .v .given .1, toZ-ofZ w16 (c .before .v .given .0 .0) (record { sfits = c .known-told2 .given .0 .1 })) refl
+returns-3 c = rw (first-read (c .before .before .before .before .before), sym (ap angle-of (tail-is (c .before .before .before .before .before .before .before .before .before .before .cut .result .next) (c .before .before .before .before .before .before .before .before .before .before .before .before .args .s .now) (rest (c .before .before .before .before .before .before .before .before .before .before .before .before .args .s .now)) (c .before .before .before .before .before .before .before .before .before .before .cut .ensures .3))) ∙ sym (c .before .before .before .angle .ensures) ∙ c .before .v .given .1, pitch-back (c .before .v .given .0 .0) (c .known-told2 .given .0 .1)) refl
 
 pub writing-spec : {M : Type 1} → statement M
 writing-spec =

@@ -1,4 +1,4 @@
--- `GraceVersion::write` meets its contract: the call in place, and that a pitch is the same number in 16 bits. Assumes nothing.
+-- `GraceVersion::write` meets its contract: the call in place, and that a pitch is the same number in its bits. Assumes nothing.
 use borrow.Author.Needs.{needs}
 use mir.ValLaws.{toZ-ofZ}
 use Rattle.grace_version.proofs.GraceVersion.write.Statement.{statement}

@@ -1,4 +1,4 @@
--- `TwoPhase::write` meets its contract: the call in place, and that a pitch is the same number in 16 bits. Assumes nothing.
+-- `TwoPhase::write` meets its contract: the call in place, and that a pitch is the same number in its bits. Assumes nothing.
 use borrow.Author.Needs.{needs}
 use mir.ValLaws.{toZ-ofZ}
 use Rattle.two_phase.proofs.TwoPhase.write.Statement.{statement}
