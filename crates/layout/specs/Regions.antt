@@ -1,6 +1,6 @@
 -- The law of regions: what is written at record j is read there, and nothing else is read anew.
 -- A record is some words in a row, and regions that lie apart have no word in common. Assumes nothing.
-use Prim.Native.Nat.{ℕ, zero, suc, _+_, _*_, _<_, _≤_}
+use Prim.Native.Nat.{ℕ, zero, suc, _+_, _<_, _≤_}
 use native.Mathlib.Omega.{arith}
 use native.Mathlib.Nat.{mul-suc, mul-le-mul-left}
 use mathlib.Core.Path.{_≡_, refl, sym, ap, _∙_, fun-ext}

@@ -13,12 +13,11 @@ use Rattle.calls.specs.declared.Call.{Call}
 use Rattle.calls.specs.declared.Call.the-variants.{Sync, Raise, Walk}
 use Rattle.calls.specs.declared.Reply.the-variants.{Synced, Raised, Shared, Walked}
 use Rattle.calls.specs.declared.WalkReply.the-variants.{Spent}
-use Rattle.calls.specs.RowLaws.{clash, not-both, pick-split, same}
+use Rattle.calls.specs.RowLaws.{clash, not-both, pick-split}
 use Rattle.calls.specs.AnswerLaws.{NarrowPitch, Proper}
 use Rattle.calls.specs.Events.{accepted}
-use Rattle.layout.specs.declared.Publisher.{Publisher}
 use Rattle.layout.specs.declared.Progress.{Progress}
-use Rattle.layout.specs.Layout.{VERSION-AT, publishers, version, publisherAt, noWalk}
+use Rattle.layout.specs.Layout.{VERSION-AT, publishers, version, noWalk}
 use Rattle.layout.specs.Records.{_atPlace_, _walk≔_, _mark≔_, _next≔_, _looks≔_, _waits≔_}
 use Rattle.statement.specs.Machine.{State, Outcome, Given, Fresh, afterAll}
 use Rattle.statement.specs.Demand3.{Demand3}
@@ -30,7 +29,7 @@ use Rattle.publication_law.specs.Rules.{Rules, tableBy}
 use Rattle.publication_law.specs.DamageLaws.{Fine}
 use Rattle.publication_law.specs.Calls.{undamaged-fine}
 use Rattle.publication_law.specs.KindLaw.{fine-publisher}
-use Rattle.publication_law.specs.Moves.{MovesPublisher, publisher-moves, publisher-moves-head}
+use Rattle.publication_law.specs.Moves.{publisher-moves, publisher-moves-head, publisher-written}
 use Rattle.publication_law.specs.Frames.{walk-record}
 use Rattle.publication_law.specs.Decide.{decided}
 use Rattle.publication_law.specs.TableLaws.{refused-leaves-of-table, frame-of-table, proper-of-table, proper-making-of-table}
@@ -39,7 +38,7 @@ use Rattle.publication_law.specs.Lawful.{Lawful, demand3-of, companions-
 -- SYNC: the reply is the mark that it stores, the version's successor; next, looks and waits are 0.
 pub record SyncFacts (successor : ℕ → ℕ) (s : State) (p : ℕ) (o : Outcome) : Type 0 where
   pub reply-is : o .reply ≡ Synced (successor (version (s .words)))
-  pub record-is : publisher (o .after) p ≡ publisher s p atPlace 35 walk≔ (noWalk mark≔ successor (version (s .words)) next≔ 0 looks≔ 0 waits≔ 0)
+  pub record-is : publisher (o .after) p ≡ publisher s p atPlace 35 walk≔ (noWalk mark≔ (successor (version (s .words))) next≔ 0 looks≔ 0 waits≔ 0)
 
 -- RAISE: raised exactly if the version was one before the mark, and the version then is the mark; else shared, and the version stays. Place 37 either way.
 pub record RaiseFacts (successor : ℕ → ℕ) (s : State) (p : ℕ) (o : Outcome) : Type 0 where
@@ -67,13 +66,10 @@ pub record Promises (R : Table) (T : GraceTraits) : Type 0 where
   pub walk-zero : (s : State) (p : ℕ) → step R s (Walk p 0) .reply ≡ Walked Spent → step R s (Walk p 0) .after ≡ s
 
 module _ (R : Rules) (T : GraceTraits) (L : Lawful R T) where
-  own-record : (s : State) (w′ : List ℕ) (p : ℕ) (y : Publisher) (cur ver rel : ℕ) → MovesPublisher (s .words) w′ p y cur ver rel → publisherAt w′ p ≡ y
-  own-record s w′ p y cur ver rel m = ap (λ (f : ℕ → Publisher). f p) (m .publishers-are) ∙ rw (same p) refl
-
   sync-facts-of : (s : State) (p : ℕ) → accepted (step (tableBy R) s (Sync p) .reply) ≡ true → SyncFacts (T .successor) s p (step (tableBy R) s (Sync p))
   unfolding step
   sync-facts-of s p = decided (λ (o : Outcome). accepted (o .reply) ≡ true → SyncFacts (T .successor) s p o) (rows (tableBy R) s (Sync p)) (tableBy R .act s (Sync p)) s refl
-      (λ f _. rw (L .successor-is) (record { reply-is = refl; record-is = own-record s _ p _ _ _ _ (publisher-moves (undamaged-fine (tableBy R) s (f .0)) p _ (leb-false _ _ (f .1 .0))) }))
+      (λ f _. rw (L .successor-is) (record { reply-is = refl; record-is = publisher-written (publisher-moves (undamaged-fine (tableBy R) s (f .0)) p _ (leb-false _ _ (f .1 .0))) }))
       (λ ok. clash (sym ok))
 
   -- A RAISE of a publisher whose mark fits.
@@ -83,13 +79,13 @@ module _ (R : Rules) (T : GraceTraits) (L : Lawful R T) where
       record {
         raised = λ _. (refl, m .version-is);
         shared = λ ne. absurd (ne (ap (R .kind .versions .markAt) (eqb-true _ _ e) ∙ L .kind-law .versions-law .mark-after _ fits));
-        record-is = own-record s _ p _ _ _ _ m;
+        record-is = publisher-written m;
       })
       (λ e. let m = publisher-moves fine p (publisher s p atPlace 37) lt in
       record {
         raised = λ q. absurd (eqb-false _ _ e (sym (L .kind-law .versions-law .before-mark (version (s .words))) ∙ ap (R .kind .versions .beforeMark) q));
         shared = λ ne. (refl, m .version-is);
-        record-is = own-record s _ p _ _ _ _ m;
+        record-is = publisher-written m;
       }))
 
   raise-facts-of : (s : State) (p : ℕ) → accepted (step (tableBy R) s (Raise p) .reply) ≡ true → RaiseFacts (T .successor) s p (step (tableBy R) s (Raise p))

@@ -5,7 +5,7 @@ use Prim.Native.Nat.{ℕ, zero, suc, _+_, _-_, _<_, _≤_}
 use native.Mathlib.Omega.{arith}
 use mathlib.Core.Path.{_≡_, refl, sym, _∙_}
 use mathlib.Core.Logic.{_≢_, _⊎_, inl, inr}
-use mathlib.Core.Bool.{Bool, true, false, _||_}
+use mathlib.Core.Bool.{Bool, true, false}
 use mathlib.Core.List.{List}
 use lib.ListN.{length}
 use lib.Dec.{leb, ltb, eqb}
@@ -18,7 +18,6 @@ use Rattle.calls.specs.Base.{pick, upd}
 use Rattle.calls.specs.Numbers.{READERS-MAX, KIND-OLD}
 use Rattle.calls.specs.RowLaws.{clash, by-test, neither, or-none, all-false, none-true, count-none, pick-split, AllClear, AllFalse}
 use Rattle.layout.specs.declared.Reader.{Reader}
-use Rattle.layout.specs.declared.Publisher.{Publisher}
 use Rattle.layout.specs.Layout.{HEAD, INDICATORS, INDICATORS-AT, readers, publishers, slots, current, version, indicator, readerAt, withReader, withIndicator}
 use Rattle.layout.specs.Records.{_place≔_, _first≔_, _picked≔_}
 use Rattle.layout.specs.Laws.{length-reader, indicator-reader, indicator-put, fresh-indicator, fresh-reader}
