@@ -11,7 +11,7 @@ ghost use Rattle.calls.specs.Rows.{anyTrue, anyBelow};
 ghost use Rattle.layout.specs.Layout.{WORDS, readerAt, publisherAt};
 ghost use Rattle.statement.specs.Machine.{state};
 ghost use Rattle.publication_law.specs.Damage.{headRows, readersTest, publishersTest};
-ghost use Rattle.grace_version_law.specs.Steps.{kind};
+ghost use Rattle.grace_version_law.specs.Steps.{kind, readerRows};
 use calls::KIND_NEW;
 use calls::PUBLISHERS_MAX;
 use calls::READERS_MAX;
@@ -31,7 +31,7 @@ pub const LAST: u64 = 18446744073709551614;
 // Whether reader r is spoiled.
 fn reader_damaged(words: &[u64], r: usize, slots: u64) -> bool
     requires { ⌜ (length (now words) ≡ WORDS) × (r < READERS-MAX) ⌝ }
-    ensures { λ b. ⌜ b ≡ kind .readerDamaged slots (readerAt (now (words .entry)) r) ⌝ }
+    ensures { λ b. ⌜ b ≡ anyTrue (readerRows slots (readerAt (now (words .entry)) r)) ⌝ }
 {
     let place = reader_place(words, r);
     if place == 5 {
@@ -52,7 +52,7 @@ fn reader_damaged(words: &[u64], r: usize, slots: u64) -> bool
 // Whether one of the first n readers is spoiled.
 fn readers_damaged(words: &[u64], n: u64, slots: u64) -> bool
     requires { ⌜ (length (now words) ≡ WORDS) × (n ≤ READERS-MAX) ⌝ }
-    ensures { λ b. ⌜ b ≡ anyBelow (λ r. kind .readerDamaged slots (readerAt (now (words .entry)) r)) n ⌝ }
+    ensures { λ b. ⌜ b ≡ anyBelow (λ r. kind .readerDamaged n slots (readerAt (now (words .entry)) r)) n ⌝ }
 {
     for r in 0..n {
         if reader_damaged(words, r as usize, slots) {

@@ -60,10 +60,14 @@ next-below rs ss y e t =
     let f = all-false (ownRows rs y) (or-false (anyTrue (ownRows rs y)) (anyTrue (publisherRows versions ss y)) e .0) in
     leb-false rs (y .walk .next) (and-false (eqb (y .place) 35 || eqb (y .place) 37) (leb rs (y .walk .next)) (f .1 .1 .0) t)
 
+-- At 5 a reader is spoiled by its pick alone.
+pub picked-rows : (ss : ℕ) (x : Reader) → x .place ≡ 5 → anyTrue (readerRows ss x) ≡ leb ss (x .picked)
+picked-rows ss x e = rw e (or-none (leb ss (x .picked)))
+
 abbrev pub law : KindLaw kind
 law = record {
   versions-law = up-to-law LAST;
-  reader-picked = λ ss x e. rw e (or-none (leb ss (x .picked)));
+  reader-picked = λ rs ss x e f. leb-false ss (x .picked) (sym (picked-rows ss x e) ∙ f);
   own = λ rs y. anyTrue (ownRows rs y);
   own-rows = λ rs ss y. refl;
   own-early = λ rs y l. own-clear rs y (omega arith) (λ e. omega arith) (λ a b. absurd (omega arith));
@@ -278,7 +282,7 @@ lawful = record {
   Own = OwnOf detector;
   start-own = λ z s f. start-own detector KIND-NEW freshReader z s (start-shown z s (f .readers-high));
   fresh-is = refl;
-  fresh-reader-fits = λ ss. refl;
+  fresh-reader-fits = λ rs ss. refl;
   no-further = λ z g s i. refl;
   early-own = early-own detector;
   enter-moves = λ s f r l. reader-moves f r (entered s r) l;

@@ -48,7 +48,7 @@ abbrev pub kind : Kind
 kind = record {
   number = KIND-NEW;
   versions = versions;
-  readerDamaged = λ slots x. anyTrue (readerRows slots x);
+  readerDamaged = λ readers slots x. anyTrue (readerRows slots x);
   publisherDamaged = λ readers slots y. anyTrue (ownRows readers y) || anyTrue (publisherRows versions slots y);
 }
 

@@ -12,11 +12,11 @@ use Rattle.layout.specs.Layout.{WORDS, kind, readers, publishers, slots, curren
 use Rattle.statement.specs.Machine.{State}
 use Rattle.publication_law.specs.Steps.{Versions, reader, publisher}
 
--- What a kind adds: its number, its versions, and what spoils a reader (given the slots) and a publisher (given readers and slots).
+-- What a kind adds: its number, its versions, and what spoils a reader and a publisher (given readers and slots).
 pub record Kind : Type 0 where
   pub number : ℕ
   pub versions : Versions
-  pub readerDamaged : ℕ → Reader → Bool
+  pub readerDamaged : ℕ → ℕ → Reader → Bool
   pub publisherDamaged : ℕ → ℕ → Publisher → Bool
 
 -- Another length of the words, another kind; a size outside the making rules or a wrong entries' length; current slot or version too large.
@@ -46,7 +46,7 @@ publisherRows vs slots y =
 
 -- Numbers of readers and publishers beyond the sizes are not tested.
 abbrev pub readersDamaged : Kind → State → Bool
-readersDamaged K s = anyBelow (λ r. K .readerDamaged (slots (s .words)) (reader s r)) (readers (s .words))
+readersDamaged K s = anyBelow (λ r. K .readerDamaged (readers (s .words)) (slots (s .words)) (reader s r)) (readers (s .words))
 
 abbrev pub publishersDamaged : Kind → State → Bool
 publishersDamaged K s = anyBelow (λ p. K .publisherDamaged (readers (s .words)) (slots (s .words)) (publisher s p)) (publishers (s .words))

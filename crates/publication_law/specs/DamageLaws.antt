@@ -33,7 +33,7 @@ pub record HeadFine (K : Kind) (s : State) : Type 0 where
 
 pub record Fine (K : Kind) (s : State) : Type 0 where
   pub head : HeadFine K s
-  pub readers-fine : (r : ℕ) → r < readers (s .words) → K .readerDamaged (slots (s .words)) (reader s r) ≡ false
+  pub readers-fine : (r : ℕ) → r < readers (s .words) → K .readerDamaged (readers (s .words)) (slots (s .words)) (reader s r) ≡ false
   pub publishers-fine : (p : ℕ) → p < publishers (s .words) → K .publisherDamaged (readers (s .words)) (slots (s .words)) (publisher s p) ≡ false
 
 -- Readers and publishers of the store have records.
@@ -69,7 +69,7 @@ fine-of K s e =
     let b = or-false (anyTrue (headRows K s)) (readersDamaged K s) (a .0) in
     record {
       head = head-of K s (b .0);
-      readers-fine = λ r l. none-below (λ r. K .readerDamaged (slots (s .words)) (reader s r)) (readers (s .words)) r (b .1) l;
+      readers-fine = λ r l. none-below (λ r. K .readerDamaged (readers (s .words)) (slots (s .words)) (reader s r)) (readers (s .words)) r (b .1) l;
       publishers-fine = λ p l. none-below (λ p. K .publisherDamaged (readers (s .words)) (slots (s .words)) (publisher s p)) (publishers (s .words)) p (a .1) l;
     }
 
@@ -96,7 +96,7 @@ fine-to K s f = let h = f .head in
         ),
       ),
     ))
-    (no-below (λ r. K .readerDamaged (slots (s .words)) (reader s r)) (readers (s .words)) (f .readers-fine)))
+    (no-below (λ r. K .readerDamaged (readers (s .words)) (slots (s .words)) (reader s r)) (readers (s .words)) (f .readers-fine)))
     (no-below (λ p. K .publisherDamaged (readers (s .words)) (slots (s .words)) (publisher s p)) (publishers (s .words)) (f .publishers-fine))
 
 -- The damage test is that of the head, of the readers and of the publishers, each by itself.
@@ -104,7 +104,7 @@ module _ (K : Kind) (s : State) where
   pub readers-test-fine : Fine K s → readersTest K s ≡ false
   readers-test-fine f = let h = f .head in neither (not (eqb (length (s .words)) WORDS) || outside 1 READERS-MAX (readers (s .words))) (readersDamaged K s)
       (neither (not (eqb (length (s .words)) WORDS)) (outside 1 READERS-MAX (readers (s .words))) (negated _ (eq-eqb _ _ (h .long))) (not-outside 1 READERS-MAX _ (h .readers-low) (h .readers-high)))
-      (no-below (λ r. K .readerDamaged (slots (s .words)) (reader s r)) (readers (s .words)) (f .readers-fine))
+      (no-below (λ r. K .readerDamaged (readers (s .words)) (slots (s .words)) (reader s r)) (readers (s .words)) (f .readers-fine))
 
   pub publishers-test-fine : Fine K s → publishersTest K s ≡ false
   publishers-test-fine f = let h = f .head in neither (not (eqb (length (s .words)) WORDS) || outside 1 PUBLISHERS-MAX (publishers (s .words))) (publishersDamaged K s)

@@ -86,7 +86,7 @@ module _ (D : Detector) where
 
   module _ (K : Kind) (law : KindLaw K) (z : Given) (g : Ghost) (s : State) (i : Good K (OwnOf D) z g s) where
     -- ENTER: what holds of a reader in a section stays; LEAVE: it is waited for no more.
-    module _ (w′ : List ℕ) (r : ℕ) (x : Reader) (m : MovesReader (s .words) w′ r x) (ok : K .readerDamaged (slots (s .words)) x ≡ false)
+    module _ (w′ : List ℕ) (r : ℕ) (x : Reader) (m : MovesReader (s .words) w′ r x) (ok : K .readerDamaged (readers (s .words)) (slots (s .words)) x ≡ false)
         (f : D .Readers (version (s .words)) (readers (s .words)) (indicator w′) (upd (readerAt (s .words)) r x)) where
       pub enter-good : r < readers (s .words) → Onward (current (s .words)) (reader s r .place) (reader s r .picked) (x .place) (x .picked)
           → (4 ≤ reader s r .place → (y : Publisher) → D .Behind (readers (s .words)) (reader s r) y r → D .Behind (readers (s .words)) x y r)

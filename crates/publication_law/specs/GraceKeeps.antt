@@ -52,7 +52,7 @@ waitsAfter n (Returned l w) = n
 
 module _ (K : Kind) (z : Given) (g : Ghost) (s : State) (i : GraceInvariant K z g s) where
   -- ENTER and LEAVE, whatever else of the reader and of the head a kind changes.
-  module _ (w′ : List ℕ) (r : ℕ) (x : Reader) (m : MovesReader (s .words) w′ r x) (ok : K .readerDamaged (slots (s .words)) x ≡ false) where
+  module _ (w′ : List ℕ) (r : ℕ) (x : Reader) (m : MovesReader (s .words) w′ r x) (ok : K .readerDamaged (readers (s .words)) (slots (s .words)) x ≡ false) where
     pub enter-keeps : r < readers (s .words) → Onward (current (s .words)) (reader s r .place) (reader s r .picked) (x .place) (x .picked)
         → GraceInvariant K z (advance g (Enter r) (At (x .place))) (state w′ (s .entries))
     enter-keeps rn on = reader-moved-grace K z s _ w′ r x m
@@ -186,7 +186,7 @@ module _ (K : Kind) (law : KindLaw K) (z : Given) (g : Ghost) (s : State) (i : G
 
 -- A fresh store.
 pub made-invariant : (K : Kind) (x : Reader) (z : Given) (s : State) → MakingClear (K .versions) z s → x .place ≡ 0 → x .picked ≡ 0
-    → K .readerDamaged (z .slots) x ≡ false → K .publisherDamaged (z .readers) (z .slots) noPublisher ≡ false → GraceInvariant K z (ghost₀ firstTable) (made (K .number) x z s)
+    → K .readerDamaged (z .readers) (z .slots) x ≡ false → K .publisherDamaged (z .readers) (z .slots) noPublisher ≡ false → GraceInvariant K z (ghost₀ firstTable) (made (K .number) x z s)
 made-invariant K x z s f a b reader-ok publisher-ok = record {
   every = every.made-invariant K x z s f a b reader-ok publisher-ok;
   grace = rw (

@@ -68,14 +68,14 @@ module _ (K : Kind) (s : State) (w′ : List ℕ) (es′ : List ℤ) (long : len
 
 -- A reader anew.
 module _ (K : Kind) (z : Given) (g : Ghost) (s : State) (i : Invariant K z g s) (g′ : Ghost) (w′ : List ℕ) (r : ℕ) (x : Reader) (m : MovesReader (s .words) w′ r x) where
-  fine-reader : K .readerDamaged (slots (s .words)) x ≡ false → Fine K (state w′ (s .entries))
+  fine-reader : K .readerDamaged (readers (s .words)) (slots (s .words)) x ≡ false → Fine K (state w′ (s .entries))
   fine-reader ok = let f = i .fine in let h = f .head in record {
     head = head-fine K s w′ (s .entries) (m .long) (λ k l. m .head k (omega arith)) refl (rw (m .head CURRENT-AT (omega arith)) (h .current-below)) (rw (m .head VERSION-AT (omega arith)) (h .version-fits)) h;
     readers-fine = rw (m .head READERS-AT (omega arith), m .head SLOTS-AT (omega arith), m .readers-are) (at-or r (λ l. rw (same r) ok) (λ j e l. rw e (f .readers-fine j l)));
     publishers-fine = rw (m .head READERS-AT (omega arith), m .head PUBLISHERS-AT (omega arith), m .head SLOTS-AT (omega arith), m .publishers-stay) (f .publishers-fine);
   }
 
-  pub reader-moved : K .readerDamaged (slots (s .words)) x ≡ false
+  pub reader-moved : K .readerDamaged (readers (s .words)) (slots (s .words)) x ≡ false
       → Core (g′ .model) (g′ .told) (readers (s .words)) (publishers (s .words)) (current (s .words))
       (upd (λ j. reader s j .place) r (x .place)) (upd (λ j. reader s j .picked) r (x .picked)) (λ p. publisher s p .place) (λ p. publisher s p .held) (λ p. formers (publisher s p)) (slotEntry (s .entries))
       → Phases (g′ .tally .place) (g′ .tally .phase) (upd (λ j. reader s j .place) r (x .place)) (λ p. publisher s p .place)

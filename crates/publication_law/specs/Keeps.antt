@@ -172,7 +172,7 @@ module _ (K : Kind) (x : Reader) (z : Given) (s : State) (f : MakingClear (K .ve
   entries-long : length (replicate (length (s .entries)) FEATHERED) ≡ z .slots * TABLE
   entries-long = length-replicate (length (s .entries)) FEATHERED ∙ f .entries-are
 
-  made-fine : K .readerDamaged (z .slots) x ≡ false → K .publisherDamaged (z .readers) (z .slots) noPublisher ≡ false → Fine K (made (K .number) x z s)
+  made-fine : K .readerDamaged (z .readers) (z .slots) x ≡ false → K .publisherDamaged (z .readers) (z .slots) noPublisher ≡ false → Fine K (made (K .number) x z s)
   unfolding w
   made-fine reader-ok publisher-ok = record {
     head = record {
@@ -194,7 +194,7 @@ module _ (K : Kind) (x : Reader) (z : Given) (s : State) (f : MakingClear (K .ve
         (λ p l. rw (fresh-publisher (K .number) (z .readers) (z .publishers) (z .slots) (z .version) x p) publisher-ok);
   }
 
-  pub made-invariant : x .place ≡ 0 → x .picked ≡ 0 → K .readerDamaged (z .slots) x ≡ false → K .publisherDamaged (z .readers) (z .slots) noPublisher ≡ false
+  pub made-invariant : x .place ≡ 0 → x .picked ≡ 0 → K .readerDamaged (z .readers) (z .slots) x ≡ false → K .publisherDamaged (z .readers) (z .slots) noPublisher ≡ false
       → Invariant K z (ghost₀ firstTable) (made (K .number) x z s)
   unfolding w
   made-invariant a b reader-ok publisher-ok = record {

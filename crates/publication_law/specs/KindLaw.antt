@@ -33,11 +33,11 @@ up-to-law last = record {
   raised-fits = λ m e. or-false (eqb m 0) (ltb last m) e .1;
 }
 
--- Of its damage test: at 5 a reader is spoiled by its pick alone; a publisher is spoiled by the shared rows and by what the kind adds,
+-- Of its damage test: an undamaged reader at 5 has picked a slot of the store; a publisher is spoiled by the shared rows and by what the kind adds,
 -- which is nothing below 35 and every place above 38.
 pub record KindLaw (K : Kind) : Type 0 where
   pub versions-law : VersionsLaw (K .versions)
-  pub reader-picked : (ss : ℕ) (x : Reader) → x .place ≡ 5 → K .readerDamaged ss x ≡ leb ss (x .picked)
+  pub reader-picked : (rs ss : ℕ) (x : Reader) → x .place ≡ 5 → K .readerDamaged rs ss x ≡ false → x .picked < ss
   pub own : ℕ → Publisher → Bool
   pub own-rows : (rs ss : ℕ) (y : Publisher) → K .publisherDamaged rs ss y ≡ (own rs y || anyTrue (publisherRows (K .versions) ss y))
   pub own-early : (rs : ℕ) (y : Publisher) → y .place < 35 → own rs y ≡ false

@@ -71,7 +71,7 @@ pub record Lawful (R : Rules) (T : GraceTraits) : Type 1 where
   pub Own : Ghost → State → Type 0
   pub start-own : (z : Given) (s : State) → MakingClear (R .kind .versions) z s → Own (ghost₀ firstTable) (made (R .kind .number) (R .freshReader) z s)
   pub fresh-is : R .freshReader ≡ blankReader NOT-READING
-  pub fresh-reader-fits : (ss : ℕ) → R .kind .readerDamaged ss (R .freshReader) ≡ false
+  pub fresh-reader-fits : (rs ss : ℕ) → R .kind .readerDamaged rs ss (R .freshReader) ≡ false
   pub no-further : (z : Given) (g : Ghost) (s : State) → Good (R .kind) Own z g s → R .further s ≡ false
   -- below 35 a publisher's move does not touch the kind's own invariant
   pub early-own : (g g′ : Ghost) (s : State) (w′ : List ℕ) (es′ : List ℤ) (p : ℕ) (y : Publisher) (cur rel : ℕ) → Own g s → g′ .pend ≡ g .pend
@@ -365,7 +365,7 @@ module _ (R : Rules) (T : GraceTraits) (L : Lawful R T) where
   start s f = decided (λ (o : Outcome). o ≡ outcome Made s → Good (R .kind) (L .Own) (f .arguments) (ghost₀ firstTable) s) (makingTests (R .kind .versions) (f .arguments) (f .lent))
       (outcome Made (made (R .kind .number) (R .freshReader) (f .arguments) (f .lent))) (f .lent) refl
       (λ c e. subst (λ (u : State). Good (R .kind) (L .Own) (f .arguments) (ghost₀ firstTable) u) (outcome-parts _ _ _ e .1) (record {
-        shared = made-invariant (R .kind) (R .freshReader) (f .arguments) (f .lent) (making-clear (R .kind .versions) (f .arguments) (f .lent) c) (ap (λ (x : Reader). x .place) (L .fresh-is)) (ap (λ (x : Reader). x .picked) (L .fresh-is)) (L .fresh-reader-fits _) (early-fits (L .kind-law) (f .arguments .readers) (f .arguments .slots) noPublisher (omega arith) (λ l. absurd (omega arith)));
+        shared = made-invariant (R .kind) (R .freshReader) (f .arguments) (f .lent) (making-clear (R .kind .versions) (f .arguments) (f .lent) c) (ap (λ (x : Reader). x .place) (L .fresh-is)) (ap (λ (x : Reader). x .picked) (L .fresh-is)) (L .fresh-reader-fits _ _) (early-fits (L .kind-law) (f .arguments .readers) (f .arguments .slots) noPublisher (omega arith) (λ l. absurd (omega arith)));
         own = L .start-own (f .arguments) (f .lent) (making-clear (R .kind .versions) (f .arguments) (f .lent) c);
       }))
       (λ e. absurd (let q = outcome-parts _ _ _ e .0 in let y : _≡_ {A = ℕ} 0 1 = cc in omega arith))

@@ -4,7 +4,7 @@ use mathlib.Core.Path.{_≡_, sym, ap, _∙_}
 use mathlib.Core.Bool.{false}
 use mathlib.Core.List.{List}
 use lib.ListN.{length}
-use borrow.Author.Tests.{leb-false, ltb-false}
+use borrow.Author.Tests.{ltb-false}
 use Rattle.calls.specs.Numbers.{READERS-MAX, PUBLISHERS-MAX, SLOTS-MAX, TABLE}
 use Rattle.layout.specs.declared.Publisher.{Publisher}
 use Rattle.layout.specs.Layout.{WORDS, readers, publishers, slots, version, readerAt, publisherAt}
@@ -30,7 +30,7 @@ sound K law s f = record {
   readers-high = f .head .readers-high;
   publishers-high = f .head .publishers-high;
   slots-high = f .head .slots-high;
-  picked-below = λ r l e. leb-false _ _ (sym (law .reader-picked (slots (s .words)) (reader s r) e) ∙ f .readers-fine r l);
+  picked-below = λ r l e. law .reader-picked (readers (s .words)) (slots (s .words)) (reader s r) e (f .readers-fine r l);
   held-below = λ p l e. fine-publisher law (readers (s .words)) (slots (s .words)) (publisher s p) (f .publishers-fine p l) .held-below e;
 }
 

@@ -31,7 +31,7 @@ use Rattle.publication_law.specs.Table.{damaged, step}
 use Rattle.publication_law.specs.Calls.{undamaged, undamaged-fine, undamaged-further, damaged-readers, damaged-further, enter-accepted, leave-accepted}
 use Rattle.two_phase_law.specs.Steps.{kind, readerRows, addedTo, miscounted, onward, entered, leaving, watched, lookAt, fixed, rules}
 use Rattle.two_phase_law.specs.Counts.{Counted}
-use Rattle.two_phase_law.specs.Safety.{law}
+use Rattle.two_phase_law.specs.Safety.{picked-rows}
 
 -- How many of the first n readers added to each indicator, as the pass over the readers counts them.
 abbrev pub addedCounts : List ℕ → ℕ → List ℕ
@@ -120,10 +120,10 @@ pub record InSection (ss : ℕ) (x : Reader) : Type 0 where
 
 module _ (ss : ℕ) (x : Reader) where
   pub picked-right : x .place ≡ 5 → x .picked < ss → InSection ss x
-  picked-right e l = record { fits = law .reader-picked ss x e ∙ lt-leb ss (x .picked) l; arrived = omega arith }
+  picked-right e l = record { fits = picked-rows ss x e ∙ lt-leb ss (x .picked) l; arrived = omega arith }
 
   pub picked-wrong : x .place ≡ 5 → ss ≤ x .picked → anyTrue (readerRows ss x) ≡ true
-  picked-wrong e l = law .reader-picked ss x e ∙ le-leb ss (x .picked) l
+  picked-wrong e l = picked-rows ss x e ∙ le-leb ss (x .picked) l
 
   pub not-picked : x .place ≡ 4 → InSection ss x
   not-picked e = record { fits = rw e refl; arrived = omega arith }

@@ -16,6 +16,7 @@ use Rattle.calls.specs.declared.WalkReply.{WalkReply}
 use Rattle.calls.specs.declared.WalkReply.the-variants.{Waiting, Spent, Quiet, Returned}
 use Rattle.calls.specs.Base.{pick, upd}
 use Rattle.calls.specs.Numbers.{READERS-MAX, KIND-OLD}
+use Rattle.calls.specs.Rows.{anyTrue}
 use Rattle.calls.specs.RowLaws.{clash, by-test, neither, or-none, all-false, none-true, count-none, pick-split, AllClear, AllFalse}
 use Rattle.layout.specs.declared.Reader.{Reader}
 use Rattle.layout.specs.Layout.{HEAD, INDICATORS, INDICATORS-AT, readers, publishers, slots, current, version, indicator, readerAt, withReader, withIndicator}
@@ -38,10 +39,14 @@ use Rattle.two_phase_law.specs.Steps.{LAST, versions, kind, readerRows, 
 use Rattle.two_phase_law.specs.Traits.{traits}
 use Rattle.two_phase_law.specs.Counts.{Counted, counted-to, none-added, stays-counted, arrives-counted, leaves-counted, passedAt, Looked, look-mark, look-turn, turn-low, turn-high, looked}
 
+-- At 5 a reader is spoiled by its pick alone.
+pub picked-rows : (ss : ℕ) (x : Reader) → x .place ≡ 5 → anyTrue (readerRows ss x) ≡ leb ss (x .picked)
+picked-rows ss x e = rw e (or-none (leb ss (x .picked)))
+
 abbrev pub law : KindLaw kind
 law = record {
   versions-law = up-to-law LAST;
-  reader-picked = λ ss x e. rw e (or-none (leb ss (x .picked)));
+  reader-picked = λ rs ss x e f. leb-false ss (x .picked) (sym (picked-rows ss x e) ∙ f);
   own = λ rs y. ltb 38 (y .place);
   own-rows = λ rs ss y. refl;
   own-early = λ rs y l. le-ltb 38 (y .place) (omega arith);
@@ -260,7 +265,7 @@ lawful = record {
   Own = OwnOf detector;
   start-own = λ z s f. start-own detector KIND-OLD freshReader z s (start-counted z s);
   fresh-is = refl;
-  fresh-reader-fits = λ ss. refl;
+  fresh-reader-fits = λ rs ss. refl;
   no-further = λ z g s i. counted-to s (i .own .readers-are);
   early-own = early-own detector;
   enter-moves = enter-moves;

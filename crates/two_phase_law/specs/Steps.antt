@@ -35,7 +35,7 @@ abbrev pub kind : Kind
 kind = record {
   number = KIND-OLD;
   versions = versions;
-  readerDamaged = λ slots x. anyTrue (readerRows slots x);
+  readerDamaged = λ readers slots x. anyTrue (readerRows slots x);
   -- a place that the kind does not have
   publisherDamaged = λ readers slots y. ltb 38 (y .place) || anyTrue (publisherRows versions slots y);
 }

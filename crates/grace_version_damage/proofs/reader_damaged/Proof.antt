@@ -4,7 +4,7 @@ use native.Mathlib.Omega.{arith}
 use Prim.Native.Nat.{_≤_}
 use mathlib.Core.Path.{sym, _∙_}
 use Rattle.layout.specs.Layout.{readerAt}
-use Rattle.grace_version_law.specs.Safety.{law}
+use Rattle.grace_version_law.specs.Safety.{picked-rows}
 use Rattle.grace_version_law.specs.Calls.{reader-loaded, reader-rests, reader-beyond}
 use Rattle.grace_version_damage.proofs.reader_damaged.Statement.{statement}
 use Rattle.grace_version_damage.proofs.reader_damaged.Tie as tie
@@ -24,7 +24,7 @@ reader-at-requires : tie.Need-reader-at-requires
 reader-at-requires c κs = search needs
 
 returns : tie.Need-returns
-returns c = rw (c .before .reader-at .ensures) (sym (law .reader-picked (c .before .before .before .before .before .args .slots) (readerAt (c .before .before .before .before .before .args .words .now) (c .before .before .before .before .before .args .r)) (sym (c .before .before .before .reader-place .ensures) ∙ c .before .before .if1 .taken)))
+returns c = rw (c .before .reader-at .ensures) (sym (picked-rows (c .before .before .before .before .before .args .slots) (readerAt (c .before .before .before .before .before .args .words .now) (c .before .before .before .before .before .args .r)) (sym (c .before .before .before .reader-place .ensures) ∙ c .before .before .if1 .taken)))
 
 returns-2 : tie.Need-returns-2
 returns-2 c = sym (reader-beyond (c .before .before .before .before .args .slots) (readerAt (c .before .before .before .before .args .words .now) (c .before .before .before .before .args .r)) (rw (c .before .before .reader-place .ensures) at (c .if2 .taken)))

@@ -15,7 +15,7 @@ use Rattle.grace_version_damage.proofs.readers_damaged.Lts as lts
 use Rattle.grace_version_damage.proofs.reader_damaged.Reads as reader-damaged-reads
 
 abbrev Inv-loop : tie.InvT-loop
-Inv-loop words n slots r₀ r = (r ≤ n) × (anyBelow (λ r. kind .readerDamaged slots (readerAt words r)) r ≡ false)
+Inv-loop words n slots r₀ r = (r ≤ n) × (anyBelow (λ r. kind .readerDamaged n slots (readerAt words r)) r ≡ false)
 
 abbrev μ-loop : tie.MeasureT-loop
 μ-loop words n slots r₀ r = n - r

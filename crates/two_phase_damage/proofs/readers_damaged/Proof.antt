@@ -19,7 +19,7 @@ use Rattle.layout.proofs.reader_at.Reads as reader-at-reads
 use Rattle.layout.proofs.reader_place.Reads as reader-place-reads
 
 abbrev Inv-loop : tie.InvT-loop
-Inv-loop words n slots counts₀ r₀ counts r = (r ≤ n) × (anyBelow (λ r. kind .readerDamaged slots (readerAt words r)) r ≡ false) × (counts ≡ addedCounts words r)
+Inv-loop words n slots counts₀ r₀ counts r = (r ≤ n) × (anyBelow (λ r. kind .readerDamaged n slots (readerAt words r)) r ≡ false) × (counts ≡ addedCounts words r)
 
 abbrev μ-loop : tie.MeasureT-loop
 μ-loop words n slots counts₀ r₀ counts r = n - r
