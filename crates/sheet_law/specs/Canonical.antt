@@ -23,9 +23,9 @@ use Rattle.sheet_law.specs.declared.Command.{Command}
 use Rattle.sheet_law.specs.declared.Command.the-variants.{Make, Run}
 use Rattle.sheet_law.specs.declared.Line.the-variants.{Read}
 use Rattle.sheet_law.specs.Text.{text, SPACE, CLOSE, decimal}
-use Rattle.sheet_law.specs.Reading.{LINE-MAX, NARROW-MAX, PITCH-MAX, PITCH-MIN, first, rest, within, narrow, wide, angle, named, word, kindNamed, oneOf, twoOf, one, two, writing, making, command, lineOf}
+use Rattle.sheet_law.specs.Reading.{LINE-MAX, NARROW-MAX, PITCH-MAX, PITCH-MIN, upToSpace, afterSpace, within, narrow, wide, angle, named, word, kindNamed, oneOf, twoOf, one, two, writing, making, command, lineOf}
 use Rattle.sheet_law.specs.Printing.{withOne, withTwo}
-use Rattle.sheet_law.specs.Decimals.{plain-decimal, decimal-first, decimal-rest, signed, signed-decimal, decimal-length}
+use Rattle.sheet_law.specs.Decimals.{plain-decimal, decimal-up-to-space, decimal-after-space, signed, signed-decimal, decimal-length}
 
 -- The text of a kind and of a pitch.
 abbrev pub kindText : ℕ → List ℕ
@@ -89,7 +89,7 @@ Fits (Make k rs ps ss v) = ((k ≡ KIND-NEW) ⊎ (k ≡ KIND-OLD)) × FitsNarrow
 Fits (Run c) = FitsCall c
 
 -- A bracketed text is read as what stands between the brackets.
-bracketed-read : (w : List ℕ) → length w + 2 ≤ LINE-MAX → lineOf (inBrackets w) ≡ command (word (first w)) (rest w)
+bracketed-read : (w : List ℕ) → length w + 2 ≤ LINE-MAX → lineOf (inBrackets w) ≡ command (word (upToSpace w)) (afterSpace w)
 unfolding lineOf
 bracketed-read w short =
     let l : List ℕ = inBrackets w in
@@ -108,8 +108,8 @@ narrow-back n fits = rw (plain-decimal n, le-ltb NARROW-MAX n (omega arith)) ref
 wide-back : (n : ℕ) → FitsWide n → wide (decimal n) ≡ Fine n
 wide-back n fits = rw (plain-decimal n, le-ltb NUMBER-MAX n (omega arith)) refl
 
-kind-back : (k : ℕ) → (k ≡ KIND-NEW) ⊎ (k ≡ KIND-OLD) → (l : List ℕ) → (kindNamed (first (kindText k ++ (SPACE ∷ l))) ≡ Fine k) × (rest (kindText k ++ (SPACE ∷ l)) ≡ l)
-unfolding first rest kindNamed
+kind-back : (k : ℕ) → (k ≡ KIND-NEW) ⊎ (k ≡ KIND-OLD) → (l : List ℕ) → (kindNamed (upToSpace (kindText k ++ (SPACE ∷ l))) ≡ Fine k) × (afterSpace (kindText k ++ (SPACE ∷ l)) ≡ l)
+unfolding upToSpace afterSpace kindNamed
 kind-back k (inl e) l = rw e (refl, refl)
 kind-back k (inr e) l = rw e (refl, refl)
 
@@ -129,13 +129,13 @@ one-back : (w : Word) (n : ℕ) → FitsNarrow n → one w (decimal n) ≡ oneOf
 one-back w n f = rw (narrow-back n f) refl
 
 two-back : (w : Word) (n m : ℕ) → FitsNarrow n → FitsNarrow m → two w (decimal n ++ (SPACE ∷ decimal m)) ≡ twoOf w n m
-two-back w n m f g = rw (decimal-first n (decimal m), decimal-rest n (decimal m), narrow-back n f, narrow-back m g) refl
+two-back w n m f g = rw (decimal-up-to-space n (decimal m), decimal-after-space n (decimal m), narrow-back n f, narrow-back m g) refl
 
 write-back : (p : ℕ) (v : ℤ) → FitsNarrow p → FitsAngle v → writing (decimal p ++ (SPACE ∷ angleText v)) ≡ Read (Run (call.Write p v))
-write-back p v f g = rw (decimal-first p (angleText v), decimal-rest p (angleText v), narrow-back p f, angle-back v g) refl
+write-back p v f g = rw (decimal-up-to-space p (angleText v), decimal-after-space p (angleText v), narrow-back p f, angle-back v g) refl
 
-call-back : (c : Call) → FitsCall c → command (word (first (callText c))) (rest (callText c)) ≡ Read (Run c)
-unfolding first rest named
+call-back : (c : Call) → FitsCall c → command (word (upToSpace (callText c))) (afterSpace (callText c)) ≡ Read (Run c)
+unfolding upToSpace afterSpace named
 call-back (call.Enter r) f = one-back Enter r f
 call-back (call.Look r k) (f, g) = two-back Look r k f g
 call-back (call.Leave r) f = one-back Leave r f
@@ -156,20 +156,20 @@ store-back k rs ps ss v (fk, fr, fp, fs, fv) =
     rw (
       kind-back k fk a .0,
       kind-back k fk a .1,
-      decimal-first rs b,
-      decimal-rest rs b,
-      decimal-first ps c,
-      decimal-rest ps c,
-      decimal-first ss d,
-      decimal-rest ss d,
+      decimal-up-to-space rs b,
+      decimal-after-space rs b,
+      decimal-up-to-space ps c,
+      decimal-after-space ps c,
+      decimal-up-to-space ss d,
+      decimal-after-space ss d,
       narrow-back rs fr,
       narrow-back ps fp,
       narrow-back ss fs,
       wide-back v fv,
     ) refl
 
-inner-back : (c : Command) → Fits c → command (word (first (innerText c))) (rest (innerText c)) ≡ Read c
-unfolding first rest named
+inner-back : (c : Command) → Fits c → command (word (upToSpace (innerText c))) (afterSpace (innerText c)) ≡ Read c
+unfolding upToSpace afterSpace named
 inner-back (Make k rs ps ss v) f = store-back k rs ps ss v f
 inner-back (Run c) f = call-back c f
 

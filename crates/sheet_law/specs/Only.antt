@@ -23,7 +23,7 @@ use Rattle.sheet_law.specs.declared.Command.the-variants.{Make, Run}
 use Rattle.sheet_law.specs.declared.Line.{Line}
 use Rattle.sheet_law.specs.declared.Line.the-variants.{Read, Unread}
 use Rattle.sheet_law.specs.Text.{text, same, SPACE, OPEN, CLOSE, MINUS, decimal}
-use Rattle.sheet_law.specs.Reading.{LINE-MAX, NARROW-MAX, PITCH-MAX, PITCH-MIN, first, rest, plain, within, narrow, wide, negative, positive, angle, named, word, kindNamed, given, givenAngle, oneOf, twoOf, making, command, bracketed, inner, lineOf}
+use Rattle.sheet_law.specs.Reading.{LINE-MAX, NARROW-MAX, PITCH-MAX, PITCH-MIN, upToSpace, afterSpace, plain, within, narrow, wide, negative, positive, angle, named, word, kindNamed, given, givenAngle, oneOf, twoOf, making, command, bracketed, inner, lineOf}
 use Rattle.sheet_law.specs.Widths.{bad-fine, within-most, within-is}
 use Rattle.sheet_law.specs.Decimals.{plain-decimal, plain-only}
 use Rattle.sheet_law.specs.Canonical.{kindText, angleText, innerText, inBrackets, commandText, FitsNarrow, FitsWide, FitsAngle, Fits, text-length, reads-back}
@@ -74,20 +74,20 @@ module _ (Q : Line → Type 0) (bad : Q Unread) where
       (λ _. positive-only (within PITCH-MAX (plain (b ∷ l))) f (λ n e. let q = within-only PITCH-MAX (b ∷ l) n e in h (pos n) (q .0) (omega arith)))
 
 -- A text with something after its first space is what stands before it, the space, and what stands after it.
-space-or-none : (l : List ℕ) → (rest l ≡ []) ⊎ (first l ++ (SPACE ∷ rest l) ≡ l)
-unfolding first rest
+space-or-none : (l : List ℕ) → (afterSpace l ≡ []) ⊎ (upToSpace l ++ (SPACE ∷ afterSpace l) ≡ l)
+unfolding upToSpace afterSpace
 space-or-none [] = inl refl
 space-or-none (b ∷ l) = go (eqb b SPACE) refl (space-or-none l)
   where
-    go : (x : Bool) → eqb b SPACE ≡ x → (rest l ≡ []) ⊎ (first l ++ (SPACE ∷ rest l) ≡ l) → (rest (b ∷ l) ≡ []) ⊎ (first (b ∷ l) ++ (SPACE ∷ rest (b ∷ l)) ≡ b ∷ l)
+    go : (x : Bool) → eqb b SPACE ≡ x → (afterSpace l ≡ []) ⊎ (upToSpace l ++ (SPACE ∷ afterSpace l) ≡ l) → (afterSpace (b ∷ l) ≡ []) ⊎ (upToSpace (b ∷ l) ++ (SPACE ∷ afterSpace (b ∷ l)) ≡ b ∷ l)
     go true t r = rw t (inr (ap (λ c. c ∷ l) (sym (eqb-true b SPACE t))))
     go false t (inl e) = rw t (inl e)
     go false t (inr e) = rw t (inr (ap (λ k. b ∷ k) e))
 
-rejoined : (a b l : List ℕ) → a ≡ first l → b ≡ rest l → b ≢ [] → a ++ (SPACE ∷ b) ≡ l
+rejoined : (a b l : List ℕ) → a ≡ upToSpace l → b ≡ afterSpace l → b ≢ [] → a ++ (SPACE ∷ b) ≡ l
 rejoined a b l ea eb ne = go (space-or-none l)
   where
-    go : (rest l ≡ []) ⊎ (first l ++ (SPACE ∷ rest l) ≡ l) → a ++ (SPACE ∷ b) ≡ l
+    go : (afterSpace l ≡ []) ⊎ (upToSpace l ++ (SPACE ∷ afterSpace l) ≡ l) → a ++ (SPACE ∷ b) ≡ l
     go (inl z) = absurd (ne (eb ∙ z))
     go (inr z) = rw (ea, eb) z
 
@@ -144,43 +144,43 @@ Inner w (Read c) = (innerText c ≡ w) × Fits c
 
 module _ (w : List ℕ) where
   -- A word with one number behind it, and with two.
-  one-only : (v : List ℕ) → v ≡ first w → (f : ℕ → Line) → ((n : ℕ) → v ++ (SPACE ∷ decimal n) ≡ w → FitsNarrow n → Inner w (f n)) → Inner w (given (narrow (rest w)) f)
-  one-only v e f h = narrow-only (Inner w) tt (rest w) f (λ n d fits. h n (rejoined v (decimal n) w e d (decimal-some n)) fits)
+  one-only : (v : List ℕ) → v ≡ upToSpace w → (f : ℕ → Line) → ((n : ℕ) → v ++ (SPACE ∷ decimal n) ≡ w → FitsNarrow n → Inner w (f n)) → Inner w (given (narrow (afterSpace w)) f)
+  one-only v e f h = narrow-only (Inner w) tt (afterSpace w) f (λ n d fits. h n (rejoined v (decimal n) w e d (decimal-some n)) fits)
 
-  two-only : (v : List ℕ) → v ≡ first w → (f : ℕ → ℕ → Line) → ((n m : ℕ) → v ++ (SPACE ∷ (decimal n ++ (SPACE ∷ decimal m))) ≡ w → FitsNarrow n → FitsNarrow m → Inner w (f n m))
-      → Inner w (given (narrow (first (rest w))) (λ n. given (narrow (rest (rest w))) (f n)))
-  two-only v e f h = narrow-only (Inner w) tt (first (rest w)) _ (λ n en fn. narrow-only (Inner w) tt (rest (rest w)) (f n) (λ m em fm.
-      h n m (rejoined v (decimal n ++ (SPACE ∷ decimal m)) w e (rejoined (decimal n) (decimal m) (rest w) en em (decimal-some m)) (spaced-some (decimal n) (decimal m))) fn fm))
+  two-only : (v : List ℕ) → v ≡ upToSpace w → (f : ℕ → ℕ → Line) → ((n m : ℕ) → v ++ (SPACE ∷ (decimal n ++ (SPACE ∷ decimal m))) ≡ w → FitsNarrow n → FitsNarrow m → Inner w (f n m))
+      → Inner w (given (narrow (upToSpace (afterSpace w))) (λ n. given (narrow (afterSpace (afterSpace w))) (f n)))
+  two-only v e f h = narrow-only (Inner w) tt (upToSpace (afterSpace w)) _ (λ n en fn. narrow-only (Inner w) tt (afterSpace (afterSpace w)) (f n) (λ m em fm.
+      h n m (rejoined v (decimal n ++ (SPACE ∷ decimal m)) w e (rejoined (decimal n) (decimal m) (afterSpace w) en em (decimal-some m)) (spaced-some (decimal n) (decimal m))) fn fm))
 
-  store-text : (k rs ps ss v : ℕ) → text "store" ≡ first w → kindText k ≡ first (rest w) → decimal rs ≡ first (rest (rest w)) → decimal ps ≡ first (rest (rest (rest w)))
-      → decimal ss ≡ first (rest (rest (rest (rest w)))) → decimal v ≡ rest (rest (rest (rest (rest w)))) → innerText (Make k rs ps ss v) ≡ w
+  store-text : (k rs ps ss v : ℕ) → text "store" ≡ upToSpace w → kindText k ≡ upToSpace (afterSpace w) → decimal rs ≡ upToSpace (afterSpace (afterSpace w)) → decimal ps ≡ upToSpace (afterSpace (afterSpace (afterSpace w)))
+      → decimal ss ≡ upToSpace (afterSpace (afterSpace (afterSpace (afterSpace w)))) → decimal v ≡ afterSpace (afterSpace (afterSpace (afterSpace (afterSpace w)))) → innerText (Make k rs ps ss v) ≡ w
   store-text k rs ps ss v e ek er ep es ev =
-      let l : List ℕ = rest w in
+      let l : List ℕ = afterSpace w in
       let c : List ℕ = decimal ss ++ (SPACE ∷ decimal v) in
       let b : List ℕ = decimal ps ++ (SPACE ∷ c) in
       let a : List ℕ = decimal rs ++ (SPACE ∷ b) in
-      let ec = rejoined (decimal ss) (decimal v) (rest (rest (rest l))) es ev (decimal-some v) in
-      let eb = rejoined (decimal ps) c (rest (rest l)) ep ec (spaced-some (decimal ss) (decimal v)) in
-      let ea = rejoined (decimal rs) b (rest l) er eb (spaced-some (decimal ps) c) in
+      let ec = rejoined (decimal ss) (decimal v) (afterSpace (afterSpace (afterSpace l))) es ev (decimal-some v) in
+      let eb = rejoined (decimal ps) c (afterSpace (afterSpace l)) ep ec (spaced-some (decimal ss) (decimal v)) in
+      let ea = rejoined (decimal rs) b (afterSpace l) er eb (spaced-some (decimal ps) c) in
       rejoined (text "store") (kindText k ++ (SPACE ∷ a)) w e (rejoined (kindText k) a l ek ea (spaced-some (decimal rs) b)) (spaced-some (kindText k) a)
 
-  store-only : text "store" ≡ first w → Inner w (making (rest w))
+  store-only : text "store" ≡ upToSpace w → Inner w (making (afterSpace w))
   store-only e =
-      kind-only (Inner w) tt (first (rest w)) _ (λ k ek fk.
-      narrow-only (Inner w) tt (first (rest (rest w))) _ (λ rs er fr.
-      narrow-only (Inner w) tt (first (rest (rest (rest w)))) _ (λ ps ep fp.
-      narrow-only (Inner w) tt (first (rest (rest (rest (rest w))))) _ (λ ss es fs.
-      wide-only (Inner w) tt (rest (rest (rest (rest (rest w))))) (λ v. Read (Make k rs ps ss v)) (λ v ev fv.
+      kind-only (Inner w) tt (upToSpace (afterSpace w)) _ (λ k ek fk.
+      narrow-only (Inner w) tt (upToSpace (afterSpace (afterSpace w))) _ (λ rs er fr.
+      narrow-only (Inner w) tt (upToSpace (afterSpace (afterSpace (afterSpace w)))) _ (λ ps ep fp.
+      narrow-only (Inner w) tt (upToSpace (afterSpace (afterSpace (afterSpace (afterSpace w))))) _ (λ ss es fs.
+      wide-only (Inner w) tt (afterSpace (afterSpace (afterSpace (afterSpace (afterSpace w))))) (λ v. Read (Make k rs ps ss v)) (λ v ev fv.
       (store-text k rs ps ss v e ek er ep es ev, (fk, fr, fp, fs, fv)))))))
 
-  command-only : (x : Word) → Named (first w) x → Inner w (command x (rest w))
+  command-only : (x : Word) → Named (upToSpace w) x → Inner w (command x (afterSpace w))
   command-only Store e = store-only e
   command-only Enter e = one-only _ e (oneOf Enter) (λ n d f. (d, f))
   command-only Look e = two-only _ e (twoOf Look) (λ n m d f g. (d, (f, g)))
   command-only Leave e = one-only _ e (oneOf Leave) (λ n d f. (d, f))
   command-only Claim e = two-only _ e (twoOf Claim) (λ n m d f g. (d, (f, g)))
-  command-only Write e = narrow-only (Inner w) tt (first (rest w)) _ (λ p ep f. angle-only (Inner w) tt (rest (rest w)) (λ v. Read (Run (call.Write p v))) (λ v ev g.
-      (rejoined (text "write") (decimal p ++ (SPACE ∷ angleText v)) w e (rejoined (decimal p) (angleText v) (rest w) ep ev (angle-some v)) (spaced-some (decimal p) (angleText v)), (f, g))))
+  command-only Write e = narrow-only (Inner w) tt (upToSpace (afterSpace w)) _ (λ p ep f. angle-only (Inner w) tt (afterSpace (afterSpace w)) (λ v. Read (Run (call.Write p v))) (λ v ev g.
+      (rejoined (text "write") (decimal p ++ (SPACE ∷ angleText v)) w e (rejoined (decimal p) (angleText v) (afterSpace w) ep ev (angle-some v)) (spaced-some (decimal p) (angleText v)), (f, g))))
   command-only Swap e = one-only _ e (oneOf Swap) (λ n d f. (d, f))
   command-only Sync e = one-only _ e (oneOf Sync) (λ n d f. (d, f))
   command-only Raise e = one-only _ e (oneOf Raise) (λ n d f. (d, f))
@@ -218,8 +218,8 @@ own-inner : (l w : List ℕ) → inBrackets w ≡ l → (x : Line) → Inner w x
 own-inner l w e Unread i = tt
 own-inner l w e (Read c) i = (ap inBrackets (i .0) ∙ e, i .1)
 
-own-bracketed : (l : List ℕ) → bracketed l ≡ true → Own l (command (word (first (inner l))) (rest (inner l)))
-own-bracketed l b = let w : List ℕ = inner l in own-inner l w (in-brackets l b) (command (word (first w)) (rest w)) (command-only w (word (first w)) (word-named (first w)))
+own-bracketed : (l : List ℕ) → bracketed l ≡ true → Own l (command (word (upToSpace (inner l))) (afterSpace (inner l)))
+own-bracketed l b = let w : List ℕ = inner l in own-inner l w (in-brackets l b) (command (word (upToSpace w)) (afterSpace w)) (command-only w (word (upToSpace w)) (word-named (upToSpace w)))
 
 own : (l : List ℕ) → Own l (lineOf l)
 unfolding lineOf

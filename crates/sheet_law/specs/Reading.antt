@@ -35,13 +35,13 @@ abbrev pub PITCH-MIN : ℕ
 PITCH-MIN = 32768
 
 -- One space between: the text before the first space and the text after it; where there is no space, all of it and nothing.
-unfoldable pub first : List ℕ → List ℕ
-first [] = []
-first (b ∷ l) = pick (eqb b SPACE) [] (b ∷ first l)
+unfoldable pub upToSpace : List ℕ → List ℕ
+upToSpace [] = []
+upToSpace (b ∷ l) = pick (eqb b SPACE) [] (b ∷ upToSpace l)
 
-unfoldable pub rest : List ℕ → List ℕ
-rest [] = []
-rest (b ∷ l) = pick (eqb b SPACE) l (rest l)
+unfoldable pub afterSpace : List ℕ → List ℕ
+afterSpace [] = []
+afterSpace (b ∷ l) = pick (eqb b SPACE) l (afterSpace l)
 
 -- Digits, read from the left after those that came to n.
 unfoldable pub digits : ℕ → List ℕ → Number
@@ -153,22 +153,22 @@ abbrev pub one : Word → List ℕ → Line
 one w l = given (narrow l) (oneOf w)
 
 abbrev pub two : Word → List ℕ → Line
-two w l = given (narrow (first l)) (λ n. given (narrow (rest l)) (twoOf w n))
+two w l = given (narrow (upToSpace l)) (λ n. given (narrow (afterSpace l)) (twoOf w n))
 
 -- WRITE p v
 abbrev pub writing : List ℕ → Line
-writing l = given (narrow (first l)) (λ p. givenAngle (angle (rest l)) (λ v. Read (Run (call.Write p v))))
+writing l = given (narrow (upToSpace l)) (λ p. givenAngle (angle (afterSpace l)) (λ v. Read (Run (call.Write p v))))
 
 -- (kind, readers, publishers, slots, first version)
 abbrev pub makingOf : ℕ → ℕ → List ℕ → Line
 makingOf k rs l =
-    given (narrow (first l)) (λ ps.
-    given (narrow (first (rest l))) (λ ss.
-    given (wide (rest (rest l))) (λ v.
+    given (narrow (upToSpace l)) (λ ps.
+    given (narrow (upToSpace (afterSpace l))) (λ ss.
+    given (wide (afterSpace (afterSpace l))) (λ v.
     Read (Make k rs ps ss v))))
 
 abbrev pub making : List ℕ → Line
-making l = given (kindNamed (first l)) (λ k. given (narrow (first (rest l))) (λ rs. makingOf k rs (rest (rest l))))
+making l = given (kindNamed (upToSpace l)) (λ k. given (narrow (upToSpace (afterSpace l))) (λ rs. makingOf k rs (afterSpace (afterSpace l))))
 
 -- A word with its arguments.
 abbrev pub command : Word → List ℕ → Line
@@ -194,4 +194,4 @@ inner l = take (length l - 2) (drop 1 l)
 
 -- A line is a bracketed word with arguments; a misshapen or empty line or one over 80 bytes gives unread.
 unfoldable pub lineOf : List ℕ → Line
-lineOf l = pick (ltb LINE-MAX (length l)) Unread (pick (bracketed l) (command (word (first (inner l))) (rest (inner l))) Unread)
+lineOf l = pick (ltb LINE-MAX (length l)) Unread (pick (bracketed l) (command (word (upToSpace (inner l))) (afterSpace (inner l))) Unread)

@@ -14,7 +14,7 @@ use Rattle.sheet_law.specs.declared.Word.{Word}
 use Rattle.sheet_law.specs.declared.Word.the-variants.{Unknown}
 use Rattle.sheet_law.specs.declared.Line.the-variants.{Unread}
 use Rattle.sheet_law.specs.Text.{text, same, OPEN, CLOSE}
-use Rattle.sheet_law.specs.Reading.{first, rest, kindNamed, Row, named, word, command, inner, LINE-MAX, lineOf}
+use Rattle.sheet_law.specs.Reading.{upToSpace, afterSpace, kindNamed, Row, named, word, command, inner, LINE-MAX, lineOf}
 use Rattle.sheet_law.specs.Reading.Row.{_names_}
 
 -- A row of the table of words names the word, or the rows after it do.
@@ -56,7 +56,7 @@ module _ (l : List ℕ) (short : length l ≤ LINE-MAX) where
     unfolding lineOf
     line-unclosed o h = rw (le-ltb LINE-MAX (length l) short, lt-ltb 1 (length l) (omega arith), eq-eqb (getD l 0 0) OPEN o, ne-eqb (getD l (length l - 1) 0) CLOSE h) refl
 
-    pub line-whole : getD l 0 0 ≡ OPEN → getD l (length l - 1) 0 ≡ CLOSE → lineOf l ≡ command (word (first (inner l))) (rest (inner l))
+    pub line-whole : getD l 0 0 ≡ OPEN → getD l (length l - 1) 0 ≡ CLOSE → lineOf l ≡ command (word (upToSpace (inner l))) (afterSpace (inner l))
     unfolding lineOf
     line-whole o h = rw (le-ltb LINE-MAX (length l) short, lt-ltb 1 (length l) (omega arith), eq-eqb (getD l 0 0) OPEN o, eq-eqb (getD l (length l - 1) 0) CLOSE h) refl
 
