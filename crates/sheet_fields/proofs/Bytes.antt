@@ -16,7 +16,7 @@ use Rattle.calls.specs.Numbers.{PITCH-HALF}
 use Rattle.sheet_law.specs.declared.Number.the-variants.{Fine, Bad}
 use Rattle.sheet_law.specs.declared.Angle.the-variants.{At, Wrong}
 use Rattle.sheet_law.specs.Text.{same, SPACE, MINUS, DIGIT-0, DIGIT-9}
-use Rattle.sheet_law.specs.Reading.{first, rest, digits, plain, within, negative, positive, angle}
+use Rattle.sheet_law.specs.Reading.{upToSpace, afterSpace, digits, plain, within, negative, positive, angle}
 
 at-place : (l : List ℕ) (i : ℕ) → i < length l → drop i l ≡ getD l i 0 ∷ drop (i + 1) l
 at-place l i h = drop-cons l i 0 h ∙ ap (λ (n : ℕ). getD l i 0 ∷ drop n l) (sym (add-one i))
@@ -45,35 +45,35 @@ same-end l k i h g = rw (drop-of-length-le l h, drop-of-length-le k g) refl
 -- The first space.
 module _ (l : List ℕ) (i : ℕ) where
   module _ (h : i < length l) where
-    pub first-here : getD l i 0 ≡ SPACE → first (drop i l) ≡ []
-    unfolding first
-    first-here e = rw (at-place l i h, eq-eqb (getD l i 0) SPACE e) refl
+    pub up-to-space-here : getD l i 0 ≡ SPACE → upToSpace (drop i l) ≡ []
+    unfolding upToSpace
+    up-to-space-here e = rw (at-place l i h, eq-eqb (getD l i 0) SPACE e) refl
 
-    pub rest-here : getD l i 0 ≡ SPACE → rest (drop i l) ≡ drop (i + 1) l
-    unfolding rest
-    rest-here e = rw (at-place l i h, eq-eqb (getD l i 0) SPACE e) refl
+    pub after-space-here : getD l i 0 ≡ SPACE → afterSpace (drop i l) ≡ drop (i + 1) l
+    unfolding afterSpace
+    after-space-here e = rw (at-place l i h, eq-eqb (getD l i 0) SPACE e) refl
 
-    first-more : (getD l i 0 ≡ SPACE → ⊥) → first (drop i l) ≡ getD l i 0 ∷ first (drop (i + 1) l)
-    unfolding first
-    first-more e = rw (at-place l i h, ne-eqb (getD l i 0) SPACE e) refl
+    up-to-space-more : (getD l i 0 ≡ SPACE → ⊥) → upToSpace (drop i l) ≡ getD l i 0 ∷ upToSpace (drop (i + 1) l)
+    unfolding upToSpace
+    up-to-space-more e = rw (at-place l i h, ne-eqb (getD l i 0) SPACE e) refl
 
-    pub first-next : (getD l i 0 ≡ SPACE → ⊥) → take i l ++ first (drop i l) ≡ take (i + 1) l ++ first (drop (i + 1) l)
-    first-next e =
-        ap (λ (k : List ℕ). take i l ++ k) (first-more e)
-        ∙ sym (append-snoc (take i l) (getD l i 0) (first (drop (i + 1) l)))
-        ∙ ap (λ (k : List ℕ). k ++ first (drop (i + 1) l)) (sym (ap (λ (n : ℕ). take n l) (add-one i) ∙ take-suc l i 0 h))
+    pub up-to-space-next : (getD l i 0 ≡ SPACE → ⊥) → take i l ++ upToSpace (drop i l) ≡ take (i + 1) l ++ upToSpace (drop (i + 1) l)
+    up-to-space-next e =
+        ap (λ (k : List ℕ). take i l ++ k) (up-to-space-more e)
+        ∙ sym (append-snoc (take i l) (getD l i 0) (upToSpace (drop (i + 1) l)))
+        ∙ ap (λ (k : List ℕ). k ++ upToSpace (drop (i + 1) l)) (sym (ap (λ (n : ℕ). take n l) (add-one i) ∙ take-suc l i 0 h))
 
-    pub rest-next : (getD l i 0 ≡ SPACE → ⊥) → rest (drop i l) ≡ rest (drop (i + 1) l)
-    unfolding rest
-    rest-next e = rw (at-place l i h, ne-eqb (getD l i 0) SPACE e) refl
+    pub after-space-next : (getD l i 0 ≡ SPACE → ⊥) → afterSpace (drop i l) ≡ afterSpace (drop (i + 1) l)
+    unfolding afterSpace
+    after-space-next e = rw (at-place l i h, ne-eqb (getD l i 0) SPACE e) refl
 
-  pub first-end : length l ≤ i → first (drop i l) ≡ []
-  unfolding first
-  first-end h = rw (drop-of-length-le l h) refl
+  pub up-to-space-end : length l ≤ i → upToSpace (drop i l) ≡ []
+  unfolding upToSpace
+  up-to-space-end h = rw (drop-of-length-le l h) refl
 
-  pub rest-end : length l ≤ i → rest (drop i l) ≡ drop i l
-  unfolding rest
-  rest-end h = rw (drop-of-length-le l h) refl
+  pub after-space-end : length l ≤ i → afterSpace (drop i l) ≡ drop i l
+  unfolding afterSpace
+  after-space-end h = rw (drop-of-length-le l h) refl
 
 -- A number that is too wide stays so, whatever digits come after.
 pub too-wide : (most n : ℕ) (l : List ℕ) → most < n → within most (digits n l) ≡ Bad

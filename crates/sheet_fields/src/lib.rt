@@ -6,7 +6,7 @@ ghost use lib.IntN.{pos, negsuc};
 ghost use lib.ListN.{length, take, drop};
 ghost use Rattle.calls.specs.Numbers.{PITCH-HALF, NUMBER-MAX};
 ghost use Rattle.sheet_law.specs.Text.{same as Text·same};
-ghost use Rattle.sheet_law.specs.Reading.{first, rest, digits as Reading·digits, plain, within, negative as Reading·negative, positive as Reading·positive, angle as Reading·angle};
+ghost use Rattle.sheet_law.specs.Reading.{upToSpace, afterSpace, digits as Reading·digits, plain, within, negative as Reading·negative, positive as Reading·positive, angle as Reading·angle};
 use calls::NUMBER_MAX;
 use calls::PITCH_HALF;
 use calls::Pitch;
@@ -49,7 +49,7 @@ pub struct Parts {
 }
 
 pub fn cut(s: &[u8]) -> Parts
-    ensures { λ r. ⌜ (r .end ≤ length (now (s .entry))) × (r .next ≤ length (now (s .entry))) × (take (r .end) (now (s .entry)) ≡ first (now (s .entry))) × (drop (r .next) (now (s .entry)) ≡ rest (now (s .entry))) ⌝ }
+    ensures { λ r. ⌜ (r .end ≤ length (now (s .entry))) × (r .next ≤ length (now (s .entry))) × (take (r .end) (now (s .entry)) ≡ upToSpace (now (s .entry))) × (drop (r .next) (now (s .entry)) ≡ afterSpace (now (s .entry))) ⌝ }
 {
     let mut i: usize = 0;
     while i < s.len() {

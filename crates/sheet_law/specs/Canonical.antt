@@ -17,15 +17,13 @@ use Rattle.calls.specs.RowLaws.{pick-split}
 use Rattle.calls.specs.Numbers.{PITCH-BITS, PITCH-HALF, NUMBER-MAX, KIND-NEW, KIND-OLD}
 use Rattle.sheet_law.specs.declared.Number.the-variants.{Fine}
 use Rattle.sheet_law.specs.declared.Angle.the-variants.{At}
-use Rattle.sheet_law.specs.declared.Word.{Word}
-use Rattle.sheet_law.specs.declared.Word.the-variants.{Enter, Look, Leave, Claim, Write, Swap, Sync, Raise, Walk, Release}
 use Rattle.sheet_law.specs.declared.Command.{Command}
 use Rattle.sheet_law.specs.declared.Command.the-variants.{Make, Run}
 use Rattle.sheet_law.specs.declared.Line.the-variants.{Read}
 use Rattle.sheet_law.specs.Text.{text, SPACE, CLOSE, decimal}
-use Rattle.sheet_law.specs.Reading.{LINE-MAX, NARROW-MAX, first, rest, within, narrow, wide, angle, named, word, kindNamed, oneOf, twoOf, one, two, writing, making, command, lineOf}
+use Rattle.sheet_law.specs.Reading.{LINE-MAX, NARROW-MAX, upToSpace, afterSpace, within, narrow, wide, angle, named, word, kindNamed, one, two, pitched, making, command, lineOf}
 use Rattle.sheet_law.specs.Printing.{withOne, withTwo}
-use Rattle.sheet_law.specs.Decimals.{plain-decimal, decimal-first, decimal-rest, signed, signed-decimal, decimal-length}
+use Rattle.sheet_law.specs.Decimals.{plain-decimal, decimal-up-to-space, decimal-after-space, signed, signed-decimal, decimal-length}
 
 -- The text of a kind and of a pitch.
 abbrev pub kindText : ℕ → List ℕ
@@ -89,7 +87,7 @@ Fits (Make k rs ps ss v) = ((k ≡ KIND-NEW) ⊎ (k ≡ KIND-OLD)) × FitsNarrow
 Fits (Run c) = FitsCall c
 
 -- A bracketed text is read as what stands between the brackets.
-bracketed-read : (w : List ℕ) → length w + 2 ≤ LINE-MAX → lineOf (inBrackets w) ≡ command (word (first w)) (rest w)
+bracketed-read : (w : List ℕ) → length w + 2 ≤ LINE-MAX → lineOf (inBrackets w) ≡ command (word (upToSpace w)) (afterSpace w)
 unfolding lineOf
 bracketed-read w short =
     let l : List ℕ = inBrackets w in
@@ -108,8 +106,8 @@ narrow-back n fits = rw (plain-decimal n, le-ltb NARROW-MAX n (omega arith)) ref
 wide-back : (n : ℕ) → FitsWide n → wide (decimal n) ≡ Fine n
 wide-back n fits = rw (plain-decimal n, le-ltb NUMBER-MAX n (omega arith)) refl
 
-kind-back : (k : ℕ) → (k ≡ KIND-NEW) ⊎ (k ≡ KIND-OLD) → (l : List ℕ) → (kindNamed (first (kindText k ++ (SPACE ∷ l))) ≡ Fine k) × (rest (kindText k ++ (SPACE ∷ l)) ≡ l)
-unfolding first rest kindNamed
+kind-back : (k : ℕ) → (k ≡ KIND-NEW) ⊎ (k ≡ KIND-OLD) → (l : List ℕ) → (kindNamed (upToSpace (kindText k ++ (SPACE ∷ l))) ≡ Fine k) × (afterSpace (kindText k ++ (SPACE ∷ l)) ≡ l)
+unfolding upToSpace afterSpace named
 kind-back k (inl e) l = rw e (refl, refl)
 kind-back k (inr e) l = rw e (refl, refl)
 
@@ -125,27 +123,27 @@ angle-back (pos n) fits = angle-signed (decimal n) ∙ (signed-decimal (within P
 angle-back (negsuc n) fits = rw (plain-decimal (suc n), le-ltb PITCH-HALF (suc n) (omega arith)) refl
 
 -- What stands between the brackets is read back.
-one-back : (w : Word) (n : ℕ) → FitsNarrow n → one w (decimal n) ≡ oneOf w n
-one-back w n f = rw (narrow-back n f) refl
+one-back : (build : ℕ → Call) (n : ℕ) → FitsNarrow n → one (decimal n) build ≡ Read (Run (build n))
+one-back build n f = rw (narrow-back n f) refl
 
-two-back : (w : Word) (n m : ℕ) → FitsNarrow n → FitsNarrow m → two w (decimal n ++ (SPACE ∷ decimal m)) ≡ twoOf w n m
-two-back w n m f g = rw (decimal-first n (decimal m), decimal-rest n (decimal m), narrow-back n f, narrow-back m g) refl
+two-back : (build : ℕ → ℕ → Call) (n m : ℕ) → FitsNarrow n → FitsNarrow m → two (decimal n ++ (SPACE ∷ decimal m)) build ≡ Read (Run (build n m))
+two-back build n m f g = rw (decimal-up-to-space n (decimal m), decimal-after-space n (decimal m), narrow-back n f, narrow-back m g) refl
 
-write-back : (p : ℕ) (v : ℤ) → FitsNarrow p → FitsAngle v → writing (decimal p ++ (SPACE ∷ angleText v)) ≡ Read (Run (call.Write p v))
-write-back p v f g = rw (decimal-first p (angleText v), decimal-rest p (angleText v), narrow-back p f, angle-back v g) refl
+pitched-back : (build : ℕ → ℤ → Call) (n : ℕ) (v : ℤ) → FitsNarrow n → FitsAngle v → pitched (decimal n ++ (SPACE ∷ angleText v)) build ≡ Read (Run (build n v))
+pitched-back build n v f g = rw (decimal-up-to-space n (angleText v), decimal-after-space n (angleText v), narrow-back n f, angle-back v g) refl
 
-call-back : (c : Call) → FitsCall c → command (word (first (callText c))) (rest (callText c)) ≡ Read (Run c)
-unfolding first rest named
-call-back (call.Enter r) f = one-back Enter r f
-call-back (call.Look r k) (f, g) = two-back Look r k f g
-call-back (call.Leave r) f = one-back Leave r f
-call-back (call.Claim p s) (f, g) = two-back Claim p s f g
-call-back (call.Write p v) (f, g) = write-back p v f g
-call-back (call.Swap p) f = one-back Swap p f
-call-back (call.Sync p) f = one-back Sync p f
-call-back (call.Raise p) f = one-back Raise p f
-call-back (call.Walk p b) (f, g) = two-back Walk p b f g
-call-back (call.Release p) f = one-back Release p f
+call-back : (c : Call) → FitsCall c → command (word (upToSpace (callText c))) (afterSpace (callText c)) ≡ Read (Run c)
+unfolding upToSpace afterSpace named
+call-back (call.Enter r) f = one-back call.Enter r f
+call-back (call.Look r k) (f, g) = two-back call.Look r k f g
+call-back (call.Leave r) f = one-back call.Leave r f
+call-back (call.Claim p s) (f, g) = two-back call.Claim p s f g
+call-back (call.Write p v) (f, g) = pitched-back call.Write p v f g
+call-back (call.Swap p) f = one-back call.Swap p f
+call-back (call.Sync p) f = one-back call.Sync p f
+call-back (call.Raise p) f = one-back call.Raise p f
+call-back (call.Walk p b) (f, g) = two-back call.Walk p b f g
+call-back (call.Release p) f = one-back call.Release p f
 
 store-back : (k rs ps ss v : ℕ) → Fits (Make k rs ps ss v) → making (storeText k rs ps ss v) ≡ Read (Make k rs ps ss v)
 store-back k rs ps ss v (fk, fr, fp, fs, fv) =
@@ -156,20 +154,20 @@ store-back k rs ps ss v (fk, fr, fp, fs, fv) =
     rw (
       kind-back k fk a .0,
       kind-back k fk a .1,
-      decimal-first rs b,
-      decimal-rest rs b,
-      decimal-first ps c,
-      decimal-rest ps c,
-      decimal-first ss d,
-      decimal-rest ss d,
+      decimal-up-to-space rs b,
+      decimal-after-space rs b,
+      decimal-up-to-space ps c,
+      decimal-after-space ps c,
+      decimal-up-to-space ss d,
+      decimal-after-space ss d,
       narrow-back rs fr,
       narrow-back ps fp,
       narrow-back ss fs,
       wide-back v fv,
     ) refl
 
-inner-back : (c : Command) → Fits c → command (word (first (innerText c))) (rest (innerText c)) ≡ Read c
-unfolding first rest named
+inner-back : (c : Command) → Fits c → command (word (upToSpace (innerText c))) (afterSpace (innerText c)) ≡ Read c
+unfolding upToSpace afterSpace named
 inner-back (Make k rs ps ss v) f = store-back k rs ps ss v f
 inner-back (Run c) f = call-back c f
 

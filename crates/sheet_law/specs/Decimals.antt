@@ -16,7 +16,7 @@ use Rattle.sheet_law.specs.declared.Number.the-variants.{Fine}
 use Rattle.sheet_law.specs.declared.Angle.{Angle}
 use Rattle.sheet_law.specs.declared.Angle.the-variants.{Wrong}
 use Rattle.sheet_law.specs.Text.{SPACE, MINUS, DIGIT-0, DIGIT-9, lastDigit, digitsBefore, decimal}
-use Rattle.sheet_law.specs.Reading.{first, rest, digits, plain, negative, positive}
+use Rattle.sheet_law.specs.Reading.{upToSpace, afterSpace, digits, plain, negative, positive}
 use Rattle.sheet_law.specs.Widths.{fine-same, bad-fine}
 
 -- A number below ten is its digit; the digits of another are those of its tenth before its last digit.
@@ -103,21 +103,21 @@ unfolding decimal
 all-digits n = all-before (suc n) n [] tt
 
 -- No space is a digit.
-first-digits : (k : List ℕ) → AllDigits k → (l : List ℕ) → first (k ++ (SPACE ∷ l)) ≡ k
-unfolding first
-first-digits [] a l = refl
-first-digits (b ∷ k) a l = rw (ne-eqb b SPACE (λ z. omega arith)) (ap (λ x. b ∷ x) (first-digits k (a .1) l))
+up-to-space-digits : (k : List ℕ) → AllDigits k → (l : List ℕ) → upToSpace (k ++ (SPACE ∷ l)) ≡ k
+unfolding upToSpace
+up-to-space-digits [] a l = refl
+up-to-space-digits (b ∷ k) a l = rw (ne-eqb b SPACE (λ z. omega arith)) (ap (λ x. b ∷ x) (up-to-space-digits k (a .1) l))
 
-rest-digits : (k : List ℕ) → AllDigits k → (l : List ℕ) → rest (k ++ (SPACE ∷ l)) ≡ l
-unfolding rest
-rest-digits [] a l = refl
-rest-digits (b ∷ k) a l = rw (ne-eqb b SPACE (λ z. omega arith)) (rest-digits k (a .1) l)
+after-space-digits : (k : List ℕ) → AllDigits k → (l : List ℕ) → afterSpace (k ++ (SPACE ∷ l)) ≡ l
+unfolding afterSpace
+after-space-digits [] a l = refl
+after-space-digits (b ∷ k) a l = rw (ne-eqb b SPACE (λ z. omega arith)) (after-space-digits k (a .1) l)
 
-pub decimal-first : (n : ℕ) (l : List ℕ) → first (decimal n ++ (SPACE ∷ l)) ≡ decimal n
-decimal-first n = first-digits (decimal n) (all-digits n)
+pub decimal-up-to-space : (n : ℕ) (l : List ℕ) → upToSpace (decimal n ++ (SPACE ∷ l)) ≡ decimal n
+decimal-up-to-space n = up-to-space-digits (decimal n) (all-digits n)
 
-pub decimal-rest : (n : ℕ) (l : List ℕ) → rest (decimal n ++ (SPACE ∷ l)) ≡ l
-decimal-rest n = rest-digits (decimal n) (all-digits n)
+pub decimal-after-space : (n : ℕ) (l : List ℕ) → afterSpace (decimal n ++ (SPACE ∷ l)) ≡ l
+decimal-after-space n = after-space-digits (decimal n) (all-digits n)
 
 -- A decimal that may have a minus before it, read with a test of either; no digit is a minus.
 abbrev pub signed : (Number → Number) → (Number → Number) → List ℕ → Angle

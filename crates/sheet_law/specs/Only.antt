@@ -11,19 +11,21 @@ use lib.IntN.{ℤ, pos, negsuc}
 use lib.ListN.{length, getD, take}
 use lib.Seq.{take-suc, take-length}
 use borrow.Author.Tests.{ltb-true, eqb-true}
+use Rattle.calls.specs.declared.Call.{Call}
 use Rattle.calls.specs.declared.Call.the-variants as call
 use Rattle.calls.specs.RowLaws.{pick-split, and-true, clash}
 use Rattle.calls.specs.Numbers.{PITCH-HALF, NUMBER-MAX, KIND-NEW, KIND-OLD}
 use Rattle.sheet_law.specs.declared.Number.{Number}
 use Rattle.sheet_law.specs.declared.Number.the-variants.{Fine, Bad}
 use Rattle.sheet_law.specs.declared.Word.{Word}
-use Rattle.sheet_law.specs.declared.Word.the-variants.{Store, Enter, Look, Leave, Claim, Write, Swap, Sync, Raise, Walk, Release, Unknown}
+use Rattle.sheet_law.specs.declared.Word.the-variants.{Unknown}
 use Rattle.sheet_law.specs.declared.Command.{Command}
 use Rattle.sheet_law.specs.declared.Command.the-variants.{Make, Run}
 use Rattle.sheet_law.specs.declared.Line.{Line}
 use Rattle.sheet_law.specs.declared.Line.the-variants.{Read, Unread}
 use Rattle.sheet_law.specs.Text.{text, same, SPACE, OPEN, CLOSE, MINUS, decimal}
-use Rattle.sheet_law.specs.Reading.{LINE-MAX, NARROW-MAX, first, rest, plain, within, narrow, wide, negative, positive, angle, named, word, kindNamed, given, givenAngle, oneOf, twoOf, making, command, bracketed, inner, lineOf}
+use Rattle.sheet_law.specs.Reading.{LINE-MAX, NARROW-MAX, upToSpace, afterSpace, plain, within, narrow, wide, negative, positive, angle, Row, named, words, word, kinds, kindNamed, given, givenAngle, one, two, pitched, making, command, bracketed, inner, lineOf}
+use Rattle.sheet_law.specs.Reading.Row.{_names_}
 use Rattle.sheet_law.specs.Widths.{bad-fine, within-most, within-is}
 use Rattle.sheet_law.specs.Decimals.{plain-decimal, plain-only}
 use Rattle.sheet_law.specs.Canonical.{kindText, angleText, innerText, inBrackets, commandText, FitsNarrow, FitsWide, FitsAngle, Fits, text-length, reads-back}
@@ -34,6 +36,20 @@ same-only [] [] e = refl
 same-only [] (b ∷ k) e = clash (sym e)
 same-only (a ∷ l) [] e = clash (sym e)
 same-only (a ∷ l) (b ∷ k) e = let q = and-true (eqb a b) (same l k) e in ap₂ _∷_ (eqb-true a b (q .0)) (same-only l k (q .1))
+
+-- To show something of what a text names, it is shown for each row whose text it is, and for none.
+abbrev pub EachRow : {A : Type 0} → (A → Type 0) → A → List ℕ → List (Row A) → Type 0
+EachRow Q none w [] = Q none
+EachRow Q none w ((t names x) ∷ rows) = (text t ≡ w → Q x) × EachRow Q none w rows
+
+infixr 10 _else_
+pub _else_ : {A B : Type 0} → A → B → A × B
+a else b = (a, b)
+
+pub named-only : {A : Type 0} (Q : A → Type 0) (none : A) (w : List ℕ) (rows : List (Row A)) → EachRow Q none w rows → Q (named rows none w)
+unfolding named
+named-only Q none w [] h = h
+named-only Q none w ((t names x) ∷ rows) h = pick-split Q (same w (text t)) (λ e. h .0 (sym (same-only w (text t) e))) (λ _. named-only Q none w rows (h .1))
 
 -- What a number that is read tells of its text.
 within-only : (most : ℕ) (l : List ℕ) (n : ℕ) → within most (plain l) ≡ Fine n → (decimal n ≡ l) × (n ≤ most)
@@ -52,10 +68,7 @@ module _ (Q : Line → Type 0) (bad : Q Unread) where
   wide-only l f h = given-only (wide l) f (λ n e. let q = within-only NUMBER-MAX l n e in h n (q .0) (omega arith))
 
   kind-only : (l : List ℕ) (f : ℕ → Line) → ((k : ℕ) → kindText k ≡ l → (k ≡ KIND-NEW) ⊎ (k ≡ KIND-OLD) → Q (f k)) → Q (given (kindNamed l) f)
-  unfolding kindNamed
-  kind-only l f h = pick-split (λ x. Q (given x f)) (same l (text "new"))
-      (λ e. h KIND-NEW (sym (same-only l (text "new") e)) (inl refl))
-      (λ _. pick-split (λ x. Q (given x f)) (same l (text "old")) (λ e. h KIND-OLD (sym (same-only l (text "old") e)) (inr refl)) (λ _. bad))
+  kind-only l f h = named-only (λ x. Q (given x f)) Bad l kinds ((λ e. h KIND-NEW e (inl refl)) else (λ e. h KIND-OLD e (inr refl)) else bad)
 
   negative-only : (x : Number) (f : ℤ → Line) → ((n : ℕ) → x ≡ Fine (suc n) → Q (f (negsuc n))) → Q (givenAngle (negative x) f)
   negative-only Bad f h = bad
@@ -74,20 +87,20 @@ module _ (Q : Line → Type 0) (bad : Q Unread) where
       (λ _. positive-only (within (PITCH-HALF - 1) (plain (b ∷ l))) f (λ n e. let q = within-only (PITCH-HALF - 1) (b ∷ l) n e in h (pos n) (q .0) (omega arith)))
 
 -- A text with something after its first space is what stands before it, the space, and what stands after it.
-space-or-none : (l : List ℕ) → (rest l ≡ []) ⊎ (first l ++ (SPACE ∷ rest l) ≡ l)
-unfolding first rest
+space-or-none : (l : List ℕ) → (afterSpace l ≡ []) ⊎ (upToSpace l ++ (SPACE ∷ afterSpace l) ≡ l)
+unfolding upToSpace afterSpace
 space-or-none [] = inl refl
 space-or-none (b ∷ l) = go (eqb b SPACE) refl (space-or-none l)
   where
-    go : (x : Bool) → eqb b SPACE ≡ x → (rest l ≡ []) ⊎ (first l ++ (SPACE ∷ rest l) ≡ l) → (rest (b ∷ l) ≡ []) ⊎ (first (b ∷ l) ++ (SPACE ∷ rest (b ∷ l)) ≡ b ∷ l)
+    go : (x : Bool) → eqb b SPACE ≡ x → (afterSpace l ≡ []) ⊎ (upToSpace l ++ (SPACE ∷ afterSpace l) ≡ l) → (afterSpace (b ∷ l) ≡ []) ⊎ (upToSpace (b ∷ l) ++ (SPACE ∷ afterSpace (b ∷ l)) ≡ b ∷ l)
     go true t r = rw t (inr (ap (λ c. c ∷ l) (sym (eqb-true b SPACE t))))
     go false t (inl e) = rw t (inl e)
     go false t (inr e) = rw t (inr (ap (λ k. b ∷ k) e))
 
-rejoined : (a b l : List ℕ) → a ≡ first l → b ≡ rest l → b ≢ [] → a ++ (SPACE ∷ b) ≡ l
+rejoined : (a b l : List ℕ) → a ≡ upToSpace l → b ≡ afterSpace l → b ≢ [] → a ++ (SPACE ∷ b) ≡ l
 rejoined a b l ea eb ne = go (space-or-none l)
   where
-    go : (rest l ≡ []) ⊎ (first l ++ (SPACE ∷ rest l) ≡ l) → a ++ (SPACE ∷ b) ≡ l
+    go : (afterSpace l ≡ []) ⊎ (upToSpace l ++ (SPACE ∷ afterSpace l) ≡ l) → a ++ (SPACE ∷ b) ≡ l
     go (inl z) = absurd (ne (eb ∙ z))
     go (inr z) = rw (ea, eb) z
 
@@ -107,86 +120,61 @@ angle-some : (v : ℤ) → angleText v ≢ []
 angle-some (pos n) = decimal-some n
 angle-some (negsuc n) = cons-some MINUS (decimal (suc n))
 
--- The words.
-abbrev Named : List ℕ → Word → Type 0
-Named w Store = text "store" ≡ w
-Named w Enter = text "enter" ≡ w
-Named w Look = text "look" ≡ w
-Named w Leave = text "leave" ≡ w
-Named w Claim = text "claim" ≡ w
-Named w Write = text "write" ≡ w
-Named w Swap = text "swap" ≡ w
-Named w Sync = text "sync" ≡ w
-Named w Raise = text "raise" ≡ w
-Named w Walk = text "walk" ≡ w
-Named w Release = text "release" ≡ w
-Named w Unknown = Unit {0}
-
-word-named : (w : List ℕ) → Named w (word w)
-unfolding named
-word-named w =
-    pick-split (Named w) (same w (text "store")) (λ e. sym (same-only w _ e)) (λ _.
-    pick-split (Named w) (same w (text "enter")) (λ e. sym (same-only w _ e)) (λ _.
-    pick-split (Named w) (same w (text "look")) (λ e. sym (same-only w _ e)) (λ _.
-    pick-split (Named w) (same w (text "leave")) (λ e. sym (same-only w _ e)) (λ _.
-    pick-split (Named w) (same w (text "claim")) (λ e. sym (same-only w _ e)) (λ _.
-    pick-split (Named w) (same w (text "write")) (λ e. sym (same-only w _ e)) (λ _.
-    pick-split (Named w) (same w (text "swap")) (λ e. sym (same-only w _ e)) (λ _.
-    pick-split (Named w) (same w (text "sync")) (λ e. sym (same-only w _ e)) (λ _.
-    pick-split (Named w) (same w (text "raise")) (λ e. sym (same-only w _ e)) (λ _.
-    pick-split (Named w) (same w (text "walk")) (λ e. sym (same-only w _ e)) (λ _.
-    pick-split (Named w) (same w (text "release")) (λ e. sym (same-only w _ e)) (λ _. tt)))))))))))
-
 -- Between the brackets: unread, or the command's own text.
 abbrev Inner : List ℕ → Line → Type 0
 Inner w Unread = Unit {0}
 Inner w (Read c) = (innerText c ≡ w) × Fits c
 
 module _ (w : List ℕ) where
-  -- A word with one number behind it, and with two.
-  one-only : (v : List ℕ) → v ≡ first w → (f : ℕ → Line) → ((n : ℕ) → v ++ (SPACE ∷ decimal n) ≡ w → FitsNarrow n → Inner w (f n)) → Inner w (given (narrow (rest w)) f)
-  one-only v e f h = narrow-only (Inner w) tt (rest w) f (λ n d fits. h n (rejoined v (decimal n) w e d (decimal-some n)) fits)
+  -- A word with one number behind it, with two, and with a number and a pitch.
+  one-only : (v : List ℕ) → v ≡ upToSpace w → (build : ℕ → Call) → ((n : ℕ) → v ++ (SPACE ∷ decimal n) ≡ w → FitsNarrow n → Inner w (Read (Run (build n)))) → Inner w (one (afterSpace w) build)
+  one-only v e build h = narrow-only (Inner w) tt (afterSpace w) _ (λ n d fits. h n (rejoined v (decimal n) w e d (decimal-some n)) fits)
 
-  two-only : (v : List ℕ) → v ≡ first w → (f : ℕ → ℕ → Line) → ((n m : ℕ) → v ++ (SPACE ∷ (decimal n ++ (SPACE ∷ decimal m))) ≡ w → FitsNarrow n → FitsNarrow m → Inner w (f n m))
-      → Inner w (given (narrow (first (rest w))) (λ n. given (narrow (rest (rest w))) (f n)))
-  two-only v e f h = narrow-only (Inner w) tt (first (rest w)) _ (λ n en fn. narrow-only (Inner w) tt (rest (rest w)) (f n) (λ m em fm.
-      h n m (rejoined v (decimal n ++ (SPACE ∷ decimal m)) w e (rejoined (decimal n) (decimal m) (rest w) en em (decimal-some m)) (spaced-some (decimal n) (decimal m))) fn fm))
+  two-only : (v : List ℕ) → v ≡ upToSpace w → (build : ℕ → ℕ → Call)
+      → ((n m : ℕ) → v ++ (SPACE ∷ (decimal n ++ (SPACE ∷ decimal m))) ≡ w → FitsNarrow n → FitsNarrow m → Inner w (Read (Run (build n m)))) → Inner w (two (afterSpace w) build)
+  two-only v e build h = narrow-only (Inner w) tt (upToSpace (afterSpace w)) _ (λ n en fn. narrow-only (Inner w) tt (afterSpace (afterSpace w)) _ (λ m em fm.
+      h n m (rejoined v (decimal n ++ (SPACE ∷ decimal m)) w e (rejoined (decimal n) (decimal m) (afterSpace w) en em (decimal-some m)) (spaced-some (decimal n) (decimal m))) fn fm))
 
-  store-text : (k rs ps ss v : ℕ) → text "store" ≡ first w → kindText k ≡ first (rest w) → decimal rs ≡ first (rest (rest w)) → decimal ps ≡ first (rest (rest (rest w)))
-      → decimal ss ≡ first (rest (rest (rest (rest w)))) → decimal v ≡ rest (rest (rest (rest (rest w)))) → innerText (Make k rs ps ss v) ≡ w
+  pitched-only : (v : List ℕ) → v ≡ upToSpace w → (build : ℕ → ℤ → Call)
+      → ((n : ℕ) (a : ℤ) → v ++ (SPACE ∷ (decimal n ++ (SPACE ∷ angleText a))) ≡ w → FitsNarrow n → FitsAngle a → Inner w (Read (Run (build n a)))) → Inner w (pitched (afterSpace w) build)
+  pitched-only v e build h = narrow-only (Inner w) tt (upToSpace (afterSpace w)) _ (λ n en fn. angle-only (Inner w) tt (afterSpace (afterSpace w)) _ (λ a ea fa.
+      h n a (rejoined v (decimal n ++ (SPACE ∷ angleText a)) w e (rejoined (decimal n) (angleText a) (afterSpace w) en ea (angle-some a)) (spaced-some (decimal n) (angleText a))) fn fa))
+
+  store-text : (k rs ps ss v : ℕ) → text "store" ≡ upToSpace w → kindText k ≡ upToSpace (afterSpace w) → decimal rs ≡ upToSpace (afterSpace (afterSpace w)) → decimal ps ≡ upToSpace (afterSpace (afterSpace (afterSpace w)))
+      → decimal ss ≡ upToSpace (afterSpace (afterSpace (afterSpace (afterSpace w)))) → decimal v ≡ afterSpace (afterSpace (afterSpace (afterSpace (afterSpace w)))) → innerText (Make k rs ps ss v) ≡ w
   store-text k rs ps ss v e ek er ep es ev =
-      let l : List ℕ = rest w in
+      let l : List ℕ = afterSpace w in
       let c : List ℕ = decimal ss ++ (SPACE ∷ decimal v) in
       let b : List ℕ = decimal ps ++ (SPACE ∷ c) in
       let a : List ℕ = decimal rs ++ (SPACE ∷ b) in
-      let ec = rejoined (decimal ss) (decimal v) (rest (rest (rest l))) es ev (decimal-some v) in
-      let eb = rejoined (decimal ps) c (rest (rest l)) ep ec (spaced-some (decimal ss) (decimal v)) in
-      let ea = rejoined (decimal rs) b (rest l) er eb (spaced-some (decimal ps) c) in
+      let ec = rejoined (decimal ss) (decimal v) (afterSpace (afterSpace (afterSpace l))) es ev (decimal-some v) in
+      let eb = rejoined (decimal ps) c (afterSpace (afterSpace l)) ep ec (spaced-some (decimal ss) (decimal v)) in
+      let ea = rejoined (decimal rs) b (afterSpace l) er eb (spaced-some (decimal ps) c) in
       rejoined (text "store") (kindText k ++ (SPACE ∷ a)) w e (rejoined (kindText k) a l ek ea (spaced-some (decimal rs) b)) (spaced-some (kindText k) a)
 
-  store-only : text "store" ≡ first w → Inner w (making (rest w))
+  store-only : text "store" ≡ upToSpace w → Inner w (making (afterSpace w))
   store-only e =
-      kind-only (Inner w) tt (first (rest w)) _ (λ k ek fk.
-      narrow-only (Inner w) tt (first (rest (rest w))) _ (λ rs er fr.
-      narrow-only (Inner w) tt (first (rest (rest (rest w)))) _ (λ ps ep fp.
-      narrow-only (Inner w) tt (first (rest (rest (rest (rest w))))) _ (λ ss es fs.
-      wide-only (Inner w) tt (rest (rest (rest (rest (rest w))))) (λ v. Read (Make k rs ps ss v)) (λ v ev fv.
+      kind-only (Inner w) tt (upToSpace (afterSpace w)) _ (λ k ek fk.
+      narrow-only (Inner w) tt (upToSpace (afterSpace (afterSpace w))) _ (λ rs er fr.
+      narrow-only (Inner w) tt (upToSpace (afterSpace (afterSpace (afterSpace w)))) _ (λ ps ep fp.
+      narrow-only (Inner w) tt (upToSpace (afterSpace (afterSpace (afterSpace (afterSpace w))))) _ (λ ss es fs.
+      wide-only (Inner w) tt (afterSpace (afterSpace (afterSpace (afterSpace (afterSpace w))))) (λ v. Read (Make k rs ps ss v)) (λ v ev fv.
       (store-text k rs ps ss v e ek er ep es ev, (fk, fr, fp, fs, fv)))))))
 
-  command-only : (x : Word) → Named (first w) x → Inner w (command x (rest w))
-  command-only Store e = store-only e
-  command-only Enter e = one-only _ e (oneOf Enter) (λ n d f. (d, f))
-  command-only Look e = two-only _ e (twoOf Look) (λ n m d f g. (d, (f, g)))
-  command-only Leave e = one-only _ e (oneOf Leave) (λ n d f. (d, f))
-  command-only Claim e = two-only _ e (twoOf Claim) (λ n m d f g. (d, (f, g)))
-  command-only Write e = narrow-only (Inner w) tt (first (rest w)) _ (λ p ep f. angle-only (Inner w) tt (rest (rest w)) (λ v. Read (Run (call.Write p v))) (λ v ev g.
-      (rejoined (text "write") (decimal p ++ (SPACE ∷ angleText v)) w e (rejoined (decimal p) (angleText v) (rest w) ep ev (angle-some v)) (spaced-some (decimal p) (angleText v)), (f, g))))
-  command-only Swap e = one-only _ e (oneOf Swap) (λ n d f. (d, f))
-  command-only Sync e = one-only _ e (oneOf Sync) (λ n d f. (d, f))
-  command-only Raise e = one-only _ e (oneOf Raise) (λ n d f. (d, f))
-  command-only Walk e = two-only _ e (twoOf Walk) (λ n m d f g. (d, (f, g)))
-  command-only Release e = one-only _ e (oneOf Release) (λ n d f. (d, f))
-  command-only Unknown e = tt
+  command-only : Inner w (command (word (upToSpace w)) (afterSpace w))
+  command-only = named-only (λ x. Inner w (command x (afterSpace w))) Unknown (upToSpace w) words
+      (store-only
+      else (λ e. one-only _ e call.Enter (λ n d f. (d, f)))
+      else (λ e. two-only _ e call.Look (λ n m d f g. (d, (f, g))))
+      else (λ e. one-only _ e call.Leave (λ n d f. (d, f)))
+      else (λ e. two-only _ e call.Claim (λ n m d f g. (d, (f, g))))
+      else (λ e. pitched-only _ e call.Write (λ n v d f g. (d, (f, g))))
+      else (λ e. one-only _ e call.Swap (λ n d f. (d, f)))
+      else (λ e. one-only _ e call.Sync (λ n d f. (d, f)))
+      else (λ e. one-only _ e call.Raise (λ n d f. (d, f)))
+      else (λ e. two-only _ e call.Walk (λ n m d f g. (d, (f, g))))
+      else (λ e. one-only _ e call.Release (λ n d f. (d, f)))
+      else tt)
 
 -- A line in brackets is what stands between them, in brackets.
 in-brackets : (l : List ℕ) → bracketed l ≡ true → inBrackets (inner l) ≡ l
@@ -218,8 +206,8 @@ own-inner : (l w : List ℕ) → inBrackets w ≡ l → (x : Line) → Inner w x
 own-inner l w e Unread i = tt
 own-inner l w e (Read c) i = (ap inBrackets (i .0) ∙ e, i .1)
 
-own-bracketed : (l : List ℕ) → bracketed l ≡ true → Own l (command (word (first (inner l))) (rest (inner l)))
-own-bracketed l b = let w : List ℕ = inner l in own-inner l w (in-brackets l b) (command (word (first w)) (rest w)) (command-only w (word (first w)) (word-named (first w)))
+own-bracketed : (l : List ℕ) → bracketed l ≡ true → Own l (command (word (upToSpace (inner l))) (afterSpace (inner l)))
+own-bracketed l b = let w : List ℕ = inner l in own-inner l w (in-brackets l b) (command (word (upToSpace w)) (afterSpace w)) (command-only w)
 
 own : (l : List ℕ) → Own l (lineOf l)
 unfolding lineOf

@@ -6,6 +6,7 @@ use mathlib.Core.List.{List, [], _∷_}
 use lib.Dec.{eqb, ltb}
 use lib.IntN.{ℤ, pos, negsuc}
 use lib.ListN.{length, getD, take, drop}
+use Rattle.calls.specs.declared.Call.{Call}
 use Rattle.calls.specs.declared.Call.the-variants as call
 use Rattle.calls.specs.Base.{pick}
 use Rattle.calls.specs.Rows.{outside}
@@ -29,13 +30,13 @@ abbrev pub NARROW-MAX : ℕ
 NARROW-MAX = 65535
 
 -- One space between: the text before the first space and the text after it; where there is no space, all of it and nothing.
-unfoldable pub first : List ℕ → List ℕ
-first [] = []
-first (b ∷ l) = pick (eqb b SPACE) [] (b ∷ first l)
+unfoldable pub upToSpace : List ℕ → List ℕ
+upToSpace [] = []
+upToSpace (b ∷ l) = pick (eqb b SPACE) [] (b ∷ upToSpace l)
 
-unfoldable pub rest : List ℕ → List ℕ
-rest [] = []
-rest (b ∷ l) = pick (eqb b SPACE) l (rest l)
+unfoldable pub afterSpace : List ℕ → List ℕ
+afterSpace [] = []
+afterSpace (b ∷ l) = pick (eqb b SPACE) l (afterSpace l)
 
 -- Digits, read from the left after those that came to n.
 unfoldable pub digits : ℕ → List ℕ → Number
@@ -73,12 +74,17 @@ unfoldable pub angle : List ℕ → Angle
 angle [] = Wrong
 angle (b ∷ l) = pick (eqb b MINUS) (negative (within PITCH-HALF (plain l))) (positive (within (PITCH-HALF - 1) (plain (b ∷ l))))
 
--- Words are the calls in small letters and `store`.
+-- Words with what they name. A text names what the first row with that text does; `none` if there is no such row.
 infix 70 _names_
-pub data Row : Type 0 where
-  _names_ : String → Word → Row
+pub data Row (A : Type 0) : Type 0 where
+  _names_ : String → A → Row A
 
-abbrev pub words : List Row
+unfoldable pub named : {A : Type 0} → List (Row A) → A → List ℕ → A
+named [] none w = none
+named ((t names x) ∷ rows) none w = pick (same w (text t)) x (named rows none w)
+
+-- Words are the calls in small letters and `store`.
+abbrev pub words : List (Row Word)
 words =
     "store" names Store
     ∷ "enter" names Enter
@@ -93,16 +99,18 @@ words =
     ∷ "release" names Release
     ∷ []
 
-unfoldable pub named : List Row → List ℕ → Word
-named [] w = Unknown
-named ((t names x) ∷ rows) w = pick (same w (text t)) x (named rows w)
-
 abbrev pub word : List ℕ → Word
-word w = named words w
+word w = named words Unknown w
 
 -- `store`, whose kind is `new` or `old`.
-unfoldable pub kindNamed : List ℕ → Number
-kindNamed w = pick (same w (text "new")) (Fine KIND-NEW) (pick (same w (text "old")) (Fine KIND-OLD) Bad)
+abbrev pub kinds : List (Row Number)
+kinds =
+    "new" names Fine KIND-NEW
+    ∷ "old" names Fine KIND-OLD
+    ∷ []
+
+abbrev pub kindNamed : List ℕ → Number
+kindNamed w = named kinds Bad w
 
 -- A line with an argument that is not read is unread.
 abbrev pub given : Number → (ℕ → Line) → Line
@@ -113,70 +121,40 @@ abbrev pub givenAngle : Angle → (ℤ → Line) → Line
 givenAngle Wrong f = Unread
 givenAngle (At v) f = f v
 
--- The calls with one argument: a reader or a publisher.
-abbrev pub oneOf : Word → ℕ → Line
-oneOf Enter r = Read (Run (call.Enter r))
-oneOf Leave r = Read (Run (call.Leave r))
-oneOf Swap p = Read (Run (call.Swap p))
-oneOf Sync p = Read (Run (call.Sync p))
-oneOf Raise p = Read (Run (call.Raise p))
-oneOf Release p = Read (Run (call.Release p))
-oneOf Store n = Unread
-oneOf Look n = Unread
-oneOf Claim n = Unread
-oneOf Write n = Unread
-oneOf Walk n = Unread
-oneOf Unknown n = Unread
+-- The arguments of a call: a reader or a publisher; with a second number, an entry, a slot or a number of looks; with a pitch.
+abbrev pub one : List ℕ → (ℕ → Call) → Line
+one l build = given (narrow l) (λ n. Read (Run (build n)))
 
--- The calls with a second number: an entry, a slot, a number of looks.
-abbrev pub twoOf : Word → ℕ → ℕ → Line
-twoOf Look r k = Read (Run (call.Look r k))
-twoOf Claim p s = Read (Run (call.Claim p s))
-twoOf Walk p b = Read (Run (call.Walk p b))
-twoOf Store n m = Unread
-twoOf Enter n m = Unread
-twoOf Leave n m = Unread
-twoOf Write n m = Unread
-twoOf Swap n m = Unread
-twoOf Sync n m = Unread
-twoOf Raise n m = Unread
-twoOf Release n m = Unread
-twoOf Unknown n m = Unread
+abbrev pub two : List ℕ → (ℕ → ℕ → Call) → Line
+two l build = given (narrow (upToSpace l)) (λ n. given (narrow (afterSpace l)) (λ m. Read (Run (build n m))))
 
-abbrev pub one : Word → List ℕ → Line
-one w l = given (narrow l) (oneOf w)
-
-abbrev pub two : Word → List ℕ → Line
-two w l = given (narrow (first l)) (λ n. given (narrow (rest l)) (twoOf w n))
-
--- WRITE p v
-abbrev pub writing : List ℕ → Line
-writing l = given (narrow (first l)) (λ p. givenAngle (angle (rest l)) (λ v. Read (Run (call.Write p v))))
+abbrev pub pitched : List ℕ → (ℕ → ℤ → Call) → Line
+pitched l build = given (narrow (upToSpace l)) (λ n. givenAngle (angle (afterSpace l)) (λ v. Read (Run (build n v))))
 
 -- (kind, readers, publishers, slots, first version)
 abbrev pub makingOf : ℕ → ℕ → List ℕ → Line
 makingOf k rs l =
-    given (narrow (first l)) (λ ps.
-    given (narrow (first (rest l))) (λ ss.
-    given (wide (rest (rest l))) (λ v.
+    given (narrow (upToSpace l)) (λ ps.
+    given (narrow (upToSpace (afterSpace l))) (λ ss.
+    given (wide (afterSpace (afterSpace l))) (λ v.
     Read (Make k rs ps ss v))))
 
 abbrev pub making : List ℕ → Line
-making l = given (kindNamed (first l)) (λ k. given (narrow (first (rest l))) (λ rs. makingOf k rs (rest (rest l))))
+making l = given (kindNamed (upToSpace l)) (λ k. given (narrow (upToSpace (afterSpace l))) (λ rs. makingOf k rs (afterSpace (afterSpace l))))
 
--- A word with its arguments.
+-- Each word: how its arguments are read, and the call that they make.
 abbrev pub command : Word → List ℕ → Line
 command Store l = making l
-command Enter l = one Enter l
-command Look l = two Look l
-command Leave l = one Leave l
-command Claim l = two Claim l
-command Write l = writing l
-command Swap l = one Swap l
-command Sync l = one Sync l
-command Raise l = one Raise l
-command Walk l = two Walk l
-command Release l = one Release l
+command Enter l = one l call.Enter
+command Look l = two l call.Look
+command Leave l = one l call.Leave
+command Claim l = two l call.Claim
+command Write l = pitched l call.Write
+command Swap l = one l call.Swap
+command Sync l = one l call.Sync
+command Raise l = one l call.Raise
+command Walk l = two l call.Walk
+command Release l = one l call.Release
 command Unknown l = Unread
 
 -- Bracketed: what stands between the brackets.
@@ -188,4 +166,4 @@ inner l = take (length l - 2) (drop 1 l)
 
 -- A line is a bracketed word with arguments; a misshapen or empty line or one over 80 bytes gives unread.
 unfoldable pub lineOf : List ℕ → Line
-lineOf l = pick (ltb LINE-MAX (length l)) Unread (pick (bracketed l) (command (word (first (inner l))) (rest (inner l))) Unread)
+lineOf l = pick (ltb LINE-MAX (length l)) Unread (pick (bracketed l) (command (word (upToSpace (inner l))) (afterSpace (inner l))) Unread)

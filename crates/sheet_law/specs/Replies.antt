@@ -17,9 +17,9 @@ use Rattle.sheet_law.specs.declared.Number.the-variants.{Fine, Bad}
 use Rattle.sheet_law.specs.declared.Angle.{Angle}
 use Rattle.sheet_law.specs.declared.Angle.the-variants.{At, Wrong}
 use Rattle.sheet_law.specs.Text.{text, same, SPACE, decimal}
-use Rattle.sheet_law.specs.Reading.{first, rest, plain}
+use Rattle.sheet_law.specs.Reading.{upToSpace, afterSpace, plain}
 use Rattle.sheet_law.specs.Printing.{walkText, replyText, printedLine}
-use Rattle.sheet_law.specs.Decimals.{decimal-injective, plain-decimal, decimal-first, decimal-rest, signed, signed-decimal}
+use Rattle.sheet_law.specs.Decimals.{decimal-injective, plain-decimal, decimal-up-to-space, decimal-after-space, signed, signed-decimal}
 
 -- A number, two of them and a pitch of any width, read for a reply.
 abbrev number : Number → (ℕ → Reply) → Option Reply
@@ -37,44 +37,44 @@ pitch (At v) = some (reply.Pitch v)
 -- The reply that a text is of, if any.
 abbrev pub replyNamed : List ℕ → Option Reply
 replyNamed l =
-    pick (same (first l) (text "made")) (some reply.Made)
-    (pick (same (first l) (text "at")) (number (plain (rest l)) reply.At)
-    (pick (same (first l) (text "pitch")) (pitch (signed (λ x. x) (λ x. x) (rest l)))
-    (pick (same (first l) (text "left")) (some reply.Left)
-    (pick (same (first l) (text "claimed")) (number (plain (rest l)) reply.Claimed)
-    (pick (same (first l) (text "written")) (number (plain (rest l)) reply.Written)
-    (pick (same (first l) (text "swapped")) (number (plain (rest l)) reply.Swapped)
-    (pick (same (first l) (text "synced")) (number (plain (rest l)) reply.Synced)
-    (pick (same (first l) (text "raised")) (some reply.Raised)
-    (pick (same (first l) (text "shared")) (some reply.Shared)
-    (pick (same (first l) (text "waiting")) (number (plain (rest l)) (λ w. reply.Walked (Waiting w)))
-    (pick (same (first l) (text "spent")) (some (reply.Walked Spent))
-    (pick (same (first l) (text "quiet")) (some (reply.Walked Quiet))
-    (pick (same (first l) (text "returned")) (numbers (plain (first (rest l))) (plain (rest (rest l))) (λ a w. reply.Walked (Returned a w)))
-    (pick (same (first l) (text "freed")) (numbers (plain (first (rest l))) (plain (rest (rest l))) reply.Freed)
-    (pick (same (first l) (text "refused")) (number (plain (rest l)) reply.Refused)
+    pick (same (upToSpace l) (text "made")) (some reply.Made)
+    (pick (same (upToSpace l) (text "at")) (number (plain (afterSpace l)) reply.At)
+    (pick (same (upToSpace l) (text "pitch")) (pitch (signed (λ x. x) (λ x. x) (afterSpace l)))
+    (pick (same (upToSpace l) (text "left")) (some reply.Left)
+    (pick (same (upToSpace l) (text "claimed")) (number (plain (afterSpace l)) reply.Claimed)
+    (pick (same (upToSpace l) (text "written")) (number (plain (afterSpace l)) reply.Written)
+    (pick (same (upToSpace l) (text "swapped")) (number (plain (afterSpace l)) reply.Swapped)
+    (pick (same (upToSpace l) (text "synced")) (number (plain (afterSpace l)) reply.Synced)
+    (pick (same (upToSpace l) (text "raised")) (some reply.Raised)
+    (pick (same (upToSpace l) (text "shared")) (some reply.Shared)
+    (pick (same (upToSpace l) (text "waiting")) (number (plain (afterSpace l)) (λ w. reply.Walked (Waiting w)))
+    (pick (same (upToSpace l) (text "spent")) (some (reply.Walked Spent))
+    (pick (same (upToSpace l) (text "quiet")) (some (reply.Walked Quiet))
+    (pick (same (upToSpace l) (text "returned")) (numbers (plain (upToSpace (afterSpace l))) (plain (afterSpace (afterSpace l))) (λ a w. reply.Walked (Returned a w)))
+    (pick (same (upToSpace l) (text "freed")) (numbers (plain (upToSpace (afterSpace l))) (plain (afterSpace (afterSpace l))) reply.Freed)
+    (pick (same (upToSpace l) (text "refused")) (number (plain (afterSpace l)) reply.Refused)
     none)))))))))))))))
 
 number-back : (n : ℕ) (f : ℕ → Reply) → number (plain (decimal n)) f ≡ some (f n)
 number-back n f = rw (plain-decimal n) refl
 
-numbers-back : (n m : ℕ) (f : ℕ → ℕ → Reply) → numbers (plain (first (decimal n ++ (SPACE ∷ decimal m)))) (plain (rest (decimal n ++ (SPACE ∷ decimal m)))) f ≡ some (f n m)
-numbers-back n m f = rw (decimal-first n (decimal m), decimal-rest n (decimal m), plain-decimal n, plain-decimal m) refl
+numbers-back : (n m : ℕ) (f : ℕ → ℕ → Reply) → numbers (plain (upToSpace (decimal n ++ (SPACE ∷ decimal m)))) (plain (afterSpace (decimal n ++ (SPACE ∷ decimal m)))) f ≡ some (f n m)
+numbers-back n m f = rw (decimal-up-to-space n (decimal m), decimal-after-space n (decimal m), plain-decimal n, plain-decimal m) refl
 
 pitch-back : (v : ℤ) → replyNamed (replyText (reply.Pitch v)) ≡ some (reply.Pitch v)
-unfolding first rest
+unfolding upToSpace afterSpace
 pitch-back (pos n) = ap pitch (signed-decimal (λ x. x) (λ x. x) n)
 pitch-back (negsuc n) = rw (plain-decimal (suc n)) refl
 
 walk-back : (o : WalkReply) → replyNamed (walkText o) ≡ some (reply.Walked o)
-unfolding first rest
+unfolding upToSpace afterSpace
 walk-back (Waiting w) = number-back w (λ n. reply.Walked (Waiting n))
 walk-back Spent = refl
 walk-back Quiet = refl
 walk-back (Returned l w) = numbers-back l w (λ n m. reply.Walked (Returned n m))
 
 pub read-back : (a : Reply) → replyNamed (replyText a) ≡ some a
-unfolding first rest
+unfolding upToSpace afterSpace
 read-back reply.Made = refl
 read-back (reply.At n) = number-back n reply.At
 read-back (reply.Pitch v) = pitch-back v
@@ -94,7 +94,7 @@ pub reply-injective : (a b : Reply) → replyText a ≡ replyText b → a ≡ b
 reply-injective a b e = let q = sym (read-back a) ∙ (ap replyNamed e ∙ read-back b) in cc
 
 pub no-reply-unread : (a : Reply) → replyText a ≡ text "unread" → ⊥
-unfolding first
+unfolding upToSpace
 no-reply-unread a e =
     let q : some a ≡ none = sym (read-back a) ∙ ap replyNamed e in
     let z : _≡_ {A = ℕ} 0 1 = cc in omega arith
@@ -103,6 +103,6 @@ no-reply-unread a e =
 pub line-injective : (n m : ℕ) (x y : List ℕ) → printedLine n x ≡ printedLine m y → (n ≡ m) × (x ≡ y)
 line-injective n m x y e =
     let end : List ℕ = text ")\n" in
-    let d : decimal n ≡ decimal m = sym (decimal-first n (x ++ end)) ∙ (ap (λ l. first (drop 1 l)) e ∙ decimal-first m (y ++ end)) in
-    let r : x ++ end ≡ y ++ end = sym (decimal-rest n (x ++ end)) ∙ (ap (λ l. rest (drop 1 l)) e ∙ decimal-rest m (y ++ end)) in
+    let d : decimal n ≡ decimal m = sym (decimal-up-to-space n (x ++ end)) ∙ (ap (λ l. upToSpace (drop 1 l)) e ∙ decimal-up-to-space m (y ++ end)) in
+    let r : x ++ end ≡ y ++ end = sym (decimal-after-space n (x ++ end)) ∙ (ap (λ l. afterSpace (drop 1 l)) e ∙ decimal-after-space m (y ++ end)) in
     (decimal-injective n m d, append-cancel-right x y end r)

@@ -2,11 +2,14 @@
 // A word, its arguments, and the whole line; only `parse` is for others.
 // It uses sheet_fields, sheet_law and what lies below.
 ghost use mathlib.Core.Path.{_≡_};
-ghost use Rattle.sheet_law.specs.Reading.{word as Reading·word, kindNamed, oneOf, twoOf, one as Reading·one, two as Reading·two, writing as Reading·writing, making as Reading·making, makingOf, command as Reading·command, lineOf};
+ghost use Rattle.calls.specs.Base.{pick};
+ghost use Rattle.sheet_law.specs.Text.{same as Text·same};
+ghost use Rattle.sheet_law.specs.Reading.{word as Reading·word, narrow as Reading·narrow, angle as Reading·angle, kindNamed, making as Reading·making, makingOf, command as Reading·command, lineOf};
 use calls::Call;
 use calls::KIND_NEW;
 use calls::KIND_OLD;
 use calls::NUMBER_MAX;
+use calls::Pitch;
 use sheet_fields::angle;
 use sheet_fields::cut;
 use sheet_fields::number;
@@ -23,137 +26,91 @@ const OPEN: u8 = b'(';
 
 const CLOSE: u8 = b')';
 
-// The word that begins a line.
+// A row of a table of words: what it names, or else what the rows after it do.
+fn word_row(s: &[u8], text: &[u8], named: Word, after: Word) -> Word
+    ensures { λ r. ⌜ r ≡ pick (Text·same (now (s .entry)) (now (text .entry))) named after ⌝ }
+{
+    if same(s, text) {
+        return named;
+    }
+    after
+}
+
+fn kind_row(s: &[u8], text: &[u8], named: Number, after: Number) -> Number
+    ensures { λ r. ⌜ r ≡ pick (Text·same (now (s .entry)) (now (text .entry))) named after ⌝ }
+{
+    if same(s, text) {
+        return named;
+    }
+    after
+}
+
+// The word that begins a line, from the table's last row up.
 fn word(s: &[u8]) -> Word
     ensures { λ r. ⌜ r ≡ Reading·word (now (s .entry)) ⌝ }
 {
-    if same(s, b"store") {
-        return Word::Store;
-    }
-    if same(s, b"enter") {
-        return Word::Enter;
-    }
-    if same(s, b"look") {
-        return Word::Look;
-    }
-    if same(s, b"leave") {
-        return Word::Leave;
-    }
-    if same(s, b"claim") {
-        return Word::Claim;
-    }
-    if same(s, b"write") {
-        return Word::Write;
-    }
-    if same(s, b"swap") {
-        return Word::Swap;
-    }
-    if same(s, b"sync") {
-        return Word::Sync;
-    }
-    if same(s, b"raise") {
-        return Word::Raise;
-    }
-    if same(s, b"walk") {
-        return Word::Walk;
-    }
-    if same(s, b"release") {
-        return Word::Release;
-    }
-    Word::Unknown
+    let mut w = Word::Unknown;
+    w = word_row(s, b"release", Word::Release, w);
+    w = word_row(s, b"walk", Word::Walk, w);
+    w = word_row(s, b"raise", Word::Raise, w);
+    w = word_row(s, b"sync", Word::Sync, w);
+    w = word_row(s, b"swap", Word::Swap, w);
+    w = word_row(s, b"write", Word::Write, w);
+    w = word_row(s, b"claim", Word::Claim, w);
+    w = word_row(s, b"leave", Word::Leave, w);
+    w = word_row(s, b"look", Word::Look, w);
+    w = word_row(s, b"enter", Word::Enter, w);
+    word_row(s, b"store", Word::Store, w)
 }
 
-// The number of the kind that a word names.
+// The number of the kind that a word names, in the same way.
 fn kind(s: &[u8]) -> Number
     ensures { λ r. ⌜ r ≡ kindNamed (now (s .entry)) ⌝ }
 {
-    if same(s, b"new") {
-        return Number::Fine(KIND_NEW);
-    }
-    if same(s, b"old") {
-        return Number::Fine(KIND_OLD);
-    }
-    Number::Bad
+    let mut k = Number::Bad;
+    k = kind_row(s, b"old", Number::Fine(KIND_OLD), k);
+    kind_row(s, b"new", Number::Fine(KIND_NEW), k)
 }
 
-// A call with one argument.
-fn one_of(w: Word, n: u16) -> Line
-    ensures { λ r. ⌜ r ≡ oneOf w n ⌝ }
-{
-    match w {
-        Word::Enter => Line::Read(Command::Run(Call::Enter(n))),
-        Word::Leave => Line::Read(Command::Run(Call::Leave(n))),
-        Word::Swap => Line::Read(Command::Run(Call::Swap(n))),
-        Word::Sync => Line::Read(Command::Run(Call::Sync(n))),
-        Word::Raise => Line::Read(Command::Run(Call::Raise(n))),
-        Word::Release => Line::Read(Command::Run(Call::Release(n))),
-        Word::Store => Line::Unread,
-        Word::Look => Line::Unread,
-        Word::Claim => Line::Unread,
-        Word::Write => Line::Unread,
-        Word::Walk => Line::Unread,
-        Word::Unknown => Line::Unread,
-    }
+// An argument, and whether it was read.
+struct NumberRead {
+    read: bool,
+    value: u16,
 }
 
-// A call with a second number.
-fn two_of(w: Word, n: u16, m: u16) -> Line
-    ensures { λ r. ⌜ r ≡ twoOf w n m ⌝ }
-{
-    match w {
-        Word::Look => Line::Read(Command::Run(Call::Look(n, m))),
-        Word::Claim => Line::Read(Command::Run(Call::Claim(n, m))),
-        Word::Walk => Line::Read(Command::Run(Call::Walk(n, m))),
-        Word::Store => Line::Unread,
-        Word::Enter => Line::Unread,
-        Word::Leave => Line::Unread,
-        Word::Write => Line::Unread,
-        Word::Swap => Line::Unread,
-        Word::Sync => Line::Unread,
-        Word::Raise => Line::Unread,
-        Word::Release => Line::Unread,
-        Word::Unknown => Line::Unread,
-    }
+struct PitchRead {
+    read: bool,
+    value: Pitch,
 }
 
-fn one(w: Word, s: &[u8]) -> Line
-    ensures { λ r. ⌜ r ≡ Reading·one w (now (s .entry)) ⌝ }
+fn narrow(s: &[u8]) -> NumberRead
+    ensures { λ r. ⌜ Reading·narrow (now (s .entry)) ≡ pick (r .read) (Number.Fine (r .value)) Number.Bad ⌝ }
 {
     let Number::Fine(n) = number(s, NARROW_MAX) else {
-        return Line::Unread;
+        return NumberRead {
+            read: false,
+            value: 0,
+        };
     };
-    one_of(w, n as u16)
+    NumberRead {
+        read: true,
+        value: n as u16,
+    }
 }
 
-fn two(w: Word, s: &[u8]) -> Line
-    ensures { λ r. ⌜ r ≡ Reading·two w (now (s .entry)) ⌝ }
+fn pitch(s: &[u8]) -> PitchRead
+    ensures { λ r. ⌜ Reading·angle (now (s .entry)) ≡ pick (r .read) (Angle.At (r .value)) Angle.Wrong ⌝ }
 {
-    let parts = cut(s);
-    let end = parts.end;
-    let next = parts.next;
-    let Number::Fine(n) = number(&s[..end], NARROW_MAX) else {
-        return Line::Unread;
+    let Angle::At(v) = angle(s) else {
+        return PitchRead {
+            read: false,
+            value: 0,
+        };
     };
-    let Number::Fine(m) = number(&s[next..], NARROW_MAX) else {
-        return Line::Unread;
-    };
-    two_of(w, n as u16, m as u16)
-}
-
-// WRITE p v
-fn writing(s: &[u8]) -> Line
-    ensures { λ r. ⌜ r ≡ Reading·writing (now (s .entry)) ⌝ }
-{
-    let parts = cut(s);
-    let end = parts.end;
-    let next = parts.next;
-    let Number::Fine(p) = number(&s[..end], NARROW_MAX) else {
-        return Line::Unread;
-    };
-    let Angle::At(v) = angle(&s[next..]) else {
-        return Line::Unread;
-    };
-    Line::Read(Command::Run(Call::Write(p as u16, v)))
+    PitchRead {
+        read: true,
+        value: v,
+    }
 }
 
 // The kind and the readers, with the sizes after them.
@@ -199,22 +156,39 @@ fn making_of(k: u16, readers: u16, s: &[u8]) -> Line
     Line::Read(Command::Make(k, readers, publishers as u16, slots as u16, version))
 }
 
-// A word with its arguments.
+// The line of a call, if its arguments were read.
+fn run(read: bool, call: Call) -> Line
+    ensures { λ r. ⌜ r ≡ pick read (Line.Read (Command.Run call)) Line.Unread ⌝ }
+{
+    if read {
+        return Line::Read(Command::Run(call));
+    }
+    Line::Unread
+}
+
+// A word with its arguments: all of the text as one number, or a number up to the space and a number or a pitch after it.
 fn command(w: Word, s: &[u8]) -> Line
     ensures { λ r. ⌜ r ≡ Reading·command w (now (s .entry)) ⌝ }
 {
+    let parts = cut(s);
+    let end = parts.end;
+    let next = parts.next;
+    let one = narrow(s);
+    let n = narrow(&s[..end]);
+    let m = narrow(&s[next..]);
+    let v = pitch(&s[next..]);
     match w {
         Word::Store => making(s),
-        Word::Enter => one(w, s),
-        Word::Look => two(w, s),
-        Word::Leave => one(w, s),
-        Word::Claim => two(w, s),
-        Word::Write => writing(s),
-        Word::Swap => one(w, s),
-        Word::Sync => one(w, s),
-        Word::Raise => one(w, s),
-        Word::Walk => two(w, s),
-        Word::Release => one(w, s),
+        Word::Enter => run(one.read, Call::Enter(one.value)),
+        Word::Look => run(n.read & m.read, Call::Look(n.value, m.value)),
+        Word::Leave => run(one.read, Call::Leave(one.value)),
+        Word::Claim => run(n.read & m.read, Call::Claim(n.value, m.value)),
+        Word::Write => run(n.read & v.read, Call::Write(n.value, v.value)),
+        Word::Swap => run(one.read, Call::Swap(one.value)),
+        Word::Sync => run(one.read, Call::Sync(one.value)),
+        Word::Raise => run(one.read, Call::Raise(one.value)),
+        Word::Walk => run(n.read & m.read, Call::Walk(n.value, m.value)),
+        Word::Release => run(one.read, Call::Release(one.value)),
         Word::Unknown => Line::Unread,
     }
 }

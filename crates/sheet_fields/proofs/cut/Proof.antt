@@ -5,13 +5,13 @@ use lib.ListN.{length, take, drop}
 use Prim.Native.Nat.{ℕ, _+_, _-_, _≤_}
 use mathlib.Core.Path.{_≡_, refl, _∙_, sym, ap}
 use mathlib.Core.List.{List, _++_, append-nil}
-use Rattle.sheet_law.specs.Reading.{first, rest}
-use Rattle.sheet_fields.proofs.Bytes.{first-here, rest-here, first-next, rest-next, first-end, rest-end}
+use Rattle.sheet_law.specs.Reading.{upToSpace, afterSpace}
+use Rattle.sheet_fields.proofs.Bytes.{up-to-space-here, after-space-here, up-to-space-next, after-space-next, up-to-space-end, after-space-end}
 use Rattle.sheet_fields.proofs.cut.Statement.{statement}
 use Rattle.sheet_fields.proofs.cut.Tie as tie
 
 abbrev Inv-loop : tie.InvT-loop
-Inv-loop s i₀ i = (i ≤ length s) × (first s ≡ take i s ++ first (drop i s)) × (rest s ≡ rest (drop i s))
+Inv-loop s i₀ i = (i ≤ length s) × (upToSpace s ≡ take i s ++ upToSpace (drop i s)) × (afterSpace s ≡ afterSpace (drop i s))
 
 abbrev μ-loop : tie.MeasureT-loop
 μ-loop s i₀ i = length s - i
@@ -27,7 +27,7 @@ add-t7 c = search needs
 
 returns : tie.Need-returns Inv-loop μ-loop
 returns c = let k = c .before .before .before .loop in let h = c .before .before .loop-test .taken in
-    (omega arith, omega arith, sym (k .inv .1 ∙ ap (λ (t : List ℕ). take (k .i) (c .before .before .before .before .args .s .now) ++ t) (first-here _ (k .i) h (c .if1 .taken)) ∙ append-nil _), sym (k .inv .2 ∙ rest-here _ (k .i) h (c .if1 .taken)))
+    (omega arith, omega arith, sym (k .inv .1 ∙ ap (λ (t : List ℕ). take (k .i) (c .before .before .before .before .args .s .now) ++ t) (up-to-space-here _ (k .i) h (c .if1 .taken)) ∙ append-nil _), sym (k .inv .2 ∙ after-space-here _ (k .i) h (c .if1 .taken)))
 
 add-i : tie.Need-add-i Inv-loop μ-loop
 add-i c = search needs
@@ -37,11 +37,11 @@ loop-less c = search needs
 
 loop-again : tie.Need-loop-again Inv-loop μ-loop
 loop-again c = let k = c .before .before .before .loop in let h = c .before .before .loop-test .taken in
-    (omega arith, k .inv .1 ∙ first-next _ (k .i) h (c .if1 .left), k .inv .2 ∙ rest-next _ (k .i) h (c .if1 .left))
+    (omega arith, k .inv .1 ∙ up-to-space-next _ (k .i) h (c .if1 .left), k .inv .2 ∙ after-space-next _ (k .i) h (c .if1 .left))
 
 returns-2 : tie.Need-returns-2 Inv-loop μ-loop
 returns-2 c = let k = c .before .loop in let h = c .loop-test .left in
-    (omega arith, omega arith, sym (k .inv .1 ∙ ap (λ (t : List ℕ). take (k .i) (c .before .before .args .s .now) ++ t) (first-end _ (k .i) h) ∙ append-nil _), sym (k .inv .2 ∙ rest-end _ (k .i) h))
+    (omega arith, omega arith, sym (k .inv .1 ∙ ap (λ (t : List ℕ). take (k .i) (c .before .before .args .s .now) ++ t) (up-to-space-end _ (k .i) h) ∙ append-nil _), sym (k .inv .2 ∙ after-space-end _ (k .i) h))
 
 pub cut-spec : {M : Type 1} → statement M
 cut-spec =

@@ -6,20 +6,20 @@ use Prim.Native.Nat.{_-_}
 use mathlib.Core.Path.{_≡_, refl, sym, _∙_, ap}
 use lib.Seq.{length-take-le}
 use Rattle.sheet_law.specs.declared.Number.the-variants.{Fine, Bad}
-use Rattle.sheet_law.specs.Reading.{first, rest, plain, narrow, kindNamed}
+use Rattle.sheet_law.specs.Reading.{upToSpace, afterSpace, plain, narrow, kindNamed}
 use Rattle.sheet_law.specs.Widths.{read-part, tail-is, within-most}
 use Rattle.sheet_reading.proofs.Lines.{kind-narrow}
 use Rattle.sheet_reading.proofs.making.Statement.{statement}
 use Rattle.sheet_reading.proofs.making.Tie as tie
 
-others : (c : tie.After-t) → take (length (c .before .before .before .before .before .before .before .before .args .s .now) - c .before .before .before .before .before .before .cut .result .next) (drop (c .before .before .before .before .before .before .cut .result .next) (c .before .before .before .before .before .before .before .before .args .s .now)) ≡ rest (c .before .before .before .before .before .before .before .before .args .s .now)
-others c = tail-is (c .before .before .before .before .before .before .cut .result .next) (c .before .before .before .before .before .before .before .before .args .s .now) (rest (c .before .before .before .before .before .before .before .before .args .s .now)) (c .before .before .before .before .before .before .cut .ensures .3)
+others : (c : tie.After-t) → take (length (c .before .before .before .before .before .before .before .before .args .s .now) - c .before .before .before .before .before .before .cut .result .next) (drop (c .before .before .before .before .before .before .cut .result .next) (c .before .before .before .before .before .before .before .before .args .s .now)) ≡ afterSpace (c .before .before .before .before .before .before .before .before .args .s .now)
+others c = tail-is (c .before .before .before .before .before .before .cut .result .next) (c .before .before .before .before .before .before .before .before .args .s .now) (afterSpace (c .before .before .before .before .before .before .before .before .args .s .now)) (c .before .before .before .before .before .before .cut .ensures .3)
 
-kind-read : (c : tie.After-known-told) → kindNamed (first (c .before .before .before .before .before .before .before .args .s .now)) ≡ Fine (c .before .k .given .0 .0)
-kind-read c = read-part kindNamed (c .before .before .before .kind .result) (take (c .before .before .before .before .before .cut .result .end) (c .before .before .before .before .before .before .before .args .s .now)) (first (c .before .before .before .before .before .before .before .args .s .now)) (Fine (c .before .k .given .0 .0)) (c .before .before .before .kind .ensures) (c .before .before .before .before .before .cut .ensures .2) (c .before .k .given .1)
+kind-read : (c : tie.After-known-told) → kindNamed (upToSpace (c .before .before .before .before .before .before .before .args .s .now)) ≡ Fine (c .before .k .given .0 .0)
+kind-read c = read-part kindNamed (c .before .before .before .kind .result) (take (c .before .before .before .before .before .cut .result .end) (c .before .before .before .before .before .before .before .args .s .now)) (upToSpace (c .before .before .before .before .before .before .before .args .s .now)) (Fine (c .before .k .given .0 .0)) (c .before .before .before .kind .ensures) (c .before .before .before .before .before .cut .ensures .2) (c .before .k .given .1)
 
-readers-read : (c : tie.After-known-told2) → narrow (first (rest (c .before .before .before .before .before .before .before .before .before .before .before .before .before .before .args .s .now))) ≡ Fine (c .before .readers .given .0 .0)
-readers-read c = read-part narrow (c .before .before .before .number .result) (take (c .before .before .before .before .before .cut2 .result .end) (take (length (c .before .before .before .before .before .before .before .before .before .before .before .before .before .before .args .s .now) - c .before .before .before .before .before .before .before .before .before .before .before .before .cut .result .next) (drop (c .before .before .before .before .before .before .before .before .before .before .before .before .cut .result .next) (c .before .before .before .before .before .before .before .before .before .before .before .before .before .before .args .s .now)))) (first (rest (c .before .before .before .before .before .before .before .before .before .before .before .before .before .before .args .s .now))) (Fine (c .before .readers .given .0 .0)) (c .before .before .before .number .ensures) (c .before .before .before .before .before .cut2 .ensures .2 ∙ ap first (others (c .before .before .before .before .before .before))) (c .before .readers .given .1)
+readers-read : (c : tie.After-known-told2) → narrow (upToSpace (afterSpace (c .before .before .before .before .before .before .before .before .before .before .before .before .before .before .args .s .now))) ≡ Fine (c .before .readers .given .0 .0)
+readers-read c = read-part narrow (c .before .before .before .number .result) (take (c .before .before .before .before .before .cut2 .result .end) (take (length (c .before .before .before .before .before .before .before .before .before .before .before .before .before .before .args .s .now) - c .before .before .before .before .before .before .before .before .before .before .before .before .cut .result .next) (drop (c .before .before .before .before .before .before .before .before .before .before .before .before .cut .result .next) (c .before .before .before .before .before .before .before .before .before .before .before .before .before .before .args .s .now)))) (upToSpace (afterSpace (c .before .before .before .before .before .before .before .before .before .before .before .before .before .before .args .s .now))) (Fine (c .before .readers .given .0 .0)) (c .before .before .before .number .ensures) (c .before .before .before .before .before .cut2 .ensures .2 ∙ ap upToSpace (others (c .before .before .before .before .before .before))) (c .before .readers .given .1)
 
 cut-requires : tie.Need-cut-requires
 cut-requires c κs = tt
@@ -37,7 +37,7 @@ enum-told : tie.Need-enum-told
 enum-told c = search needs
 
 returns : tie.Need-returns
-returns c = rw (read-part kindNamed (c .before .before .kind .result) (take (c .before .before .before .before .cut .result .end) (c .before .before .before .before .before .before .args .s .now)) (first (c .before .before .before .before .before .before .args .s .now)) Bad (c .before .before .kind .ensures) (c .before .before .before .before .cut .ensures .2) (c .enum-told .given .1)) refl
+returns c = rw (read-part kindNamed (c .before .before .kind .result) (take (c .before .before .before .before .cut .result .end) (c .before .before .before .before .before .before .args .s .now)) (upToSpace (c .before .before .before .before .before .before .args .s .now)) Bad (c .before .before .kind .ensures) (c .before .before .before .before .cut .ensures .2) (c .enum-told .given .1)) refl
 
 sub-t : tie.Need-sub-t
 sub-t c = omega (arith, c .before .before .before .before .before .cut .ensures .1)
@@ -64,13 +64,13 @@ enum-told-2 : tie.Need-enum-told-2
 enum-told-2 c = search needs
 
 returns-2 : tie.Need-returns-2
-returns-2 c = rw (kind-read (c .before .before .before .before .before .before), read-part narrow (c .before .before .number .result) (take (c .before .before .before .before .cut2 .result .end) (take (length (c .before .before .before .before .before .before .before .before .before .before .before .before .before .args .s .now) - c .before .before .before .before .before .before .before .before .before .before .before .cut .result .next) (drop (c .before .before .before .before .before .before .before .before .before .before .before .cut .result .next) (c .before .before .before .before .before .before .before .before .before .before .before .before .before .args .s .now)))) (first (rest (c .before .before .before .before .before .before .before .before .before .before .before .before .before .args .s .now))) Bad (c .before .before .number .ensures) (c .before .before .before .before .cut2 .ensures .2 ∙ ap first (others (c .before .before .before .before .before))) (c .enum-told2 .given .1)) refl
+returns-2 c = rw (kind-read (c .before .before .before .before .before .before), read-part narrow (c .before .before .number .result) (take (c .before .before .before .before .cut2 .result .end) (take (length (c .before .before .before .before .before .before .before .before .before .before .before .before .before .args .s .now) - c .before .before .before .before .before .before .before .before .before .before .before .cut .result .next) (drop (c .before .before .before .before .before .before .before .before .before .before .before .cut .result .next) (c .before .before .before .before .before .before .before .before .before .before .before .before .before .args .s .now)))) (upToSpace (afterSpace (c .before .before .before .before .before .before .before .before .before .before .before .before .before .args .s .now))) Bad (c .before .before .number .ensures) (c .before .before .before .before .cut2 .ensures .2 ∙ ap upToSpace (others (c .before .before .before .before .before))) (c .enum-told2 .given .1)) refl
 
 cast-making-of : tie.Need-cast-making-of
-cast-making-of c = let a = kind-narrow (first (c .before .before .before .before .before .before .before .before .before .before .before .before .before .before .args .s .now)) (c .before .before .before .before .before .before .before .before .k .given .0 .0) (kind-read (c .before .before .before .before .before .before .before)) in omega (arith, a)
+cast-making-of c = let a = kind-narrow (upToSpace (c .before .before .before .before .before .before .before .before .before .before .before .before .before .before .args .s .now)) (c .before .before .before .before .before .before .before .before .k .given .0 .0) (kind-read (c .before .before .before .before .before .before .before)) in omega (arith, a)
 
 cast-making-of-2 : tie.Need-cast-making-of-2
-cast-making-of-2 c = let a = within-most 65535 (plain (first (rest (c .before .before .before .before .before .before .before .before .before .before .before .before .before .before .args .s .now)))) (c .before .readers .given .0 .0) (readers-read c) in omega (arith, a)
+cast-making-of-2 c = let a = within-most 65535 (plain (upToSpace (afterSpace (c .before .before .before .before .before .before .before .before .before .before .before .before .before .before .args .s .now)))) (c .before .readers .given .0 .0) (readers-read c) in omega (arith, a)
 
 sub-making-of : tie.Need-sub-making-of
 sub-making-of c = omega (arith, c .before .before .before .before .before .cut2 .ensures .1)
@@ -85,7 +85,7 @@ making-of-requires : tie.Need-making-of-requires
 making-of-requires c κs = tt
 
 returns-3 : tie.Need-returns-3
-returns-3 c = rw (kind-read (c .before .before .before .before .before .before .before .before .before), readers-read (c .before .before), sym (tail-is (c .before .before .before .before .before .before .before .cut2 .result .next) (take (length (c .before .before .before .before .before .before .before .before .before .before .before .before .before .before .before .before .args .s .now) - c .before .before .before .before .before .before .before .before .before .before .before .before .before .before .cut .result .next) (drop (c .before .before .before .before .before .before .before .before .before .before .before .before .before .before .cut .result .next) (c .before .before .before .before .before .before .before .before .before .before .before .before .before .before .before .before .args .s .now))) (rest (rest (c .before .before .before .before .before .before .before .before .before .before .before .before .before .before .before .before .args .s .now))) (c .before .before .before .before .before .before .before .cut2 .ensures .3 ∙ ap rest (others (c .before .before .before .before .before .before .before .before))))) (c .making-of .ensures)
+returns-3 c = rw (kind-read (c .before .before .before .before .before .before .before .before .before), readers-read (c .before .before), sym (tail-is (c .before .before .before .before .before .before .before .cut2 .result .next) (take (length (c .before .before .before .before .before .before .before .before .before .before .before .before .before .before .before .before .args .s .now) - c .before .before .before .before .before .before .before .before .before .before .before .before .before .before .cut .result .next) (drop (c .before .before .before .before .before .before .before .before .before .before .before .before .before .before .cut .result .next) (c .before .before .before .before .before .before .before .before .before .before .before .before .before .before .before .before .args .s .now))) (afterSpace (afterSpace (c .before .before .before .before .before .before .before .before .before .before .before .before .before .before .before .before .args .s .now))) (c .before .before .before .before .before .before .before .cut2 .ensures .3 ∙ ap afterSpace (others (c .before .before .before .before .before .before .before .before))))) (c .making-of .ensures)
 
 pub making-spec : {M : Type 1} → statement M
 making-spec =

@@ -6,22 +6,22 @@ use Prim.Native.Nat.{_-_}
 use mathlib.Core.Path.{_≡_, refl, sym, _∙_, ap}
 use lib.Seq.{length-take-le}
 use Rattle.sheet_law.specs.declared.Number.the-variants.{Fine, Bad}
-use Rattle.sheet_law.specs.Reading.{first, rest, plain, narrow, wide}
+use Rattle.sheet_law.specs.Reading.{upToSpace, afterSpace, plain, narrow, wide}
 use Rattle.sheet_law.specs.Widths.{read-part, tail-is, within-most}
 use Rattle.sheet_reading.proofs.making_of.Statement.{statement}
 use Rattle.sheet_reading.proofs.making_of.Tie as tie
 
-others : (c : tie.After-t) → take (length (c .before .before .before .before .before .before .before .before .args .s .now) - c .before .before .before .before .before .before .cut .result .next) (drop (c .before .before .before .before .before .before .cut .result .next) (c .before .before .before .before .before .before .before .before .args .s .now)) ≡ rest (c .before .before .before .before .before .before .before .before .args .s .now)
-others c = tail-is (c .before .before .before .before .before .before .cut .result .next) (c .before .before .before .before .before .before .before .before .args .s .now) (rest (c .before .before .before .before .before .before .before .before .args .s .now)) (c .before .before .before .before .before .before .cut .ensures .3)
+others : (c : tie.After-t) → take (length (c .before .before .before .before .before .before .before .before .args .s .now) - c .before .before .before .before .before .before .cut .result .next) (drop (c .before .before .before .before .before .before .cut .result .next) (c .before .before .before .before .before .before .before .before .args .s .now)) ≡ afterSpace (c .before .before .before .before .before .before .before .before .args .s .now)
+others c = tail-is (c .before .before .before .before .before .before .cut .result .next) (c .before .before .before .before .before .before .before .before .args .s .now) (afterSpace (c .before .before .before .before .before .before .before .before .args .s .now)) (c .before .before .before .before .before .before .cut .ensures .3)
 
-publishers-read : (c : tie.After-known-told) → narrow (first (c .before .before .before .before .before .before .before .args .s .now)) ≡ Fine (c .before .publishers .given .0 .0)
-publishers-read c = read-part narrow (c .before .before .before .number .result) (take (c .before .before .before .before .before .cut .result .end) (c .before .before .before .before .before .before .before .args .s .now)) (first (c .before .before .before .before .before .before .before .args .s .now)) (Fine (c .before .publishers .given .0 .0)) (c .before .before .before .number .ensures) (c .before .before .before .before .before .cut .ensures .2) (c .before .publishers .given .1)
+publishers-read : (c : tie.After-known-told) → narrow (upToSpace (c .before .before .before .before .before .before .before .args .s .now)) ≡ Fine (c .before .publishers .given .0 .0)
+publishers-read c = read-part narrow (c .before .before .before .number .result) (take (c .before .before .before .before .before .cut .result .end) (c .before .before .before .before .before .before .before .args .s .now)) (upToSpace (c .before .before .before .before .before .before .before .args .s .now)) (Fine (c .before .publishers .given .0 .0)) (c .before .before .before .number .ensures) (c .before .before .before .before .before .cut .ensures .2) (c .before .publishers .given .1)
 
-slots-read : (c : tie.After-known-told2) → narrow (first (rest (c .before .before .before .before .before .before .before .before .before .before .before .before .before .before .args .s .now))) ≡ Fine (c .before .slots .given .0 .0)
-slots-read c = read-part narrow (c .before .before .before .number2 .result) (take (c .before .before .before .before .before .cut2 .result .end) (take (length (c .before .before .before .before .before .before .before .before .before .before .before .before .before .before .args .s .now) - c .before .before .before .before .before .before .before .before .before .before .before .before .cut .result .next) (drop (c .before .before .before .before .before .before .before .before .before .before .before .before .cut .result .next) (c .before .before .before .before .before .before .before .before .before .before .before .before .before .before .args .s .now)))) (first (rest (c .before .before .before .before .before .before .before .before .before .before .before .before .before .before .args .s .now))) (Fine (c .before .slots .given .0 .0)) (c .before .before .before .number2 .ensures) (c .before .before .before .before .before .cut2 .ensures .2 ∙ ap first (others (c .before .before .before .before .before .before))) (c .before .slots .given .1)
+slots-read : (c : tie.After-known-told2) → narrow (upToSpace (afterSpace (c .before .before .before .before .before .before .before .before .before .before .before .before .before .before .args .s .now))) ≡ Fine (c .before .slots .given .0 .0)
+slots-read c = read-part narrow (c .before .before .before .number2 .result) (take (c .before .before .before .before .before .cut2 .result .end) (take (length (c .before .before .before .before .before .before .before .before .before .before .before .before .before .before .args .s .now) - c .before .before .before .before .before .before .before .before .before .before .before .before .cut .result .next) (drop (c .before .before .before .before .before .before .before .before .before .before .before .before .cut .result .next) (c .before .before .before .before .before .before .before .before .before .before .before .before .before .before .args .s .now)))) (upToSpace (afterSpace (c .before .before .before .before .before .before .before .before .before .before .before .before .before .before .args .s .now))) (Fine (c .before .slots .given .0 .0)) (c .before .before .before .number2 .ensures) (c .before .before .before .before .before .cut2 .ensures .2 ∙ ap upToSpace (others (c .before .before .before .before .before .before))) (c .before .slots .given .1)
 
-last-part : (c : tie.After-known-told2) → take (length (take (length (c .before .before .before .before .before .before .before .before .before .before .before .before .before .before .args .s .now) - c .before .before .before .before .before .before .before .before .before .before .before .before .cut .result .next) (drop (c .before .before .before .before .before .before .before .before .before .before .before .before .cut .result .next) (c .before .before .before .before .before .before .before .before .before .before .before .before .before .before .args .s .now))) - c .before .before .before .before .before .cut2 .result .next) (drop (c .before .before .before .before .before .cut2 .result .next) (take (length (c .before .before .before .before .before .before .before .before .before .before .before .before .before .before .args .s .now) - c .before .before .before .before .before .before .before .before .before .before .before .before .cut .result .next) (drop (c .before .before .before .before .before .before .before .before .before .before .before .before .cut .result .next) (c .before .before .before .before .before .before .before .before .before .before .before .before .before .before .args .s .now)))) ≡ rest (rest (c .before .before .before .before .before .before .before .before .before .before .before .before .before .before .args .s .now))
-last-part c = tail-is (c .before .before .before .before .before .cut2 .result .next) (take (length (c .before .before .before .before .before .before .before .before .before .before .before .before .before .before .args .s .now) - c .before .before .before .before .before .before .before .before .before .before .before .before .cut .result .next) (drop (c .before .before .before .before .before .before .before .before .before .before .before .before .cut .result .next) (c .before .before .before .before .before .before .before .before .before .before .before .before .before .before .args .s .now))) (rest (rest (c .before .before .before .before .before .before .before .before .before .before .before .before .before .before .args .s .now))) (c .before .before .before .before .before .cut2 .ensures .3 ∙ ap rest (others (c .before .before .before .before .before .before)))
+last-part : (c : tie.After-known-told2) → take (length (take (length (c .before .before .before .before .before .before .before .before .before .before .before .before .before .before .args .s .now) - c .before .before .before .before .before .before .before .before .before .before .before .before .cut .result .next) (drop (c .before .before .before .before .before .before .before .before .before .before .before .before .cut .result .next) (c .before .before .before .before .before .before .before .before .before .before .before .before .before .before .args .s .now))) - c .before .before .before .before .before .cut2 .result .next) (drop (c .before .before .before .before .before .cut2 .result .next) (take (length (c .before .before .before .before .before .before .before .before .before .before .before .before .before .before .args .s .now) - c .before .before .before .before .before .before .before .before .before .before .before .before .cut .result .next) (drop (c .before .before .before .before .before .before .before .before .before .before .before .before .cut .result .next) (c .before .before .before .before .before .before .before .before .before .before .before .before .before .before .args .s .now)))) ≡ afterSpace (afterSpace (c .before .before .before .before .before .before .before .before .before .before .before .before .before .before .args .s .now))
+last-part c = tail-is (c .before .before .before .before .before .cut2 .result .next) (take (length (c .before .before .before .before .before .before .before .before .before .before .before .before .before .before .args .s .now) - c .before .before .before .before .before .before .before .before .before .before .before .before .cut .result .next) (drop (c .before .before .before .before .before .before .before .before .before .before .before .before .cut .result .next) (c .before .before .before .before .before .before .before .before .before .before .before .before .before .before .args .s .now))) (afterSpace (afterSpace (c .before .before .before .before .before .before .before .before .before .before .before .before .before .before .args .s .now))) (c .before .before .before .before .before .cut2 .ensures .3 ∙ ap afterSpace (others (c .before .before .before .before .before .before)))
 
 cut-requires : tie.Need-cut-requires
 cut-requires c κs = tt
@@ -39,7 +39,7 @@ enum-told : tie.Need-enum-told
 enum-told c = search needs
 
 returns : tie.Need-returns
-returns c = rw (read-part narrow (c .before .before .number .result) (take (c .before .before .before .before .cut .result .end) (c .before .before .before .before .before .before .args .s .now)) (first (c .before .before .before .before .before .before .args .s .now)) Bad (c .before .before .number .ensures) (c .before .before .before .before .cut .ensures .2) (c .enum-told .given .1)) refl
+returns c = rw (read-part narrow (c .before .before .number .result) (take (c .before .before .before .before .cut .result .end) (c .before .before .before .before .before .before .args .s .now)) (upToSpace (c .before .before .before .before .before .before .args .s .now)) Bad (c .before .before .number .ensures) (c .before .before .before .before .cut .ensures .2) (c .enum-told .given .1)) refl
 
 sub-t : tie.Need-sub-t
 sub-t c = omega (arith, c .before .before .before .before .before .cut .ensures .1)
@@ -66,7 +66,7 @@ enum-told-2 : tie.Need-enum-told-2
 enum-told-2 c = search needs
 
 returns-2 : tie.Need-returns-2
-returns-2 c = rw (publishers-read (c .before .before .before .before .before .before), read-part narrow (c .before .before .number2 .result) (take (c .before .before .before .before .cut2 .result .end) (take (length (c .before .before .before .before .before .before .before .before .before .before .before .before .before .args .s .now) - c .before .before .before .before .before .before .before .before .before .before .before .cut .result .next) (drop (c .before .before .before .before .before .before .before .before .before .before .before .cut .result .next) (c .before .before .before .before .before .before .before .before .before .before .before .before .before .args .s .now)))) (first (rest (c .before .before .before .before .before .before .before .before .before .before .before .before .before .args .s .now))) Bad (c .before .before .number2 .ensures) (c .before .before .before .before .cut2 .ensures .2 ∙ ap first (others (c .before .before .before .before .before))) (c .enum-told2 .given .1)) refl
+returns-2 c = rw (publishers-read (c .before .before .before .before .before .before), read-part narrow (c .before .before .number2 .result) (take (c .before .before .before .before .cut2 .result .end) (take (length (c .before .before .before .before .before .before .before .before .before .before .before .before .before .args .s .now) - c .before .before .before .before .before .before .before .before .before .before .before .cut .result .next) (drop (c .before .before .before .before .before .before .before .before .before .before .before .cut .result .next) (c .before .before .before .before .before .before .before .before .before .before .before .before .before .args .s .now)))) (upToSpace (afterSpace (c .before .before .before .before .before .before .before .before .before .before .before .before .before .args .s .now))) Bad (c .before .before .number2 .ensures) (c .before .before .before .before .cut2 .ensures .2 ∙ ap upToSpace (others (c .before .before .before .before .before))) (c .enum-told2 .given .1)) refl
 
 sub-number : tie.Need-sub-number
 sub-number c = omega (arith, c .before .before .before .before .before .cut2 .ensures .1)
@@ -90,10 +90,10 @@ returns-3 : tie.Need-returns-3
 returns-3 c = rw (publishers-read (c .before .before .before .before .before .before .before .before .before .before .before), slots-read (c .before .before .before .before), sym (ap wide (last-part (c .before .before .before .before))) ∙ sym (c .before .before .number3 .ensures) ∙ c .enum-told3 .given .1) refl
 
 cast-t27 : tie.Need-cast-t27
-cast-t27 c = let a = within-most 65535 (plain (first (c .before .before .before .before .before .before .before .before .before .before .before .before .before .before .before .before .before .before .before .args .s .now))) (c .before .before .before .before .before .before .before .before .before .before .before .before .before .publishers .given .0 .0) (publishers-read (c .before .before .before .before .before .before .before .before .before .before .before .before)) in omega (arith, a)
+cast-t27 c = let a = within-most 65535 (plain (upToSpace (c .before .before .before .before .before .before .before .before .before .before .before .before .before .before .before .before .before .before .before .args .s .now))) (c .before .before .before .before .before .before .before .before .before .before .before .before .before .publishers .given .0 .0) (publishers-read (c .before .before .before .before .before .before .before .before .before .before .before .before)) in omega (arith, a)
 
 cast-t28 : tie.Need-cast-t28
-cast-t28 c = let a = within-most 65535 (plain (first (rest (c .before .before .before .before .before .before .before .before .before .before .before .before .before .before .before .before .before .before .before .args .s .now)))) (c .before .before .before .before .before .before .slots .given .0 .0) (slots-read (c .before .before .before .before .before)) in omega (arith, a)
+cast-t28 c = let a = within-most 65535 (plain (upToSpace (afterSpace (c .before .before .before .before .before .before .before .before .before .before .before .before .before .before .before .before .before .before .before .args .s .now)))) (c .before .before .before .before .before .before .slots .given .0 .0) (slots-read (c .before .before .before .before .before)) in omega (arith, a)
 
 returns-4 : tie.Need-returns-4
 returns-4 c = rw (publishers-read (c .before .before .before .before .before .before .before .before .before .before .before .before), slots-read (c .before .before .before .before .before), sym (ap wide (last-part (c .before .before .before .before .before))) ∙ sym (c .before .before .before .number3 .ensures) ∙ c .before .version .given .1) refl

@@ -7,7 +7,7 @@ use mathlib.Core.Path.{_≡_, sym, _∙_, ap}
 use mathlib.Core.List.{List}
 use lib.Seq.{length-take-le}
 use Rattle.sheet_law.specs.declared.Word.{Word}
-use Rattle.sheet_law.specs.Reading.{first, rest, word as word-of, command as command-of, inner}
+use Rattle.sheet_law.specs.Reading.{upToSpace, afterSpace, word as word-of, command as command-of, inner}
 use Rattle.sheet_law.specs.Widths.{tail-is}
 use Rattle.sheet_law.specs.Reads.{over-80}
 use Rattle.sheet_reading.proofs.Lines.{line-brief, line-unopened, line-unclosed, line-whole, inner-is}
@@ -70,8 +70,8 @@ command-requires c κs = tt
 
 returns-5 : tie.Need-returns-5
 returns-5 c = c .command .ensures
-    ∙ ap (λ (x : Word). command-of x (take (length (take (length (c .before .before .before .before .before .before .before .before .before .before .before .before .before .args .line .now) - 1 - 1) (drop 1 (c .before .before .before .before .before .before .before .before .before .before .before .before .before .args .line .now))) - c .before .before .before .before .cut .result .next) (drop (c .before .before .before .before .cut .result .next) (take (length (c .before .before .before .before .before .before .before .before .before .before .before .before .before .args .line .now) - 1 - 1) (drop 1 (c .before .before .before .before .before .before .before .before .before .before .before .before .before .args .line .now)))))) (c .before .before .word .ensures ∙ ap word-of (c .before .before .before .before .cut .ensures .2 ∙ ap first (between (c .before .before .before .before .before))))
-    ∙ ap (λ (k : List ℕ). command-of (word-of (first (inner (c .before .before .before .before .before .before .before .before .before .before .before .before .before .args .line .now)))) k) (tail-is (c .before .before .before .before .cut .result .next) (take (length (c .before .before .before .before .before .before .before .before .before .before .before .before .before .args .line .now) - 1 - 1) (drop 1 (c .before .before .before .before .before .before .before .before .before .before .before .before .before .args .line .now))) (rest (inner (c .before .before .before .before .before .before .before .before .before .before .before .before .before .args .line .now))) (c .before .before .before .before .cut .ensures .3 ∙ ap rest (between (c .before .before .before .before .before))))
+    ∙ ap (λ (x : Word). command-of x (take (length (take (length (c .before .before .before .before .before .before .before .before .before .before .before .before .before .args .line .now) - 1 - 1) (drop 1 (c .before .before .before .before .before .before .before .before .before .before .before .before .before .args .line .now))) - c .before .before .before .before .cut .result .next) (drop (c .before .before .before .before .cut .result .next) (take (length (c .before .before .before .before .before .before .before .before .before .before .before .before .before .args .line .now) - 1 - 1) (drop 1 (c .before .before .before .before .before .before .before .before .before .before .before .before .before .args .line .now)))))) (c .before .before .word .ensures ∙ ap word-of (c .before .before .before .before .cut .ensures .2 ∙ ap upToSpace (between (c .before .before .before .before .before))))
+    ∙ ap (λ (k : List ℕ). command-of (word-of (upToSpace (inner (c .before .before .before .before .before .before .before .before .before .before .before .before .before .args .line .now)))) k) (tail-is (c .before .before .before .before .cut .result .next) (take (length (c .before .before .before .before .before .before .before .before .before .before .before .before .before .args .line .now) - 1 - 1) (drop 1 (c .before .before .before .before .before .before .before .before .before .before .before .before .before .args .line .now))) (afterSpace (inner (c .before .before .before .before .before .before .before .before .before .before .before .before .before .args .line .now))) (c .before .before .before .before .cut .ensures .3 ∙ ap afterSpace (between (c .before .before .before .before .before))))
     ∙ sym (line-whole (c .before .before .before .before .before .before .before .before .before .before .before .before .before .args .line .now) (c .before .before .before .before .before .before .before .before .before .before .before .if1 .left) (c .before .before .before .before .before .before .before .before .before .before .if2 .left) (c .before .before .before .before .before .before .before .before .if3 .left) (c .before .before .before .before .before .before .if4 .left))
 
 pub parse-spec : {M : Type 1} → statement M
