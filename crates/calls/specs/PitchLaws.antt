@@ -1,6 +1,6 @@
 -- A pitch in the machine's bits: what is read back from them is the pitch, at its own width and at 64 bits; its size, 0 - v where v is negative, has 64 bits.
 -- Assumes nothing.
-use Prim.Native.Nat.{ℕ, _<_}
+use Prim.Native.Nat.{ℕ, _-_, _^_, _<_}
 use native.Mathlib.Omega.{arith}
 use mathlib.Core.Path.{_≡_, refl, ap, _∙_}
 use mathlib.Core.Bool.{true, false}
@@ -11,12 +11,16 @@ use borrow.Author.Tests.{ltb-true}
 use mir.Syntax.{Width, w16, w64}
 use mir.Val.{SFits, Fits, toZ, ofZ}
 use mir.ValLaws.{toZ-ofZ}
-use Rattle.calls.specs.Numbers.{PITCH-HALF}
+use Rattle.calls.specs.Numbers.{PITCH-BITS, PITCH-HALF}
 use Rattle.calls.specs.RowLaws.{clash}
 
 -- PITCH-BITS, as the machine has it.
 abbrev pub PITCH-WIDTH : Width
 PITCH-WIDTH = w16
+
+-- PITCH-HALF is half of the numbers that so many bits hold.
+pub half-of-bits : PITCH-HALF ≡ 2 ^ (PITCH-BITS - 1)
+half-of-bits = refl
 
 -- What the machine reads from the bits of a pitch.
 abbrev pub inBits : ℤ → ℤ

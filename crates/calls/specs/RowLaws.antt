@@ -64,10 +64,6 @@ pub pick-split : {A : Type 0} (Q : A → Type 0) (b : Bool) {x y : A} → (b ≡
 pick-split Q true f g = f refl
 pick-split Q false f g = g refl
 
-pub pick-same : {A : Type 0} (b : Bool) (a : A) → pick b a a ≡ a
-pick-same true a = refl
-pick-same false a = refl
-
 pub same : (r : ℕ) → eqb r r ≡ true
 same r = eq-eqb r r refl
 

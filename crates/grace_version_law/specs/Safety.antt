@@ -174,7 +174,7 @@ module _ (z : Given) (g : Ghost) (s : State) (i : Good kind (OwnOf detector) z g
 
   sync-kept : (p : ℕ) → AllClear (syncTests versions s p) → Good kind (OwnOf detector) z (kept.advance g (Sync p) (Synced (version (s .words) + 1))) (sync versions s p .after)
   sync-kept p f = sync-good detector kind law z g s i p f
-      (own-clear (readers (s .words)) (publisher s p atPlace 35 walk≔ newWalk (version (s .words) + 1)) (omega arith) (λ e. omega arith) (λ a b. omega (arith, i .shared .every .fine .head .readers-low)))
+      (own-clear (readers (s .words)) (publisher s p atPlace 35 walk≔ newWalk (publisher s p .walk) (version (s .words) + 1)) (omega arith) (λ e. omega arith) (λ a b. omega (arith, i .shared .every .fine .head .readers-low)))
       refl (λ r l. record { below = omega (arith, i .own .readers-are r .shown (omega arith)); unpassed = λ j a. absurd (omega arith) })
 
   raise-kept : (p : ℕ) → p < publishers (s .words) → eqb (publisher s p .place) 35 ≡ true → Good kind (OwnOf detector) z (kept.advance g (Raise p) (raise versions s p .reply)) (raise versions s p .after)
@@ -269,6 +269,7 @@ pub lawful : Lawful fixed traits
 lawful = record {
   kind-law = law;
   first-is = refl;
+  lacks-is = λ c. refl;
   exclusive-is = refl;
   successor-is = refl;
   raises-in = λ x. refl;

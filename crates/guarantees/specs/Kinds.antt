@@ -1,7 +1,7 @@
 -- Demands 1 and 3 on the steps, and the companions, for words of any kind: `store n` has the making of the kind with number n and the steps that
 -- the kind word tells, which are the steps that the contracts of `kinds` cite. Assumes nothing.
 use Prim.Native.Nat.{ℕ, _≤_}
-use mathlib.Core.Path.{_≡_}
+use mathlib.Core.Path.{_≡_, refl}
 use mathlib.Core.Bool.{true, false}
 use mathlib.Core.List.{List}
 use lib.IntN.{ℤ, pos}
@@ -43,6 +43,14 @@ pub demand3 : (n : ℕ) → Demand3 (store n) (λ z. firstTable)
 demand3 = by-number (λ n. Demand3 (store n) (λ z. firstTable))
     (λ k. demand3-alike (storeOf k) (store (number k)) (alike k) (λ z. firstTable) (own-demand3 k))
     (λ n none s f. absurd (none s f))
+
+-- The numbers of the kinds, and that none of them lacks a call.
+pub kind-numbers : (_≡_ {A = ℕ} (number new) 1) × (_≡_ {A = ℕ} (number old) 2)
+kind-numbers = (refl, refl)
+
+pub none-lacked : (k : Name) (c : Call) → traits k .every .lacks c ≡ false
+none-lacked new c = refl
+none-lacked old c = refl
 
 -- Its companions: never damaged, order, counts, whole tables, readers never wait, claims, publishers get on, releases.
 pub companions : (k : Name) → GraceCompanions (store (number k)) (traits k)

@@ -133,7 +133,7 @@ reader-by = region-by readers-exact
 
 blank-reader : (j : ℕ) → readerAt (replicate WORDS 0) j ≡ noReader
 unfolding readerAt
-blank-reader = region-zero readers-exact (replicate WORDS 0) (λ k low. zero-at WORDS k)
+blank-reader = region-zero readers-exact (replicate WORDS 0) (λ k low high. zero-at WORDS k)
 
 -- The words with each of the first n readers anew: their length, what stands elsewhere, and what is read.
 pub length-readers : (n : ℕ) (w : List ℕ) (x : Reader) → length (withReaders n w x) ≡ length w
@@ -254,7 +254,7 @@ module _ (k rs ps ss v : ℕ) (x : Reader) where
 
   pub fresh-publisher : (j : ℕ) → publisherAt (fresh k rs ps ss v x) j ≡ noPublisher
   unfolding publisherAt
-  fresh-publisher = region-zero publishers-exact (fresh k rs ps ss v x) (λ i low. fresh-behind i (omega arith) ∙ u0-behind i low)
+  fresh-publisher = region-zero publishers-exact (fresh k rs ps ss v x) (λ i low high. fresh-behind i (omega arith) ∙ u0-behind i low)
 
   pub fresh-indicator : (i : ℕ) → indicator (fresh k rs ps ss v x) i ≡ 0
   unfolding indicator

@@ -95,12 +95,12 @@ module _ {A : Type 0} {g : Region A} (exact : Exact g) where
   pub region-by : (v w : List ℕ) → ((k : ℕ) → g .start ≤ k → k < ends g → getD v k 0 ≡ getD w k 0) → recordAt g v ≡ recordAt g w
   region-by v w e = fun-ext (λ j. record-by v w j (λ lt i l. e (begins g j + i) (omega arith) (omega (arith, spaced g j (g .count) lt))))
 
-  pub region-zero : (w : List ℕ) → ((k : ℕ) → g .start ≤ k → getD w k 0 ≡ 0) → (j : ℕ) → recordAt g w j ≡ g .from (λ i. 0)
-  region-zero w e j = go (ltb j (g .count))
+  pub region-zero : (w : List ℕ) → ((k : ℕ) → g .start ≤ k → k < ends g → getD w k 0 ≡ 0) → (j : ℕ) → recordAt g w j ≡ g .from (λ i. 0)
+  region-zero w e j = go (ltb j (g .count)) refl
     where
-      go : (b : Bool) → pick b (g .from (λ i. getD w (begins g j + i) 0)) (g .from (λ i. 0)) ≡ g .from (λ i. 0)
-      go true = agree _ _ (λ i l. e (begins g j + i) (omega arith))
-      go false = refl
+      go : (b : Bool) → ltb j (g .count) ≡ b → pick b (g .from (λ i. getD w (begins g j + i) 0)) (g .from (λ i. 0)) ≡ g .from (λ i. 0)
+      go true d = agree _ _ (λ i l. e (begins g j + i) (omega arith) (omega (arith, spaced g j (g .count) (ltb-true j (g .count) d))))
+      go false d = refl
 
   -- A word stored before the region leaves its records.
   pub region-set : (w : List ℕ) (k v : ℕ) → k < g .start → recordAt g (set w k v) ≡ recordAt g w

@@ -134,7 +134,7 @@ module _ (w : List ℕ) (p : ℕ) (y : Publisher) (named : p < publishers w) (is
       rw (put, was, is) (sym (decide-accepts (swapTests (state w es) p) (swap (state w es) p) (state w es) (lt-leb _ _ named, (not-at _ 33 (rw is at turn), tt))))
 
   pub sync-is : (vs : Versions) (v : List ℕ) (mark : ℕ) → y .place ≡ 34 → vs .isLast (version w) ≡ false → mark ≡ vs .markAt (version w)
-      → v ≡ withPublisher w p (y atPlace 35 walk≔ newWalk mark)
+      → v ≡ withPublisher w p (y atPlace 35 walk≔ newWalk (y .walk) mark)
       → (es : List ℤ) → outcome (Synced mark) (state v es) ≡ decide (syncTests vs (state w es) p) (sync vs (state w es) p) (state w es)
   sync-is vs v mark turn room marked put es =
       rw (put, marked, is) (sym (decide-accepts (syncTests vs (state w es) p) (sync vs (state w es) p) (state w es) (lt-leb _ _ named, (not-at _ 34 (rw is at turn), (room, tt)))))

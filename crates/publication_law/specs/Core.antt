@@ -453,7 +453,7 @@ module _ (h : Model) (t : Told) (n m cur : ℕ) (rpl rpk ppl pcl : ℕ → ℕ) 
       none-told q true d = absurd (nh q (hold-of q x d))
       none-told q false d = d
 
--- At the start: no sections, nothing held, and the entries of slot 0 are the first table.
+-- At the start: nothing picked, nothing held, and the entries of slot 0 are the first table.
 pub fresh-core : (first : List ℤ) (n m : ℕ) (E : ℕ → ℕ → ℤ) → length first ≡ TABLE → ((k : ℕ) → k < TABLE → entry first k ≡ some (E 0 k))
     → Core (model₀ first) told₀ n m 0 (λ r. 0) (λ r. 0) (λ p. 0) (λ p. 0) (λ p x. false) E
 fresh-core first n m E len table = record {

@@ -104,11 +104,11 @@ module _ (D : Detector) where
       }
 
     pub sync-good : (p : ℕ) → AllClear (syncTests (K .versions) s p)
-        → (let y : Publisher = publisher s p atPlace 35 walk≔ newWalk (K .versions .markAt (version (s .words))) in
+        → (let y : Publisher = publisher s p atPlace 35 walk≔ newWalk (publisher s p .walk) (K .versions .markAt (version (s .words))) in
         law .own (readers (s .words)) y ≡ false → D .passed y ≡ 0 → ((r : ℕ) → 4 ≤ reader s r .place → D .Behind (readers (s .words)) (reader s r) y r)
         → Good K (OwnOf D) z (advance g (Sync p) (Synced (K .versions .markAt (version (s .words))))) (sync (K .versions) s p .after))
     sync-good p f clear none open-behind =
-        let y : Publisher = publisher s p atPlace 35 walk≔ newWalk (K .versions .markAt (version (s .words))) in record {
+        let y : Publisher = publisher s p atPlace 35 walk≔ newWalk (publisher s p .walk) (K .versions .markAt (version (s .words))) in record {
           shared = sync-keeps K law z g s (i .shared) p f clear;
           own = moved-own g (advance g (Sync p) (Synced (K .versions .markAt (version (s .words))))) s _ (s .entries) p y _ _ _ (i .own) (publisher-moves (i .shared .every .fine) p y (leb-false _ _ (f .0))) (λ q r e. rw e refl)
               (λ r. rw (same p) (λ e. open-behind r (leb-true 4 (reader s r .place) (sym (i .shared .grace .inside-is r) ∙ e)))) (λ l. rw none refl) (i .own .readers-are);

@@ -107,12 +107,12 @@ module _ (K : Kind) (law : KindLaw K) (z : Given) (g : Ghost) (s : State) (i : G
   late-slots p pl low new = late-core _ _ _ _ _ _ _ _ _ _ _ (i .every .core) p pl _ _ (λ a b. omega arith) (λ a b. omega arith) (λ y. former-same (publisher s p .place) pl (publisher s p .held) y low new)
 
   pub sync-keeps : (p : ℕ) → AllClear (syncTests (K .versions) s p)
-      → law .own (readers (s .words)) (publisher s p atPlace 35 walk≔ newWalk (K .versions .markAt (version (s .words)))) ≡ false
+      → law .own (readers (s .words)) (publisher s p atPlace 35 walk≔ newWalk (publisher s p .walk) (K .versions .markAt (version (s .words)))) ≡ false
       → GraceInvariant K z (advance g (Sync p) (Synced (K .versions .markAt (version (s .words))))) (sync (K .versions) s p .after)
   sync-keeps p f clear =
       let lt = leb-false (publishers (s .words)) p (f .0) in
       let at34 = eqb-true (publisher s p .place) 34 (not-false _ (f .1 .0)) in
-      let y : Publisher = publisher s p atPlace 35 walk≔ newWalk (K .versions .markAt (version (s .words))) in
+      let y : Publisher = publisher s p atPlace 35 walk≔ newWalk (publisher s p .walk) (K .versions .markAt (version (s .words))) in
       let ok = publisher-undamaged law (readers (s .words)) (slots (s .words)) y clear (record {
         held-below = λ _. publisher-fine p lt .held-below (omega arith);
         mark-fits = λ _. law .versions-law .mark-fits (version (s .words)) (i .every .fine .head .version-fits) (f .1 .1 .0);

@@ -1,4 +1,4 @@
--- Demand 3 and its companions of a kind with the ten calls, from what only that kind can show: its own invariant, and that its
+-- Demand 3 and its companions of a kind with sections, SYNC and WALK, from what only that kind can show: its own invariant, and that its
 -- ENTER, LEAVE, SYNC, RAISE and WALK keep it. Assumes nothing.
 use Prim.Native.Nat.{ℕ, _+_, _%_, _<_, _≤_}
 use native.Mathlib.Omega.{arith}
@@ -17,7 +17,7 @@ use Rattle.calls.specs.declared.Reply.{Reply}
 use Rattle.calls.specs.declared.Reply.the-variants.{Made, At, Left, Synced, Walked, Freed, Refused}
 use Rattle.calls.specs.declared.WalkReply.the-variants.{Spent, Returned}
 use Rattle.calls.specs.Numbers.{READERS-MAX, FEATHERED, NUMBER-MAX, NOT-READING, MODULUS, DAMAGED}
-use Rattle.calls.specs.RowLaws.{clash, neither, negated, within, AllClear, allAbove, all-above}
+use Rattle.calls.specs.RowLaws.{clash, not-both, neither, negated, within, AllClear, allAbove}
 use Rattle.calls.specs.AnswerLaws.{Proper}
 use Rattle.calls.specs.Events.{accepted}
 use Rattle.calls.specs.Events.Event.{_⇒_}
@@ -47,7 +47,7 @@ use Rattle.publication_law.specs.KindLaw.{KindLaw, places, fine-publishe
 use Rattle.publication_law.specs.Keeps.{claim-keeps, write-keeps, swap-keeps, slots-right, picks-right, table-right, placed, idle-told, former-told}
 use Rattle.publication_law.specs.Served.{SharedCalls, named-reader, named-publisher, look-turn, claim-turn, write-turn, swap-turn, look-shelf, claim-safe, looks-on, claims-on, refused-busy, writes-on, swaps-on}
 use Rattle.publication_law.specs.GraceKeeps.{early-keeps, release-keeps, released-in-order, idle-empty, publisher-fine, made-invariant}
-use Rattle.publication_law.specs.TableLaws.{Acted, ActLaws, only-damaged}
+use Rattle.publication_law.specs.TableLaws.{Acted, ActLaws, row-numbers, only-damaged}
 use Rattle.publication_law.specs.Calls.{step-undamaged, undamaged-fine}
 use Rattle.publication_law.specs.Decide.{raise-split, decided, decide-accepts}
 use Rattle.publication_law.specs.Frames.{same-framed, reader-framed, claim-framed, write-framed, swap-framed, sync-framed, raise-framed, walk-framed, release-framed}
@@ -61,6 +61,7 @@ pub record Lawful (R : Rules) (T : GraceTraits) : Type 1 where
   pub kind-law : KindLaw (R .kind)
   -- what is said of the kind beside its rules
   pub first-is : T .every .first ≡ (λ z. firstTable)
+  pub lacks-is : (c : Call) → T .every .lacks c ≡ false
   pub exclusive-is : T .every .exclusive ≡ R .exclusive
   pub successor-is : T .successor ≡ R .kind .versions .markAt
   pub raises-in : (x : Phase) → T .every .raisesIn x ≡ R .raisesAt (firstPlace x)
@@ -162,7 +163,7 @@ module _ (R : Rules) (T : GraceTraits) (L : Lawful R T) where
   act-laws-of = record { numbers = λ s c _. numbers s c; making-numbers = λ g s. refl; acts = acted; writes = writes-right }
 
   all-numbers : (s : State) (c : Call) → allAbove 0 (rows (tableBy R) s c) ≡ true
-  all-numbers s c = all-above DAMAGED 0 (omega arith) (tableBy R .tests s c) (numbers s c)
+  all-numbers s c = row-numbers (λ s. T .publishes) (tableBy R) act-laws-of s c refl
 
   -- Each step keeps the invariant.
   module _ (z : Given) (g : Ghost) (s : State) (i : Good (R .kind) (L .Own) z g s) where
@@ -332,6 +333,7 @@ module _ (R : Rules) (T : GraceTraits) (L : Lawful R T) where
     state-companions : StateCompanions (machine (tableBy R)) (T .every) z (g .model) (g .told) (g .tally) s
     state-companions = record {
       undamaged = λ c _. not-damaged c;
+      lacked = λ c lacks. absurd (not-both _ lacks (L .lacks-is c));
       in-turn = turn-right;
       looks = looks-on (R .kind) z g s (i .shared .every) (R .exclusive) (machine (tableBy R)) shared-calls;
       claims = rw (L .exclusive-is) (claims-on (R .kind) z g s (i .shared .every) (R .exclusive) (machine (tableBy R)) shared-calls);

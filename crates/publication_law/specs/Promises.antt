@@ -1,4 +1,4 @@
--- What is promised of a kind with the ten calls, in one record; and the facts of a WALK that every kind has. Assumes nothing.
+-- What is promised of a kind with sections, SYNC and WALK, in one record; and the facts of a WALK that every kind has. Assumes nothing.
 use Prim.Native.Nat.{ℕ, _<_, _≤_}
 use native.Mathlib.Omega.{arith}
 use mathlib.Core.Path.{_≡_, refl, sym, ap, _∙_}
@@ -17,7 +17,7 @@ use Rattle.calls.specs.RowLaws.{clash, not-both, pick-split}
 use Rattle.calls.specs.AnswerLaws.{NarrowPitch, Proper}
 use Rattle.calls.specs.Events.{accepted}
 use Rattle.layout.specs.declared.Progress.{Progress}
-use Rattle.layout.specs.Layout.{VERSION-AT, publishers, version, noWalk}
+use Rattle.layout.specs.Layout.{VERSION-AT, publishers, version}
 use Rattle.layout.specs.Records.{_atPlace_, _walk≔_, _mark≔_, _next≔_, _looks≔_, _waits≔_}
 use Rattle.statement.specs.Machine.{State, Outcome, Given, Fresh, afterAll}
 use Rattle.statement.specs.Demand3.{Demand3}
@@ -32,13 +32,13 @@ use Rattle.publication_law.specs.KindLaw.{fine-publisher}
 use Rattle.publication_law.specs.Moves.{publisher-moves, publisher-moves-head, publisher-written}
 use Rattle.publication_law.specs.Frames.{walk-record}
 use Rattle.publication_law.specs.Decide.{decided}
-use Rattle.publication_law.specs.TableLaws.{refused-leaves-of-table, frame-of-table, proper-of-table, proper-making-of-table}
+use Rattle.publication_law.specs.TableLaws.{refused-leaves-of-acts, frame-of-table, proper-of-table, proper-making-of-table}
 use Rattle.publication_law.specs.Lawful.{Lawful, demand3-of, companions-of, never-damaged-of, act-laws-of, making-accepts-of, makes-fresh-of, walk-zero-of}
 
 -- SYNC: the reply is the mark that it stores, the version's successor; next, looks and waits are 0.
 pub record SyncFacts (successor : ℕ → ℕ) (s : State) (p : ℕ) (o : Outcome) : Type 0 where
   pub reply-is : o .reply ≡ Synced (successor (version (s .words)))
-  pub record-is : publisher (o .after) p ≡ publisher s p atPlace 35 walk≔ (noWalk mark≔ (successor (version (s .words))) next≔ 0 looks≔ 0 waits≔ 0)
+  pub record-is : publisher (o .after) p ≡ publisher s p atPlace 35 walk≔ (publisher s p .walk mark≔ (successor (version (s .words))) next≔ 0 looks≔ 0 waits≔ 0)
 
 -- RAISE: raised exactly if the version was one before the mark, and the version then is the mark; else shared, and the version stays. Place 37 either way.
 pub record RaiseFacts (successor : ℕ → ℕ) (s : State) (p : ℕ) (o : Outcome) : Type 0 where
@@ -110,7 +110,7 @@ promises-of R T L = record {
   companions = companions-of R T L;
   never-damaged = never-damaged-of R T L;
   making-accepts = making-accepts-of R T L;
-  refused-leaves = refused-leaves-of-table (λ s. T .publishes) (tableBy R) (act-laws-of R T L);
+  refused-leaves = refused-leaves-of-acts (λ s. T .publishes) (tableBy R) (act-laws-of R T L);
   frame = frame-of-table (λ s. T .publishes) (tableBy R) (act-laws-of R T L);
   makes-fresh = makes-fresh-of R T L;
   sync-facts = sync-facts-of R T L;

@@ -17,7 +17,7 @@ use Rattle.layout.specs.declared.Reader.{Reader}
 use Rattle.layout.specs.declared.Publisher.{Publisher}
 use Rattle.layout.specs.declared.Walk.{Walk}
 use Rattle.layout.specs.declared.Progress.{Progress}
-use Rattle.layout.specs.Layout.{WORDS, readers, publishers, slots, current, version, releases, withCurrent, withVersion, withReleases, readerAt, publisherAt, withPublisher, noWalk, fresh, entryAt}
+use Rattle.layout.specs.Layout.{WORDS, readers, publishers, slots, current, version, releases, withCurrent, withVersion, withReleases, readerAt, publisherAt, withPublisher, fresh, entryAt}
 use Rattle.layout.specs.Records.{_atPlace_, _held≔_, _walk≔_, _mark≔_, _next≔_, _looks≔_, _waits≔_}
 use Rattle.statement.specs.Machine.{State, state, Outcome, outcome, Given, heldSlot}
 
@@ -132,12 +132,12 @@ abbrev pub syncTests : Versions → State → ℕ → List Test
 syncTests vs s p =
     noSuchPublisher s p ∷ publisherTurn (not (eqb (publisher s p .place) 34)) ∷ (vs .isLast (version (s .words)) gives VERSION-IS-LAST) ∷ []
 
-abbrev pub newWalk : ℕ → Walk
-newWalk m = noWalk mark≔ m next≔ 0 looks≔ 0 waits≔ 0
+abbrev pub newWalk : Walk → ℕ → Walk
+newWalk k m = k mark≔ m next≔ 0 looks≔ 0 waits≔ 0
 
 abbrev pub sync : Versions → State → ℕ → Outcome
 sync vs s p = outcome (Synced (vs .markAt (version (s .words))))
-    (putPublisher s p (publisher s p atPlace 35 walk≔ newWalk (vs .markAt (version (s .words)))))
+    (putPublisher s p (publisher s p atPlace 35 walk≔ newWalk (publisher s p .walk) (vs .markAt (version (s .words)))))
 
 -- RAISE p (at which place is each kind's own): if version = mark - 1 it becomes mark, reply raised; otherwise reply shared. Place 37 either way.
 abbrev pub raiseTests : (ℕ → Bool) → State → ℕ → List Test

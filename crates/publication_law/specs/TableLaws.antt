@@ -43,6 +43,15 @@ module _ (T : Table) where
   unfolding making
   making-leaves g s n = decide-leaves (T .makingRows g s) (outcome Made (T .fresh g s)) s n refl
 
+  -- Where no act refuses by itself, a refused call changes nothing.
+  pub refused-leaves-of-table : ((s : State) (c : Call) → firstOf (rows T s c) ≡ 0 → accepted (T .act s c .reply) ≡ true) → RefusedLeaves (machine T)
+  unfolding step
+  refused-leaves-of-table accepts = record {
+    step = λ s c n. pick-split (λ (o : Outcome). o .reply ≡ Refused n → o .after ≡ s) (eqb (firstOf (rows T s c)) 0)
+        (λ z e. absurd (not-both _ (accepts s c (eqb-true _ 0 z)) (rw e refl))) (λ _ _. refl);
+    making = making-leaves;
+  }
+
 -- What a call to which no row applies shows of itself.
 pub record Acted (publishes : Bool) (s : State) (c : Call) (o : Outcome) : Type 0 where
   -- it is accepted, and a pitch that it replies is an entry
@@ -61,7 +70,7 @@ pub record ActLaws (publishes : State → Bool) (T : Table) : Type 0 where
   pub writes : (s : State) (p : ℕ) (v : ℤ) → AllClear (rows T s (Write p v)) → Writes s p v (T .act s (Write p v))
 
 module _ (publishes : State → Bool) (T : Table) (L : ActLaws publishes T) where
-  row-numbers : (s : State) (c : Call) → T .lacks c ≡ false → allAbove 0 (rows T s c) ≡ true
+  pub row-numbers : (s : State) (c : Call) → T .lacks c ≡ false → allAbove 0 (rows T s c) ≡ true
   row-numbers s c e = all-above DAMAGED 0 (omega arith) (T .tests s c) (L .numbers s c e)
 
   -- A call is its act, where no row applies; or it is refused with a number from 1 to 99 and changes nothing.
@@ -74,18 +83,22 @@ module _ (publishes : State → Bool) (T : Table) (L : ActLaws publishes T) wher
       go false e = pick-split Q (eqb (firstOf (rows T s c)) 0) (λ z. f (clear (rows T s c) (row-numbers s c e) (eqb-true _ 0 z)))
           (λ z. let ne = eqb-false (firstOf (rows T s c)) 0 z in g (firstOf (rows T s c)) ne (first-within 0 (rows T s c) (row-numbers s c e) ne .1))
 
-  -- A refused call changes nothing, and a refused making leaves what was lent.
-  pub refused-leaves-of-table : RefusedLeaves (machine T)
-  refused-leaves-of-table = record {
-    step = λ s c n. by-rows (λ (o : Outcome). o .reply ≡ Refused n → o .after ≡ s) s c (λ f e. absurd (not-both _ (L .acts s c f .accepts) (rw e refl))) (λ m _ _ _. refl);
-    making = making-leaves T;
-  }
+  -- No act refuses by itself, so a refused call changes nothing.
+  acts-accept : (s : State) (c : Call) → firstOf (rows T s c) ≡ 0 → accepted (T .act s c .reply) ≡ true
+  acts-accept s c e = go (T .lacks c) refl
+    where
+      go : (b : Bool) → T .lacks c ≡ b → accepted (T .act s c .reply) ≡ true
+      go true lacks = absurd (let y : firstOf (rows T s c) ≡ DAMAGED = rw lacks refl in omega (arith, e, y))
+      go false has = L .acts s c (clear (rows T s c) (row-numbers s c has) e) .accepts
+
+  pub refused-leaves-of-acts : RefusedLeaves (machine T)
+  refused-leaves-of-acts = refused-leaves-of-table T acts-accept
 
   -- A call that the kind has gets 1 from a spoiled store alone.
   pub only-damaged : (s : State) (c : Call) → T .lacks c ≡ false → damaged T s ≡ false → step T s c .reply ≢ Refused DAMAGED
   unfolding step
   only-damaged s c has clean = pick-split (λ (o : Outcome). o .reply ≢ Refused DAMAGED) (eqb (firstOf (rows T s c)) 0)
-      (λ z e. not-both _ (L .acts s c (clear (rows T s c) (row-numbers s c has) (eqb-true _ 0 z)) .accepts) (rw e refl))
+      (λ z e. not-both _ (acts-accept s c (eqb-true _ 0 z)) (rw e refl))
       (λ z e.
       let is : firstOf (rows T s c) ≡ DAMAGED = cc in
       let own : firstOf (T .tests s c) ≡ DAMAGED = rw (has, clean) at is in

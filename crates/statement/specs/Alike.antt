@@ -82,6 +82,7 @@ module _ (M N : Machine) where
     state-same : (T : Traits) → StateCompanions M T g h t y s → StateCompanions N T g h t y s
     state-same T x = record {
       undamaged = λ c has. rw (e c) (x .undamaged c has);
+      lacked = λ c lacks. rw (e c) (x .lacked c lacks);
       in-turn = λ c. rw (e c) (x .in-turn c);
       looks = λ r k. rw (e (Look r k)) (x .looks r k);
       claims = λ p z. rw (e (Claim p z)) (x .claims p z);

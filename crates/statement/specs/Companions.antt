@@ -22,7 +22,7 @@ use Rattle.calls.specs.Told.Role.{free}
 use Rattle.calls.specs.Tally.{Phase, Tally, tallyOf}
 use Rattle.calls.specs.Tally.Phase.{idle, writing, swapped, raised, returned}
 use Rattle.layout.specs.Layout.{WORDS, readers, publishers, slots, current, version, releases, indicator, noPublisher, blankReader, readerAt, publisherAt}
-use Rattle.statement.specs.Machine.{State, Given, Machine, Fresh, events, afterAll}
+use Rattle.statement.specs.Machine.{State, outcome, Given, Machine, Fresh, events, afterAll}
 
 -- In what the kinds differ here.
 pub record Traits : Type 0 where
@@ -93,8 +93,9 @@ InTurn T h y (Release p) = y .phase p ≡ returned
 
 -- What holds of a state after a list of calls that told h, t and y.
 pub record StateCompanions (M : Machine) (T : Traits) (g : Given) (h : Model) (t : Told) (y : Tally) (s : State) : Type 0 where
-  -- never damaged: no call that the kind has is refused with 1
+  -- never damaged: no call that the kind has is refused with 1, and every call that it lacks is, and changes nothing
   pub undamaged : (c : Call) → T .lacks c ≡ false → M .step s c .reply ≢ Refused DAMAGED
+  pub lacked : (c : Call) → T .lacks c ≡ true → M .step s c ≡ outcome (Refused DAMAGED) s
   -- order: a call is accepted in its turn alone
   pub in-turn : (c : Call) → accepted (M .step s c .reply) ≡ true → InTurn T h y c
   -- LOOK is accepted after the pick

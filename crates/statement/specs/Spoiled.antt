@@ -9,7 +9,6 @@ use Rattle.calls.specs.declared.Call.{Call}
 use Rattle.calls.specs.declared.Call.the-variants.{Enter, Claim}
 use Rattle.calls.specs.declared.Reply.{Reply}
 use Rattle.calls.specs.declared.Reply.the-variants.{At, Claimed, Refused}
-use Rattle.calls.specs.Numbers.{FEATHERED, NOT-READING}
 use Rattle.layout.specs.declared.Reader.{Reader}
 use Rattle.layout.specs.declared.Publisher.{Publisher}
 use Rattle.layout.specs.Layout.{READERS-AT, PUBLISHERS-AT, SLOTS-AT, withCurrent, withVersion, withIndicator, withReader, withPublisher, noReader, noPublisher, noWalk}
@@ -64,7 +63,7 @@ times zero l = []
 times (suc n) l = l ++ times n l
 
 abbrev pub spelled : ℕ → State
-spelled kind = state (kind ∷ 1 ∷ 1 ∷ 2 ∷ 0 ∷ 0 ∷ 0 ∷ 0 ∷ 0 ∷ times 64 (0 ∷ 0 ∷ 0 ∷ NOT-READING ∷ 0 ∷ []) ++ times 16 (0 ∷ 0 ∷ 0 ∷ 0 ∷ 0 ∷ 0 ∷ [])) (replicate 64 FEATHERED)
+spelled kind = state (kind ∷ 1 ∷ 1 ∷ 2 ∷ 0 ∷ 0 ∷ 0 ∷ 0 ∷ 0 ∷ times 64 (0 ∷ 0 ∷ 0 ∷ 18446744073709551615 ∷ 0 ∷ []) ++ times 16 (0 ∷ 0 ∷ 0 ∷ 0 ∷ 0 ∷ 0 ∷ [])) (replicate 64 (pos 9000))
 
 -- The five numbers of a reader and the six of a publisher, in the layout's order.
 abbrev pub readerAs : (place first second published picked : ℕ) → Reader

@@ -252,6 +252,7 @@ pub lawful : Lawful fixed traits
 lawful = record {
   kind-law = law;
   first-is = refl;
+  lacks-is = λ c. refl;
   exclusive-is = refl;
   successor-is = refl;
   raises-in = λ x. refl;

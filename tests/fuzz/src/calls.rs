@@ -123,7 +123,7 @@ impl Played<'_> {
     /// A making; three times in four beside entries of the length due.
     fn making(&mut self) -> Call {
         let kind = match self.bytes.byte() {
-            byte @ 0..=199 => KINDS[usize::from(byte % 2)].number() as u16,
+            byte @ 0..=199 => KINDS[usize::from(byte) % KINDS.len()].number() as u16,
             byte @ 200..=249 => u16::from(byte) - 200,
             _ => self.bytes.wide(),
         };

@@ -1,4 +1,4 @@
--- The pitch is read as the definition reads it, and is the same number in 16 bits. Assumes nothing.
+-- The pitch is read as the definition reads it, and is the same number in its bits. Assumes nothing.
 use borrow.Author.Needs.{needs}
 use mathlib.Core.Path.{sym, ap, _∙_}
 use Rattle.calls.specs.PitchLaws.{pitch-back}
