@@ -1,4 +1,4 @@
-/* The door of the stores by hand: each call by the kind word, all in one translation unit, so that the compiler may put the kinds' calls into it. */
+/* The entry points of the stores by hand: each call by the kind word, all in one translation unit, so that the compiler may put the kinds' calls into them. */
 #include "baseline.h"
 #include "store.h"
 

@@ -1,4 +1,4 @@
-/* The stores by hand in C, behind one door as the proved ones are: c_enter is to rahuvyte_enter what the rest is to the rest.
+/* The stores by hand in C, with entry points of the same form as the proved ones: c_enter for rahuvyte_enter, and so on.
    Same words, same entries, same refusals, same replies. */
 #ifndef BASELINE_H
 #define BASELINE_H
