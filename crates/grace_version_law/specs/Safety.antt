@@ -29,8 +29,8 @@ use Rattle.statement.specs.Kept.{Ghost, Back}
 use Rattle.statement.specs.Kept as kept
 use Rattle.publication_law.specs.Steps.{reader, publisher, enterTests, leaveTests, syncTests, sync, raise, walk, newWalk, placeAfter, made}
 use Rattle.publication_law.specs.Damage.{publisherRows}
-use Rattle.publication_law.specs.Core.{Onward}
-use Rattle.publication_law.specs.Core.Onward.{stays-out, opens, picks}
+use Rattle.publication_law.specs.Onward.{Onward}
+use Rattle.publication_law.specs.Onward.Onward.{stays-out, opens, picks}
 use Rattle.publication_law.specs.Moves.{reader-moves}
 use Rattle.publication_law.specs.KindLaw.{KindLaw, up-to-law}
 use Rattle.publication_law.specs.Frames.{place-and-one}

@@ -3,7 +3,7 @@ use Prim.Native.Nat.{ℕ, _+_, _-_, _*_, _<_, _≤_}
 use native.Mathlib.Omega.{arith}
 use mathlib.Core.Path.{_≡_, refl, sym, ap, _∙_, subst, fun-ext}
 use mathlib.Core.Logic.{_≢_}
-use mathlib.Core.Bool.{Bool, true, false, not}
+use mathlib.Core.Bool.{Bool, true, false}
 use mathlib.Core.List.{List}
 use mathlib.Core.Option.{some}
 use lib.IntN.{ℤ, pos}
@@ -32,12 +32,14 @@ use Rattle.publication_law.specs.Steps.{reader, publisher, lookTests, cl
 use Rattle.publication_law.specs.Clear.{MakingClear, ClaimClear}
 use Rattle.publication_law.specs.Damage.{Kind}
 use Rattle.publication_law.specs.DamageLaws.{Fine}
-use Rattle.publication_law.specs.Core.{Hold, claim-core, swap-core, write-core, held-is, held-bound, role-core, safe-core, free-core, fresh-core}
+use Rattle.publication_law.specs.Core.{Hold}
+use Rattle.publication_law.specs.CoreLaws.{claim-core, swap-core, write-core, held-is, held-bound, role-core, safe-core, free-core, fresh-core}
 use Rattle.publication_law.specs.Single.{former-early, former-swap, single, single-free}
-use Rattle.publication_law.specs.Phases.{phase-writing, InPhase, in-phase, move-phases, stay-phases, fresh-phases}
+use Rattle.publication_law.specs.PhaseLaws.{phase-writing, InPhase, in-phase, move-phases, stay-phases, fresh-phases}
 use Rattle.publication_law.specs.Entries.{slotEntry, set-entry, entry-same, slot-same}
 use Rattle.publication_law.specs.Moves.{publisher-moves, publisher-moves-head}
-use Rattle.publication_law.specs.Invariant.{formers, Invariant, publisher-moved}
+use Rattle.publication_law.specs.Invariant.{formers, Invariant}
+use Rattle.publication_law.specs.InvariantLaws.{publisher-moved}
 
 module _ (K : Kind) (z : Given) (g : Ghost) (s : State) (i : Invariant K z g s) where
   -- A slot that is not in use is held by nobody.

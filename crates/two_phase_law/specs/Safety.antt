@@ -28,8 +28,8 @@ use Rattle.statement.specs.Kept.{Ghost, Back}
 use Rattle.statement.specs.Kept as kept
 use Rattle.publication_law.specs.Steps.{reader, publisher, enterTests, leaveTests, syncTests, sync, raise, walk, placeAfter, made}
 use Rattle.publication_law.specs.DamageLaws.{Fine}
-use Rattle.publication_law.specs.Core.{Onward}
-use Rattle.publication_law.specs.Core.Onward.{stays-out, opens, picks}
+use Rattle.publication_law.specs.Onward.{Onward}
+use Rattle.publication_law.specs.Onward.Onward.{stays-out, opens, picks}
 use Rattle.publication_law.specs.Moves.{MovesReader, reader-moves, reader-moves-indicator}
 use Rattle.publication_law.specs.KindLaw.{KindLaw, up-to-law}
 use Rattle.publication_law.specs.Frames.{place-and-one}
