@@ -139,7 +139,7 @@ begins g j = g .start + g .stride * j
 abbrev pub ends : {A : Type 0} → Region A → ℕ
 ends g = begins g (g .count)
 
--- Record j of a region; a number beyond the records has none, and reads as 0. And the words with record j anew.
+-- Record j of a region; a number beyond the records has none, and reads as 0. And the words with record j replaced.
 abbrev pub recordAt : {A : Type 0} → Region A → List ℕ → ℕ → A
 recordAt g w j = pick (ltb j (g .count)) (g .from (λ i. getD w (begins g j + i) 0)) (g .from (λ i. 0))
 
@@ -153,7 +153,7 @@ readerRegion = record { start = HEAD; stride = READER-WORDS; count = READERS-MAX
 abbrev pub publisherRegion : Region Publisher
 publisherRegion = record { start = FIRST-PUBLISHER; stride = PUBLISHER-WORDS; count = PUBLISHERS-MAX; from = publisherOf; words = publisherWords }
 
--- Reader r and publisher p, and the words with one of them anew.
+-- Reader r and publisher p, and the words with one of them replaced.
 unfoldable pub readerAt : List ℕ → ℕ → Reader
 readerAt w r = recordAt readerRegion w r
 
@@ -166,7 +166,7 @@ withReader w r x = withRecord readerRegion w r x
 unfoldable pub withPublisher : List ℕ → ℕ → Publisher → List ℕ
 withPublisher w p x = withRecord publisherRegion w p x
 
--- The words with each of the first n readers anew.
+-- The words with each of the first n readers replaced.
 unfoldable pub withReaders : ℕ → List ℕ → Reader → List ℕ
 withReaders zero w x = w
 withReaders (suc n) w x = withReader (withReaders n w x) n x
