@@ -1,6 +1,7 @@
 -- Where each number of a store stands among its words: a head of 9, 64 readers of 5, 16 publishers of 6. docs/LAYOUT.md has the table.
 use Prim.Native.Nat.{ℕ, zero, suc, _+_, _*_}
 use mathlib.Core.List.{List, [], _∷_}
+use lib.IntN.{ℤ, pos}
 use lib.ListN.{getD, set, replicate}
 use lib.Dec.{ltb}
 use Rattle.layout.specs.declared.Reader.{Reader}
@@ -178,3 +179,7 @@ fresh k rs ps ss v x = set (set (set (set (set (withReaders READERS-MAX (replica
 -- Entry k of slot s is at s × 32 + k.
 abbrev pub entryAt : ℕ → ℕ → ℕ
 entryAt s k = s * TABLE + k
+
+-- Entry k of slot s, and 0 where there is none.
+abbrev pub slotEntry : List ℤ → ℕ → ℕ → ℤ
+slotEntry es s k = pick (ltb k TABLE) (getD es (entryAt s k) (pos 0)) (pos 0)

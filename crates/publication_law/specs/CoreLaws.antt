@@ -2,7 +2,7 @@
 -- A move of one reader or publisher leaves the others as they are, and the slot that it takes nobody held. Assumes nothing.
 -- h is the model, t what is told, n and m the numbers of readers and publishers, cur the current slot; rpl and rpk are the readers' places and picks,
 -- ppl and pcl the publishers' places and claimed slots, F their former slots, E the entries.
-use Prim.Native.Nat.{ℕ, zero, suc, _+_, _-_, _<_, _≤_}
+use Prim.Native.Nat.{ℕ, _+_, _-_, _<_, _≤_}
 use native.Mathlib.Omega.{arith}
 use mathlib.Core.Path.{_≡_, refl, sym, ap, _∙_}
 use mathlib.Core.Logic.{_≢_, _⊎_, inl, inr}
@@ -18,8 +18,9 @@ use Rattle.calls.specs.declared.Reply.{Reply}
 use Rattle.calls.specs.declared.Reply.the-variants.{At}
 use Rattle.calls.specs.Base.{upd, is}
 use Rattle.calls.specs.Numbers.{TABLE}
-use Rattle.calls.specs.RowLaws.{clash, not-both, or-left, or-right, or-none, or-either, same, at-or}
+use Rattle.calls.specs.RowLaws.{clash, not-both, or-left, or-right, or-none, or-either, same, at-or, found-below}
 use Rattle.calls.specs.Model.{Model, model₀, shelve, entry}
+use Rattle.calls.specs.ModelLaws.{entry-old, entry-new}
 use Rattle.calls.specs.Told.{Told, told₀, tell, holds, Role, Has}
 use Rattle.calls.specs.Told.Role.{current, heldBy, free}
 use Rattle.publication_law.specs.Core.{Hold, Safe, ReaderOk, PublisherOk, Core}
@@ -41,18 +42,7 @@ hold-map pl c F x (by-swap e) f g = g e
 hold-late : (pl c : ℕ) (F F′ : ℕ → Bool) (pl′ c′ x : ℕ) → (1 ≤ pl → pl ≤ 33 → ⊥) → ((y : ℕ) → F y ≡ true → F′ y ≡ true) → Hold pl c F x → Hold pl′ c′ F′ x
 hold-late pl c F F′ pl′ c′ x late sub o = hold-map pl c F x o (λ a b e. absurd (late a b)) (λ e. by-swap (sub x e))
 
--- Drafts.
-entry-old : (d e : List ℤ) (k : ℕ) → k < length d → entry (d ++ e) k ≡ entry d k
-entry-old [] e k l = absurd (omega arith)
-entry-old (x ∷ d) e zero l = refl
-entry-old (x ∷ d) e (suc k) l = entry-old d e k (omega arith)
-
-entry-new : (d : List ℤ) (v : ℤ) (k : ℕ) → length d ≡ k → entry (d ++ (v ∷ [])) k ≡ some v
-entry-new [] v zero l = refl
-entry-new [] v (suc k) l = absurd (omega arith)
-entry-new (x ∷ d) v zero l = absurd (omega arith)
-entry-new (x ∷ d) v (suc k) l = entry-new d v k (omega arith)
-
+-- A draft with one entry more.
 appended : (d : List ℤ) (v : ℤ) (pl : ℕ) → length d + 1 ≡ pl → (f : ℕ → ℤ) → ((k : ℕ) → k + 1 < pl → entry d k ≡ some (f k))
     → (k : ℕ) → k + 1 < pl + 1 → entry (d ++ (v ∷ [])) k ≡ some (upd f (pl - 1) v k)
 appended d v pl len f old k l = go (eqb k (pl - 1)) refl
@@ -350,22 +340,9 @@ module _ (h : Model) (t : Told) (n m cur : ℕ) (rpl rpk ppl pcl : ℕ → ℕ) 
   told-current : (x : ℕ) → is (t .current) x ≡ eqb cur x
   told-current x = rw (i .current-is) refl
 
-  find : (f : ℕ → Bool) (k : ℕ) → ((p : ℕ) × (f p ≡ true)) ⊎ ((p : ℕ) → p < k → f p ≡ false)
-  find f zero = inr (λ p lt. absurd (omega arith))
-  find f (suc k) = go (f k) refl (find f k)
-    where
-      go : (b : Bool) → f k ≡ b → ((p : ℕ) × (f p ≡ true)) ⊎ ((p : ℕ) → p < k → f p ≡ false) → ((p : ℕ) × (f p ≡ true)) ⊎ ((p : ℕ) → p < suc k → f p ≡ false)
-      go true e o = inl (k, e)
-      go false e (inl q) = inl q
-      go false e (inr q) = inr (λ p lt. at-most p lt (eqb p k) refl)
-        where
-          at-most : (p : ℕ) → p < suc k → (b : Bool) → eqb p k ≡ b → f p ≡ false
-          at-most p lt true d = rw (eqb-true p k d) e
-          at-most p lt false d = q p (let ne = eqb-false p k d in omega arith)
-
   -- Each slot has exactly one role.
   pub role-core : (x : ℕ) → (ρ : Role) × Has t x ρ × ((σ : Role) → Has t x σ → σ ≡ ρ)
-  role-core x = go (eqb cur x) refl (find (λ p. holds t p x) m)
+  role-core x = go (eqb cur x) refl (found-below (λ p. holds t p x) m)
     where
       apart : (q : ℕ) → holds t q x ≡ true → eqb cur x ≡ true → ⊥
       apart q e d = i .publishers q .apart x (hold-of q x e) (sym (eqb-true cur x d))

@@ -19,7 +19,7 @@ use Rattle.calls.specs.Tally.Phase.{idle, synchronising, quiet, raised, returne
 use Rattle.layout.specs.declared.Reader.{Reader}
 use Rattle.layout.specs.declared.Publisher.{Publisher}
 use Rattle.layout.specs.declared.Progress.{Progress}
-use Rattle.layout.specs.Layout.{VERSION-AT, RELEASES-AT, readers, publishers, slots, current, version, releases, noPublisher}
+use Rattle.layout.specs.Layout.{VERSION-AT, RELEASES-AT, readers, publishers, slots, current, version, releases, noPublisher, slotEntry}
 use Rattle.layout.specs.Records.{_atPlace_, _walk≔_}
 use Rattle.layout.specs.Laws.{fresh-head}
 use Rattle.statement.specs.Machine.{State, state, Outcome, Given}
@@ -39,7 +39,6 @@ use Rattle.publication_law.specs.Phases.{Phases}
 use Rattle.publication_law.specs.PhaseLaws.{place-phases, move-phases, stay-phases}
 use Rattle.publication_law.specs.Tallied.{Tallied}
 use Rattle.publication_law.specs.TallyLaws.{early-tallied, sync-tallied, wait-tallied, late-tallied, release-tallied, fresh-tallied}
-use Rattle.publication_law.specs.Entries.{slotEntry}
 use Rattle.publication_law.specs.Decide.{raise-split}
 use Rattle.publication_law.specs.Moves.{MovesPublisher, MovesReader, publisher-moves, publisher-moves-head}
 use Rattle.publication_law.specs.Invariant.{formerAt, formers, Invariant}

@@ -5,7 +5,7 @@ use mathlib.Core.Path.{_≡_}
 use mathlib.Core.Bool.{Bool, _&&_}
 use lib.Dec.{leb, eqb}
 use Rattle.layout.specs.declared.Publisher.{Publisher}
-use Rattle.layout.specs.Layout.{readers, publishers, slots, current}
+use Rattle.layout.specs.Layout.{readers, publishers, slots, current, slotEntry}
 use Rattle.statement.specs.Machine.{State, Given}
 use Rattle.statement.specs.Kept.{Ghost}
 use Rattle.publication_law.specs.Steps.{reader, publisher}
@@ -13,7 +13,6 @@ use Rattle.publication_law.specs.Damage.{Kind}
 use Rattle.publication_law.specs.DamageLaws.{Fine}
 use Rattle.publication_law.specs.Core.{Core}
 use Rattle.publication_law.specs.Phases.{Phases}
-use Rattle.publication_law.specs.Entries.{slotEntry}
 
 -- A publisher's former slots, which were current before its swaps: from place 34 on the one that it holds.
 abbrev pub formerAt : ℕ → ℕ → ℕ → Bool

@@ -10,7 +10,7 @@ use Rattle.calls.specs.Base.{upd}
 use Rattle.calls.specs.RowLaws.{same, at-or}
 use Rattle.layout.specs.declared.Reader.{Reader}
 use Rattle.layout.specs.declared.Publisher.{Publisher}
-use Rattle.layout.specs.Layout.{KIND-AT, READERS-AT, PUBLISHERS-AT, SLOTS-AT, CURRENT-AT, VERSION-AT, readers, publishers, slots, current, version}
+use Rattle.layout.specs.Layout.{KIND-AT, READERS-AT, PUBLISHERS-AT, SLOTS-AT, CURRENT-AT, VERSION-AT, readers, publishers, slots, current, version, slotEntry}
 use Rattle.statement.specs.Machine.{State, state, Given}
 use Rattle.statement.specs.Kept.{Ghost}
 use Rattle.publication_law.specs.Steps.{reader, publisher}
@@ -18,7 +18,6 @@ use Rattle.publication_law.specs.Damage.{Kind}
 use Rattle.publication_law.specs.DamageLaws.{HeadFine, Fine}
 use Rattle.publication_law.specs.Core.{Core}
 use Rattle.publication_law.specs.Phases.{Phases}
-use Rattle.publication_law.specs.Entries.{slotEntry}
 use Rattle.publication_law.specs.Moves.{MovesPublisher, publisher-field, MovesReader, reader-field}
 use Rattle.publication_law.specs.Invariant.{formers, Sized, Invariant}
 

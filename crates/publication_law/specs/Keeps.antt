@@ -16,13 +16,15 @@ use Rattle.calls.specs.Base.{pick}
 use Rattle.calls.specs.Numbers.{READERS-MAX, TABLE, FEATHERED}
 use Rattle.calls.specs.RowLaws.{not-both, or-false, within, none-below, no-below, pick-split, same, AllClear}
 use Rattle.calls.specs.Model.{entry, firstTable}
+use Rattle.calls.specs.ModelLaws.{entry-same}
 use Rattle.calls.specs.Told.{holds, Has}
 use Rattle.calls.specs.Told.Role.{free}
 use Rattle.calls.specs.Tally.{Phase}
 use Rattle.calls.specs.Tally.Phase.{idle, writing, swapped}
 use Rattle.layout.specs.declared.Reader.{Reader}
 use Rattle.layout.specs.declared.Publisher.{Publisher}
-use Rattle.layout.specs.Layout.{HEAD, KIND-AT, READERS-AT, PUBLISHERS-AT, SLOTS-AT, CURRENT-AT, VERSION-AT, readers, publishers, slots, current, entryAt, fresh, noReader, noPublisher}
+use Rattle.layout.specs.Layout.{HEAD, KIND-AT, READERS-AT, PUBLISHERS-AT, SLOTS-AT, CURRENT-AT, VERSION-AT, readers, publishers, slots, current, entryAt, fresh, noReader, noPublisher, slotEntry}
+use Rattle.layout.specs.Entries.{set-entry, slot-same}
 use Rattle.layout.specs.Records.{_atPlace_, _held≔_}
 use Rattle.layout.specs.Laws.{fresh-long, fresh-head, fresh-reader, fresh-publisher}
 use Rattle.statement.specs.Machine.{State, Given, heldSlot}
@@ -36,7 +38,6 @@ use Rattle.publication_law.specs.Core.{Hold}
 use Rattle.publication_law.specs.CoreLaws.{claim-core, swap-core, write-core, held-is, held-bound, role-core, safe-core, free-core, fresh-core}
 use Rattle.publication_law.specs.Single.{former-early, former-swap, single, single-free}
 use Rattle.publication_law.specs.PhaseLaws.{phase-writing, InPhase, in-phase, move-phases, stay-phases, fresh-phases}
-use Rattle.publication_law.specs.Entries.{slotEntry, set-entry, entry-same, slot-same}
 use Rattle.publication_law.specs.Moves.{publisher-moves, publisher-moves-head}
 use Rattle.publication_law.specs.Invariant.{formers, Invariant}
 use Rattle.publication_law.specs.InvariantLaws.{publisher-moved}

@@ -20,7 +20,6 @@ pub mod GraceLaws
 pub mod TallyLaws
 pub mod GraceInvariantLaws
 pub mod Single
-pub mod Entries
 pub mod Moves
 pub mod Keeps
 pub mod Served
