@@ -1,6 +1,5 @@
 // The two stores as a Rattle program uses them: by value, every call a method that hands the store back with its reply.
 // Each reply is a line of standard output in the run sheet's words, in the order of the calls; of a table's 32 WRITEs the last alone. The file stdout has what is expected, worked out by hand from document 01.
-// It uses grace_version, two_phase and calls, and io and libc to write; nothing uses it.
 ghost use mathlib.Core.Path.{_≡_};
 ghost use lib.IntN.{natAbs};
 use calls::Pitch;

@@ -1,4 +1,4 @@
--- Choice by a test, and functions of a number with one value anew.
+-- Choice by a test, and functions of a number with one value replaced.
 use Prim.Native.Nat.{ℕ}
 use mathlib.Core.Bool.{Bool, true, false}
 use mathlib.Core.Option.{Option, none, some}

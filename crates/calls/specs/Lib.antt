@@ -4,6 +4,7 @@ pub mod PitchLaws
 pub mod Rows
 pub mod Events
 pub mod Model
+pub mod ModelLaws
 pub mod Told
 pub mod Tally
 pub mod Answer

@@ -3,12 +3,12 @@ use Prim.Native.Nat.{ℕ, zero, suc, _+_, _<_, _≤_}
 use native.Mathlib.Omega.{arith}
 use native.Mathlib.Numerals.{add-one}
 use mathlib.Core.Path.{_≡_, refl, sym, subst}
-use mathlib.Core.Logic.{_≢_}
+use mathlib.Core.Logic.{_≢_, _⊎_, inl, inr}
 use mathlib.Core.Bool.{Bool, true, false, not, _&&_, _||_}
 use mathlib.Core.List.{List, [], _∷_}
 use lib.Dec.{ltb, eqb}
-use borrow.Author.Tests.{eqb-true, eqb-false, eq-eqb, ltb-true, ltb-false, lt-ltb, le-ltb}
-use Rattle.calls.specs.Base.{pick}
+use borrow.Author.Tests.{eqb-true, eqb-false, eq-eqb, ne-eqb, ltb-true, ltb-false, lt-ltb, le-ltb}
+use Rattle.calls.specs.Base.{pick, upd}
 use Rattle.calls.specs.Rows.{Test, firstOf, anyTrue, anyBelow, countBelow, outside}
 use Rattle.calls.specs.Rows.Test.{_gives_}
 
@@ -47,6 +47,10 @@ pub or-right : (a b : Bool) → b ≡ true → a || b ≡ true
 or-right true b e = refl
 or-right false b e = e
 
+pub or-either : (a b : Bool) → a || b ≡ true → (a ≡ true) ⊎ (b ≡ true)
+or-either true b e = inl refl
+or-either false b e = inr e
+
 pub neither : (a b : Bool) → a ≡ false → b ≡ false → a || b ≡ false
 neither true b e f = e
 neither false b e f = f
@@ -74,6 +78,9 @@ at-or r {Q} here there j = go (eqb j r) refl
     go : (b : Bool) → eqb j r ≡ b → Q j
     go true e = subst Q (sym (eqb-true j r e)) here
     go false e = there j e
+
+pub upd-other : {A : Type 0} (f : ℕ → A) (i : ℕ) (a : A) (j : ℕ) → i ≢ j → upd f i a j ≡ f j
+upd-other f i a j ne = rw (ne-eqb j i (λ z. ne (sym z))) refl
 
 -- Rows of which none applies.
 abbrev pub AllClear : List Test → Type 0
@@ -160,6 +167,14 @@ any-below f (suc n) e = go (anyBelow f n) refl (f n) refl (λ d. any-below f n d
     go true d b q rec = let x = rec d in (x .0, omega (arith, x .1), x .2)
     go false d true q rec = (n, omega arith, q)
     go false d false q rec = clash (sym (rw (d, q) at e))
+
+-- A test holds of some number, or of none below n.
+pub found-below : (f : ℕ → Bool) (n : ℕ) → ((i : ℕ) × (f i ≡ true)) ⊎ ((i : ℕ) → i < n → f i ≡ false)
+found-below f n = go (anyBelow f n) refl
+  where
+    go : (b : Bool) → anyBelow f n ≡ b → ((i : ℕ) × (f i ≡ true)) ⊎ ((i : ℕ) → i < n → f i ≡ false)
+    go true e = let x = any-below f n e in inl (x .0, x .2)
+    go false e = inr (λ i l. none-below f n i e l)
 
 -- A scan as a loop makes it: of no number, and of one more.
 pub none-first : (f : ℕ → Bool) → anyBelow f 0 ≡ false

@@ -1,5 +1,5 @@
 // The new store, GraceVersion, by value: making and the ten calls as methods that take the store and hand it back with the reply, entries lent beside it.
-// Each is a thin shell over the call in place, with the same equation. It uses the grace_version crates and what lies below.
+// Each is a thin shell over the call in place, with the same equation.
 ghost use mathlib.Core.Path.{_≡_};
 ghost use lib.ListN.{replicate};
 ghost use Rattle.calls.specs.declared.Call.the-variants.{Enter, Look, Leave, Claim, Write, Swap, Sync, Raise, Walk, Release};

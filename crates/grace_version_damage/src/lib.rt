@@ -1,6 +1,6 @@
 // The new store's damage test (document 01's spoiled), and its last version.
 // It reads only the records in use, and a record's further words only at the places that need them.
-// It uses making and what lies below; its contracts cite grace_version_law.
+// Its contracts cite grace_version_law.
 ghost use mathlib.Core.Path.{_≡_};
 ghost use Prim.Native.Nat.{_<_, _≤_};
 ghost use mathlib.Core.List.{List};

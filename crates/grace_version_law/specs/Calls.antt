@@ -1,4 +1,4 @@
--- What the code of the new store asks of an undamaged store, and what its accepted calls come to. Assumes nothing.
+-- What the code of the new store asks of an undamaged store, and what its accepted calls give. Assumes nothing.
 use Prim.Native.Nat.{ℕ, zero, suc, _-_, _%_, _<_, _≤_}
 use native.Mathlib.Omega.{arith}
 use native.Mathlib.Nat.{add-zero}

@@ -29,8 +29,8 @@ use Rattle.statement.specs.Kept.{Ghost, Back}
 use Rattle.statement.specs.Kept as kept
 use Rattle.publication_law.specs.Steps.{reader, publisher, enterTests, leaveTests, syncTests, sync, raise, walk, newWalk, placeAfter, made}
 use Rattle.publication_law.specs.Damage.{publisherRows}
-use Rattle.publication_law.specs.Core.{Onward}
-use Rattle.publication_law.specs.Core.Onward.{stays-out, opens, picks}
+use Rattle.publication_law.specs.Onward.{Onward}
+use Rattle.publication_law.specs.Onward.Onward.{stays-out, opens, picks}
 use Rattle.publication_law.specs.Moves.{reader-moves}
 use Rattle.publication_law.specs.KindLaw.{KindLaw, up-to-law}
 use Rattle.publication_law.specs.Frames.{place-and-one}
@@ -155,7 +155,7 @@ onward-published ver cur x l = rw (ne-eqb (x .place) 0 (λ z. omega arith), ne-e
 
 -- Each of the kind's own steps keeps the invariant.
 module _ (z : Given) (g : Ghost) (s : State) (i : Good kind (OwnOf detector) z g s) where
-  -- What is shown of reader r anew and of the others.
+  -- What is shown of reader r as it is then and of the others.
   shown-anew : (r : ℕ) (x : Reader) → Shown (version (s .words)) (readers (s .words)) r x → (j : ℕ) → Shown (version (s .words)) (readers (s .words)) j (upd (readerAt (s .words)) r x j)
   shown-anew r x o = at-or r (rw (same r) o) (λ j d. rw d (i .own .readers-are j))
 

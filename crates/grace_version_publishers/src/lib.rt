@@ -1,6 +1,5 @@
 // CLAIM, WRITE, SWAP and RELEASE of the new store, in place on the lent words and entries.
 // Each is total, and its contract is the step of grace_version_law.
-// It uses grace_version_damage, publication_entries, publication_slots and what lies below.
 ghost use mathlib.Core.Path.{_≡_};
 ghost use Rattle.calls.specs.declared.Call.the-variants.{Claim, Write, Swap, Release};
 ghost use Rattle.statement.specs.Machine.{state, outcome};

@@ -1,5 +1,4 @@
 // ENTER, LOOK and LEAVE of the new store, in place on the lent words. Each is total, and its contract is the step of grace_version_law.
-// It uses grace_version_damage, publication_entries and what lies below.
 ghost use mathlib.Core.Path.{_≡_};
 ghost use mathlib.Core.Bool.{false};
 ghost use mathlib.Core.List.{List};

@@ -1,6 +1,5 @@
 // What a version decides, of the new store: making, SYNC and RAISE, in place on the lent words and entries.
 // Each is total, and its contract is the making (or the step) of grace_version_law.
-// It uses grace_version_damage, making, publication_grace and what lies below.
 ghost use mathlib.Core.Path.{_≡_};
 ghost use Rattle.calls.specs.declared.Call.the-variants.{Sync, Raise};
 ghost use Rattle.statement.specs.Machine.{state, outcome, given};

@@ -1,5 +1,4 @@
 // WALK of the new store, in place on the lent words. It is total, and its contract is the step of grace_version_law.
-// It uses grace_version_damage, publication_grace, publication_looks and what lies below.
 ghost use mathlib.Core.Path.{_≡_};
 ghost use Prim.Native.Nat.{_+_, _<_, _≤_};
 ghost use lib.ListN.{length};

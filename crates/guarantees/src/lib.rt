@@ -1,2 +1,2 @@
 // What is guaranteed, gathered: demand 3 and its companions, P1 to P12 as one list with one proof, the order of the refusals as another, all of words of any kind, and P1 as bytes of a run sheet.
-// It uses kinds_law, sheet_law, the laws and examples of the kinds and what lies below, and holds no code.
+// It holds no code.

@@ -1,6 +1,6 @@
 // Making and the ten calls for words of any kind: the kind word tells which store's call is run. In place on the lent words and entries.
 // Each is total, and its contract is the step (or the making) of kinds_law. `run` takes any call as a value.
-// It uses the calls of the kinds and what lies below, and knows nothing of a store but its length and its kind word.
+// It knows nothing of a store but its length and its kind word.
 ghost use mathlib.Core.Path.{_≡_};
 ghost use Rattle.calls.specs.declared.Call.the-variants.{Enter, Look, Leave, Claim, Write, Swap, Sync, Raise, Walk, Release};
 ghost use Rattle.statement.specs.Machine.{state, outcome, given};
@@ -14,7 +14,7 @@ use calls::Reply;
 use layout::WORDS;
 use layout::kind_of;
 
-// Making a store of the kind with this number, in words and entries whatever they hold. A kind that there is not gets 1.
+// Making a store of the kind with this number, in words and entries whatever they hold. A number that no kind has gets 1.
 pub fn make(
     words: &mut [u64],
     entries: &mut [Pitch],

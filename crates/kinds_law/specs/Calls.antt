@@ -1,4 +1,4 @@
--- What a call and a making for words of any kind come to, from what is known of the kind word, of the kind's number or of the words' length.
+-- What a call and a making for words of any kind are, from what is known of the kind word, of the kind's number or of the words' length.
 -- Assumes nothing.
 use Prim.Native.Nat.{ℕ}
 use mathlib.Core.Path.{_≡_, refl, sym, _∙_}

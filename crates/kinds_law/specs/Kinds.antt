@@ -46,7 +46,7 @@ abbrev pub lackedBy : Option Name → Call → Bool
 lackedBy none c = false
 lackedBy (some k) c = rulesOf k .lacks c
 
--- Making is its kind's own; a kind that there is not gets 1 before all else, and words and entries stay as lent.
+-- Making is its kind's own; a number that no kind has gets 1 before all else, and words and entries stay as lent.
 abbrev pub makingOf : Option Name → Given → State → Outcome
 makingOf none g s = outcome (Refused DAMAGED) s
 makingOf (some k) g s = making (rulesOf k) g s

@@ -1,4 +1,4 @@
--- The laws of the layout: all that is known above of where the records stand.
+-- The laws of the layout, by which the crates above reason about records; only worked examples compute through the views.
 -- Those of readers and publishers are the law of regions (Regions.antt), of theirs. Assumes nothing.
 use Prim.Native.Nat.{ℕ, zero, suc, _+_, _*_, _<_, _≤_}
 use native.Mathlib.Omega.{arith}
@@ -96,7 +96,7 @@ pub publisher-back : (w : List ℕ) (p : ℕ) → p < PUBLISHERS-MAX → withPub
 unfolding withPublisher publisherAt
 publisher-back = record-back publishers-exact
 
--- The indicators, where the head agrees; with a record anew; and with one of them anew.
+-- The indicators, where the head agrees; with a record replaced; and with one of them replaced.
 pub indicator-by : (v w : List ℕ) → ((k : ℕ) → INDICATORS-AT ≤ k → k < HEAD → getD v k 0 ≡ getD w k 0) → indicator v ≡ indicator w
 unfolding indicator
 indicator-by v w e = fun-ext (λ i. go i (ltb i INDICATORS) refl)
@@ -135,7 +135,7 @@ blank-reader : (j : ℕ) → readerAt (replicate WORDS 0) j ≡ noReader
 unfolding readerAt
 blank-reader = region-zero readers-exact (replicate WORDS 0) (λ k low high. zero-at WORDS k)
 
--- The words with each of the first n readers anew: their length, what stands elsewhere, and what is read.
+-- The words with each of the first n readers replaced: their length, what stands elsewhere, and what is read.
 pub length-readers : (n : ℕ) (w : List ℕ) (x : Reader) → length (withReaders n w x) ≡ length w
 unfolding withReaders
 length-readers zero w x = refl

@@ -1,6 +1,7 @@
 -- Where each number of a store stands among its words: a head of 9, 64 readers of 5, 16 publishers of 6. docs/LAYOUT.md has the table.
 use Prim.Native.Nat.{ℕ, zero, suc, _+_, _*_}
 use mathlib.Core.List.{List, [], _∷_}
+use lib.IntN.{ℤ, pos}
 use lib.ListN.{getD, set, replicate}
 use lib.Dec.{ltb}
 use Rattle.layout.specs.declared.Reader.{Reader}
@@ -139,7 +140,7 @@ begins g j = g .start + g .stride * j
 abbrev pub ends : {A : Type 0} → Region A → ℕ
 ends g = begins g (g .count)
 
--- Record j of a region; a number beyond the records has none, and reads as 0. And the words with record j anew.
+-- Record j of a region; a number beyond the records has none, and reads as 0. And the words with record j replaced.
 abbrev pub recordAt : {A : Type 0} → Region A → List ℕ → ℕ → A
 recordAt g w j = pick (ltb j (g .count)) (g .from (λ i. getD w (begins g j + i) 0)) (g .from (λ i. 0))
 
@@ -153,7 +154,7 @@ readerRegion = record { start = HEAD; stride = READER-WORDS; count = READERS-MAX
 abbrev pub publisherRegion : Region Publisher
 publisherRegion = record { start = FIRST-PUBLISHER; stride = PUBLISHER-WORDS; count = PUBLISHERS-MAX; from = publisherOf; words = publisherWords }
 
--- Reader r and publisher p, and the words with one of them anew.
+-- Reader r and publisher p, and the words with one of them replaced.
 unfoldable pub readerAt : List ℕ → ℕ → Reader
 readerAt w r = recordAt readerRegion w r
 
@@ -166,7 +167,7 @@ withReader w r x = withRecord readerRegion w r x
 unfoldable pub withPublisher : List ℕ → ℕ → Publisher → List ℕ
 withPublisher w p x = withRecord publisherRegion w p x
 
--- The words with each of the first n readers anew.
+-- The words with each of the first n readers replaced.
 unfoldable pub withReaders : ℕ → List ℕ → Reader → List ℕ
 withReaders zero w x = w
 withReaders (suc n) w x = withReader (withReaders n w x) n x
@@ -178,3 +179,7 @@ fresh k rs ps ss v x = set (set (set (set (set (withReaders READERS-MAX (replica
 -- Entry k of slot s is at s × 32 + k.
 abbrev pub entryAt : ℕ → ℕ → ℕ
 entryAt s k = s * TABLE + k
+
+-- Entry k of slot s, and 0 where there is none.
+abbrev pub slotEntry : List ℤ → ℕ → ℕ → ℤ
+slotEntry es s k = pick (ltb k TABLE) (getD es (entryAt s k) (pos 0)) (pos 0)

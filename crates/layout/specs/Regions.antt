@@ -1,4 +1,4 @@
--- The law of regions: what is written at record j is read there, and nothing else is read anew.
+-- The law of regions: what is written at record j is read there, and every other record is read as before.
 -- A record is some words in a row, and regions that lie apart have no word in common. Assumes nothing.
 use Prim.Native.Nat.{ℕ, zero, suc, _+_, _<_, _≤_}
 use native.Mathlib.Omega.{arith}

@@ -1,6 +1,5 @@
 // Where each number of a store stands among its words, and the records that are read out of them and written back by value.
-// specs/: the views of the words, and their laws, which are all that is known above of where the records stand.
-// It uses calls.
+// specs/: the views of the words, and their laws, by which the crates above reason about records; only worked examples compute through the views.
 ghost use mathlib.Core.Path.{_≡_};
 ghost use Prim.Native.Nat.{_<_};
 ghost use lib.ListN.{length, replicate};

@@ -1,5 +1,5 @@
 // What the kinds share of making, and the test of the head that it leaves: for any words, any entries and any numbers.
-// It uses layout and calls; its contracts cite publication_law and what lies below.
+// Its contracts cite publication_law.
 ghost use mathlib.Core.Path.{_≡_};
 ghost use mathlib.Core.List.{List};
 ghost use Prim.Native.Nat.{ℕ, _+_, _*_, _≤_};

@@ -1,6 +1,6 @@
 // SYNC, RAISE and the end of a WALK of words that are not damaged, which the kinds share: a publisher's wait for a grace period.
 // A kind tests for damage first, and asks nothing of its own callers.
-// It uses layout and calls; its contracts cite publication_law and what lies below.
+// Its contracts cite publication_law.
 ghost use mathlib.Core.Path.{_≡_};
 ghost use mathlib.Core.List.{List};
 ghost use Prim.Native.Nat.{_+_, _%_, _<_};

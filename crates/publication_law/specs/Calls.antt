@@ -1,4 +1,4 @@
--- What an accepted shared call comes to, from what its code has come to know: the rows that do not apply, the record that it read, the words that it wrote.
+-- What an accepted shared call gives, from what its code knows: the rows that do not apply, the record that it read, the words that it wrote.
 -- Assumes nothing.
 use native.Mathlib.Omega.{arith}
 use Prim.Native.Nat.{ℕ, _+_, _-_, _%_, _<_, _≤_}

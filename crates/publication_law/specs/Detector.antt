@@ -26,7 +26,7 @@ use Rattle.statement.specs.Kept.{Pend, Ghost, ghost₀, advance, Back}
 use Rattle.publication_law.specs.Steps.{reader, publisher, syncTests, sync, newWalk, raise, placeAfter, walked, walk, made}
 use Rattle.publication_law.specs.Damage.{Kind}
 use Rattle.publication_law.specs.KindLaw.{KindLaw}
-use Rattle.publication_law.specs.Core.{Onward}
+use Rattle.publication_law.specs.Onward.{Onward}
 use Rattle.publication_law.specs.Decide.{raise-split}
 use Rattle.publication_law.specs.Moves.{MovesPublisher, MovesReader, publisher-moves, publisher-moves-head}
 use Rattle.publication_law.specs.GraceKeeps.{waitsAfter, enter-keeps, leave-keeps, sync-keeps, raise-keeps, walk-keeps, raised-in-order}

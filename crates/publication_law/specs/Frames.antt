@@ -10,11 +10,10 @@ use lib.IntN.{ℤ}
 use lib.ListN.{getD, set}
 use lib.Seq.{getD-set-other}
 use lib.Dec.{ltb, eqb}
-use borrow.Author.Tests.{ne-eqb, eqb-false, leb-false, ltb-false}
+use borrow.Author.Tests.{eqb-false, leb-false, ltb-false}
 use Rattle.calls.specs.declared.Call.{Call}
 use Rattle.calls.specs.declared.Call.the-variants.{Enter, Look, Leave, Claim, Write, Swap, Sync, Raise, Walk, Release}
-use Rattle.calls.specs.Base.{upd}
-use Rattle.calls.specs.RowLaws.{AllClear}
+use Rattle.calls.specs.RowLaws.{AllClear, upd-other}
 use Rattle.layout.specs.declared.Reader.{Reader}
 use Rattle.layout.specs.declared.Publisher.{Publisher}
 use Rattle.layout.specs.declared.Progress.{Progress}
@@ -57,9 +56,6 @@ place-and-one x x′ j first second published picked = (j, go)
     go (suc (suc (suc zero))) a b = published b
     go (suc (suc (suc (suc zero)))) a b = picked b
     go (suc (suc (suc (suc (suc k))))) a b = refl
-
-upd-other : {A : Type 0} (f : ℕ → A) (i : ℕ) (a : A) (j : ℕ) → i ≢ j → upd f i a j ≡ f j
-upd-other f i a j ne = rw (ne-eqb j i (λ z. ne (sym z))) refl
 
 publisher-framed : (b : Bool) (c : Call) (w w′ : List ℕ) (p : ℕ) (y : Publisher) (cur ver rel : ℕ) → MovesPublisher w w′ p y cur ver rel → publisherNamed c ≡ some p
     → (publisherAt w′ p ≡ y → OwnStays b c w w′) → ((k : ℕ) → k < HEAD → headNamed b c k ≡ false → getD w′ k 0 ≡ getD w k 0) → One w w′ → Framed b c w w′

@@ -20,7 +20,7 @@ use Rattle.publication_law.specs.Steps.{publisher, inUse}
 use Rattle.publication_law.specs.Table.{machine}
 use Rattle.publication_law.specs.Rules.{Rules, tableBy}
 use Rattle.publication_law.specs.Damage.{Kind}
-use Rattle.publication_law.specs.Core.{held-bound}
+use Rattle.publication_law.specs.CoreLaws.{held-bound}
 use Rattle.publication_law.specs.Invariant.{Invariant}
 use Rattle.publication_law.specs.Keeps.{slots-right, placed}
 use Rattle.publication_law.specs.Lawful.{Good, Lawful, reached, companions-of}

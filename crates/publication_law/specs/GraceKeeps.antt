@@ -19,7 +19,7 @@ use Rattle.calls.specs.Tally.Phase.{idle, synchronising, quiet, raised, returne
 use Rattle.layout.specs.declared.Reader.{Reader}
 use Rattle.layout.specs.declared.Publisher.{Publisher}
 use Rattle.layout.specs.declared.Progress.{Progress}
-use Rattle.layout.specs.Layout.{VERSION-AT, RELEASES-AT, readers, publishers, slots, current, version, releases, noPublisher}
+use Rattle.layout.specs.Layout.{VERSION-AT, RELEASES-AT, readers, publishers, slots, current, version, releases, noPublisher, slotEntry}
 use Rattle.layout.specs.Records.{_atPlace_, _walk≔_}
 use Rattle.layout.specs.Laws.{fresh-head}
 use Rattle.statement.specs.Machine.{State, state, Outcome, Given}
@@ -29,17 +29,22 @@ use Rattle.publication_law.specs.Clear.{MakingClear}
 use Rattle.publication_law.specs.Damage.{Kind}
 use Rattle.publication_law.specs.DamageLaws.{PublisherFine}
 use Rattle.publication_law.specs.KindLaw.{KindLaw, fine-publisher, publisher-undamaged}
-use Rattle.publication_law.specs.Core.{Core, Onward, enter-core, leave-core, late-core, release-core}
+use Rattle.publication_law.specs.Core.{Core}
+use Rattle.publication_law.specs.CoreLaws.{enter-core, leave-core, late-core, release-core}
+use Rattle.publication_law.specs.Onward.{Onward}
 use Rattle.publication_law.specs.Core.Hold.{by-swap}
-use Rattle.publication_law.specs.Grace.{enter-grace, leave-grace, early-grace, wait-grace, sync-grace, nobody, release-grace, fresh-grace}
-use Rattle.publication_law.specs.Single.{formerAt, former-same}
-use Rattle.publication_law.specs.Phases.{Phases, place-phases, move-phases, stay-phases}
-use Rattle.publication_law.specs.Tallied.{Tallied, early-tallied, sync-tallied, wait-tallied, late-tallied, release-tallied, fresh-tallied}
-use Rattle.publication_law.specs.Entries.{slotEntry}
+use Rattle.publication_law.specs.GraceLaws.{enter-grace, leave-grace, early-grace, wait-grace, sync-grace, nobody, release-grace, fresh-grace}
+use Rattle.publication_law.specs.Single.{former-same}
+use Rattle.publication_law.specs.Phases.{Phases}
+use Rattle.publication_law.specs.PhaseLaws.{place-phases, move-phases, stay-phases}
+use Rattle.publication_law.specs.Tallied.{Tallied}
+use Rattle.publication_law.specs.TallyLaws.{early-tallied, sync-tallied, wait-tallied, late-tallied, release-tallied, fresh-tallied}
 use Rattle.publication_law.specs.Decide.{raise-split}
 use Rattle.publication_law.specs.Moves.{MovesPublisher, MovesReader, publisher-moves, publisher-moves-head}
-use Rattle.publication_law.specs.Invariant.{formers, Invariant, reader-moved, publisher-moved}
-use Rattle.publication_law.specs.GraceInvariant.{GraceInvariant, reader-moved-grace, publisher-moved-grace}
+use Rattle.publication_law.specs.Invariant.{formerAt, formers, Invariant}
+use Rattle.publication_law.specs.InvariantLaws.{reader-moved, publisher-moved}
+use Rattle.publication_law.specs.GraceInvariant.{GraceInvariant}
+use Rattle.publication_law.specs.GraceInvariantLaws.{reader-moved-grace, publisher-moved-grace}
 use Rattle.publication_law.specs.Keeps.{held-told, placed, readers-fresh, publishers-fresh}
 use Rattle.publication_law.specs.Keeps as every
 

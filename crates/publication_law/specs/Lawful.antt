@@ -41,7 +41,8 @@ use Rattle.publication_law.specs.Table.{damaged, rows, step, making, mac
 use Rattle.publication_law.specs.Rules.{Rules, tableBy}
 use Rattle.publication_law.specs.DamageLaws.{Fine, fine-to, publisher-below}
 use Rattle.publication_law.specs.Moves.{MovesPublisher, MovesReader, publisher-moves, publisher-moves-head}
-use Rattle.publication_law.specs.Phases.{phaseAt, phase-turn}
+use Rattle.publication_law.specs.Phases.{phaseAt}
+use Rattle.publication_law.specs.PhaseLaws.{phase-turn}
 use Rattle.publication_law.specs.GraceInvariant.{GraceInvariant}
 use Rattle.publication_law.specs.KindLaw.{KindLaw, places, fine-publisher, early-fits}
 use Rattle.publication_law.specs.Keeps.{claim-keeps, write-keeps, swap-keeps, slots-right, picks-right, table-right, placed, idle-told, former-told}

@@ -1,30 +1,41 @@
+-- Definitions: steps, damage test, a kind's table.
 pub mod Steps
 pub mod Damage
 pub mod Table
 pub mod Rules
-pub mod Clear
-pub mod Core
-pub mod Grace
-pub mod Single
-pub mod Phases
-pub mod Tallied
-pub mod Entries
-pub mod Moves
-pub mod DamageLaws
-pub mod Invariant
-pub mod GraceInvariant
 pub mod KindLaw
+-- The invariant: what every kind keeps, and what grace periods add.
+pub mod Core
+pub mod Phases
+pub mod Invariant
+pub mod Grace
+pub mod Tallied
+pub mod GraceInvariant
+-- What keeps it.
+pub mod Onward
+pub mod CoreLaws
+pub mod PhaseLaws
+pub mod InvariantLaws
+pub mod GraceLaws
+pub mod TallyLaws
+pub mod GraceInvariantLaws
+pub mod Single
+pub mod Moves
 pub mod Keeps
 pub mod Served
 pub mod GraceKeeps
+-- Laws of table and damage test, for the code and for the proofs above.
+pub mod DamageLaws
 pub mod Sound
-pub mod Calls
+pub mod Clear
 pub mod Decide
-pub mod TableLaws
-pub mod Frames
-pub mod Lawful
-pub mod Detector
-pub mod Promises
-pub mod Varied
+pub mod Calls
 pub mod Looks
+pub mod Frames
+pub mod TableLaws
+-- What a kind must show, and what is promised of every kind that does.
+pub mod Detector
+pub mod Lawful
+pub mod Varied
+pub mod Promises
 pub mod FreeSlot

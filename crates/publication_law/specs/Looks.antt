@@ -1,4 +1,4 @@
--- What counting a look does to the four numbers of a walk, in the code that the kinds share. Each kind's Calls.antt has that its own looks come to it.
+-- What counting a look does to the four numbers of a walk, in the code that the kinds share. Each kind's Calls.antt shows that its own looks do the same.
 use Prim.Native.Nat.{ℕ, _+_}
 use Rattle.layout.specs.declared.Walk.{Walk}
 use Rattle.layout.specs.Records.{_next≔_, _looks≔_, _waits≔_}

@@ -34,7 +34,7 @@ upd-field f u v i x e = fun-ext (λ j. ap (λ (w : ℕ → _). f (w j)) e ∙ go
     go true j = refl
     go false j = refl
 
--- w′ is w with publisher p anew as y, and this current slot, version and number of releases.
+-- w′ is w with publisher p replaced by y, and this current slot, version and number of releases.
 pub record MovesPublisher (w w′ : List ℕ) (p : ℕ) (y : Publisher) (cur ver rel : ℕ) : Type 0 where
   pub long : length w′ ≡ length w
   pub head : (k : ℕ) → k < CURRENT-AT → getD w′ k 0 ≡ getD w k 0
@@ -66,7 +66,7 @@ moves-publisher w p y len lt = record {
   publishers-are = publisher-put (λ (x : Publisher). x) w p y len lt;
 }
 
--- .. and one of current slot, version and releases anew besides.
+-- .. and one of current slot, version and releases replaced besides.
 moves-head : (w w′ : List ℕ) (p : ℕ) (y : Publisher) (cur ver rel : ℕ) → MovesPublisher w w′ p y cur ver rel → length w ≡ WORDS → (k v : ℕ) → CURRENT-AT ≤ k → k ≤ RELEASES-AT
     → MovesPublisher w (set w′ k v) p y (pick (eqb CURRENT-AT k) v cur) (pick (eqb VERSION-AT k) v ver) (pick (eqb RELEASES-AT k) v rel)
 moves-head w w′ p y cur ver rel m len k v low high = record {
@@ -87,7 +87,7 @@ moves-head w w′ p y cur ver rel m len k v low high = record {
         go true d = rw (eqb-true j k d) (getD-set-same w′ k v 0 (omega (arith, m .long)))
         go false d = getD-set-other w′ k j v 0 (eqb-false j k d) ∙ e
 
--- w′ is w with reader r anew as x; one of the indicators may have moved, which is a kind's own.
+-- w′ is w with reader r replaced by x; one of the indicators may have moved, which is a kind's own.
 pub record MovesReader (w w′ : List ℕ) (r : ℕ) (x : Reader) : Type 0 where
   pub long : length w′ ≡ length w
   pub head : (k : ℕ) → k ≤ RELEASES-AT → getD w′ k 0 ≡ getD w k 0
@@ -111,7 +111,7 @@ moves-reader w r x len lt = record {
   publishers-stay = publisher-reader w r x lt;
 }
 
--- .. and indicator word k anew besides.
+-- .. and indicator word k replaced besides.
 moves-indicator : (w : List ℕ) (r : ℕ) (x : Reader) → MovesReader w (withReader w r x) r x → (k v : ℕ) → RELEASES-AT < k → k < HEAD → MovesReader w (set (withReader w r x) k v) r x
 moves-indicator w r x m k v low high = record {
   long = length-set (withReader w r x) k v ∙ m .long;

@@ -30,7 +30,7 @@ pub record Rules : Type 0 where
   -- the places at which RAISE and WALK are allowed
   pub raisesAt : ℕ → Bool
   pub walksAt : ℕ → Bool
-  -- what a WALK of publisher p by up to b looks comes to
+  -- what a WALK of publisher p by up to b looks gives
   pub looks : State → ℕ → ℕ → Progress
 
 module _ (R : Rules) where

@@ -26,7 +26,8 @@ use Rattle.publication_law.specs.Steps.{reader, publisher, decide, anoth
 use Rattle.publication_law.specs.Clear.{claim-clear, claim-rows}
 use Rattle.publication_law.specs.Damage.{Kind}
 use Rattle.publication_law.specs.Decide.{decided, decide-accepts}
-use Rattle.publication_law.specs.Phases.{phaseAt, phase-writing}
+use Rattle.publication_law.specs.Phases.{phaseAt}
+use Rattle.publication_law.specs.PhaseLaws.{phase-writing}
 use Rattle.publication_law.specs.Invariant.{Invariant}
 use Rattle.publication_law.specs.Keeps.{claim-unpicked, look-right, placed, busy-told, free-told}
 

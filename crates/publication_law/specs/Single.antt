@@ -6,11 +6,9 @@ use mathlib.Core.Bool.{Bool, true, false, not, _&&_, _||_}
 use lib.Dec.{leb, eqb}
 use borrow.Author.Tests.{eqb-true, eqb-false, eq-eqb, ne-eqb, leb-true, leb-false, le-leb, lt-leb}
 use Rattle.calls.specs.RowLaws.{clash, not-both, or-none}
-use Rattle.publication_law.specs.Core.{Hold, hold-map}
-
--- The former slots of a publisher at place pl that holds hd.
-abbrev pub formerAt : ℕ → ℕ → ℕ → Bool
-formerAt pl hd x = leb 34 pl && eqb hd x
+use Rattle.publication_law.specs.Core.{Hold}
+use Rattle.publication_law.specs.CoreLaws.{hold-map}
+use Rattle.publication_law.specs.Invariant.{formerAt}
 
 pub former-early : (pl hd x : ℕ) → pl ≤ 33 → formerAt pl hd x ≡ false
 former-early pl hd x l = rw (lt-leb 34 pl (omega arith)) refl

@@ -1,6 +1,6 @@
 // CLAIM, SWAP and RELEASE of words that are not damaged, which the kinds share: the calls that move a slot.
 // A kind tests for damage first, and asks nothing of its own callers.
-// It uses layout and calls; its contracts cite publication_law and what lies below.
+// Its contracts cite publication_law.
 ghost use mathlib.Core.Path.{_≡_};
 ghost use mathlib.Core.Bool.{_&&_};
 ghost use mathlib.Core.List.{List};

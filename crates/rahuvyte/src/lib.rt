@@ -1,6 +1,5 @@
 // The C library: making and the ten calls for a store of any kind as functions of C over lent slices, the reply three numbers by value.
 // Each function is total, and its contract is the step (or the making) of kinds_law, through `answerOf`. A call goes by the kind word here, as in kinds (docs/DECISIONS.md says why).
-// It uses kinds, the kinds' calls, reply_numbers and what lies below.
 ghost use mathlib.Core.Path.{_≡_};
 ghost use Rattle.calls.specs.declared.Call.the-variants.{Enter, Look, Leave, Claim, Write, Swap, Sync, Raise, Walk, Release};
 ghost use Rattle.statement.specs.Machine.{state, given};

@@ -1,6 +1,6 @@
 // The numbers that C gets: a reply as three of them, and those that the header names, one after another, for its test.
 // The public functions are total. specs/: the header's numbers as lists.
-// It uses the damage crates of both kinds, which have the last versions, and what lies below.
+// The last versions come from the damage crates of both kinds.
 ghost use mathlib.Core.Path.{_≡_};
 ghost use Prim.Native.Nat.{_<_};
 ghost use lib.ListN.{length, getD};

@@ -1,5 +1,5 @@
 // The run-sheet program: a sheet on standard input, and a line for each of its lines on standard output. It has the loop of reads and writes and nothing else;
-// all that is known of lines, commands and replies stands in the library below it. It uses sheet and what lies below, and io and libc to read and write.
+// all that is known of lines, commands and replies stands in the library below it.
 ghost use Prim.Native.Nat.{_≤_};
 ghost use mathlib.Core.Path.{_≡_};
 ghost use lib.ListN.{length, take};

@@ -19,7 +19,8 @@ use Rattle.sheet_law.specs.Text.{text, NEWLINE}
 use Rattle.sheet_law.specs.Reading.{LINE-MAX, lineOf}
 use Rattle.sheet_law.specs.Printing.{replyText, printedLine, PRINTED-MAX}
 use Rattle.sheet_law.specs.Sheet.{played, next, SheetState, sheetState, joined, byte, saidAt, fed, printed, ending}
-use Rattle.sheet_law.specs.Reads.{fed-append, printed-append, known-all, over-80}
+use Rattle.sheet_law.specs.SheetLaws.{known-all}
+use Rattle.sheet_law.specs.Reads.{fed-append, printed-append, over-80}
 use Rattle.sheet_printing.specs.Buffer.{Added, behind}
 use Rattle.sheet.specs.Feeds.{stopsAt, taken, Feeds}
 use Rattle.sheet_law.specs.Reads.{KEPT}

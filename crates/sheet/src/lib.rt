@@ -1,6 +1,5 @@
 // A run sheet from bytes to bytes, by the definition of sheet_law, however the input is cut into reads, on the lent words of a store and the lent room for its entries.
 // `feed` takes the bytes of a read and prints a line for each line that ends in them, as far as the output has room; `finish` is for the end of the input.
-// It uses sheet_reading, sheet_playing, sheet_printing and what lies below.
 ghost use mathlib.Core.Path.{_≡_};
 ghost use lib.ListN.{length, take};
 ghost use Rattle.statement.specs.Machine.{state};

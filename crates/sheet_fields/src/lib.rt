@@ -1,5 +1,5 @@
 // The fields of a run sheet's line, by the definitions of sheet_law: words compared, a text cut at its first space, decimals and pitches read.
-// Every public function is total. It uses sheet_law and what lies below.
+// Every public function is total.
 ghost use Prim.Native.Nat.{_-_, _<_, _≤_};
 ghost use mathlib.Core.Path.{_≡_};
 ghost use lib.IntN.{pos, negsuc};

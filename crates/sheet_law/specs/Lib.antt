@@ -4,6 +4,7 @@ pub mod Printing
 pub mod Sheet
 pub mod Example
 pub mod Decimals
+pub mod SheetLaws
 pub mod Reads
 pub mod Canonical
 pub mod Replies

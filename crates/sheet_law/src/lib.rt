@@ -1,6 +1,5 @@
 // What a run sheet is: what its lines say, what is printed for each, and the whole sheet, bytes in to bytes out.
-// Code: what a line comes to, as values. specs/: the definitions, and what is proved about them.
-// It uses kinds_law and what lies below.
+// Code: what a line gives, as values. specs/: the definitions, and what is proved about them.
 use calls::Call;
 use calls::Pitch;
 

@@ -1,6 +1,5 @@
 // A run sheet's line to a command, by the definition of sheet_law.
 // A word, its arguments, and the whole line; only `parse` is for others.
-// It uses sheet_fields, sheet_law and what lies below.
 ghost use mathlib.Core.Path.{_≡_};
 ghost use Rattle.calls.specs.Base.{pick};
 ghost use Rattle.sheet_law.specs.Text.{same as Text·same};

@@ -1,11 +1,14 @@
+-- Definitions: a machine, and what is asked of it.
 pub mod Machine
 pub mod Demand3
-pub mod Frame
 pub mod Companions
+pub mod Frame
+pub mod FreeSlot
+-- What gives them: an invariant that each step keeps; another machine that is alike.
 pub mod Kept
+pub mod Alike
+-- Examples that name no kind, and what refutes a store.
 pub mod Examples
 pub mod Precedence
 pub mod Spoiled
-pub mod Alike
 pub mod Refute
-pub mod FreeSlot

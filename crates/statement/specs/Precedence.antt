@@ -47,7 +47,7 @@ nameRows M = shows M (given 1 1 2 0) []
     (Leave 1 ∷ Leave 0 ∷ Swap 1 ∷ Swap 0 ∷ Sync 1 ∷ Sync 0 ∷ Raise 1 ∷ Raise 0 ∷ Walk 1 1 ∷ Walk 0 1 ∷ Release 1 ∷ Release 0 ∷ [])
     (Made ∷ Refused 10 ∷ Refused 20 ∷ Refused 11 ∷ Refused 21 ∷ Refused 11 ∷ Refused 21 ∷ Refused 11 ∷ Refused 21 ∷ Refused 11 ∷ Refused 21 ∷ Refused 11 ∷ Refused 21 ∷ [])
 
--- ENTER of a reader that there is not: 10; and at place 5, to which n ENTERs lead: 20.
+-- ENTER of a reader beyond the store's: 10; and at place 5, to which n ENTERs lead: 20.
 abbrev pub enterRows : Machine → ℕ → Example
 enterRows M n = shows M (given 1 1 2 0) (enters n 0) (Enter 1 ∷ Enter 0 ∷ []) (Made ∷ Refused 10 ∷ Refused 20 ∷ [])
 
@@ -82,7 +82,7 @@ withCurrentAs s x = state (withCurrent (s .words) x) (s .entries)
 abbrev pub small : Given
 small = given 1 1 2 0
 
--- A current slot that there is not, of a store with two, and then slot 0: 1 before 10, 1 before 11.
+-- A current slot beyond the two of a store, and then slot 0: 1 before 10, 1 before 11.
 abbrev pub spoiledRows : Machine → List Example
 spoiledRows M =
     each M (withCurrentAs (freshOf M small) 2) (Enter 1 ∷ Swap 1 ∷ []) (Refused 1 ∷ Refused 1 ∷ [])

@@ -1,6 +1,6 @@
 // The old store's damage test (document 01's spoiled), and its last version.
 // One pass over the readers in use tests them and counts, for each parity, those at 4 or 5 whose loaded version has it.
-// It uses making and what lies below; its contracts cite two_phase_law.
+// Its contracts cite two_phase_law.
 ghost use mathlib.Core.Path.{_≡_};
 ghost use mathlib.Core.Bool.{_||_};
 ghost use mathlib.Core.List.{List};

@@ -1,4 +1,4 @@
--- What the code of the old store asks of an undamaged store, and what its accepted calls come to. Assumes nothing.
+-- What the code of the old store asks of an undamaged store, and what its accepted calls give. Assumes nothing.
 use Prim.Native.Nat.{ℕ, zero, suc, _+_, _-_, _%_, _<_, _≤_}
 use native.Mathlib.Omega.{arith}
 use native.Mathlib.Nat.{add-zero}
@@ -201,7 +201,7 @@ walks-not n f = rw (ne-eqb n 35 (λ e. f (inl e)), ne-eqb n 37 (λ e. f (inr e))
 pub watched-low : (y : Publisher) → watched y < 2
 watched-low y = pick-split (λ (i : ℕ). i < 2) (eqb (y .place) 35) (λ _. omega arith) (λ _. omega arith)
 
--- What a look comes to; one that is made leaves the walk m.
+-- What a look gives; one that is made leaves the walk m.
 module _ (count : ℕ) (y : Publisher) (b : ℕ) where
   pub look-spent : b ≡ 0 → record { walk = y .walk; reply = Spent } ≡ lookAt count y b
   unfolding lookAt

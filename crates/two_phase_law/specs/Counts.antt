@@ -31,7 +31,7 @@ pub none-added : (n : ℕ) (ind : ℕ → ℕ) (R : ℕ → Reader) → Counted 
 none-added n ind R c i i2 z r lt l = eqb-false (parity (R r .first)) i
     (and-false (leb 4 (R r .place)) (eqb (parity (R r .first)) i) (count-zero (λ r. addedTo i (R r)) n r (sym (c i i2) ∙ z) lt) (le-leb 4 (R r .place) l))
 
--- One reader anew: the counts follow.
+-- One reader changes: the counts follow.
 module _ (n : ℕ) (ind : ℕ → ℕ) (R : ℕ → Reader) (c : Counted n ind R) (r : ℕ) (rn : r < n) (x : Reader) where
   changed : (i : ℕ) → countBelow (λ j. addedTo i (upd R r x j)) n + pick (addedTo i (R r)) 1 0 ≡ countBelow (λ j. addedTo i (R j)) n + pick (addedTo i x) 1 0
   changed i = rw (same r) at (count-upd (λ j. addedTo i (R j)) (λ j. addedTo i (upd R r x j)) n r rn (λ j e. rw e refl))
@@ -59,7 +59,7 @@ module _ (n : ℕ) (ind : ℕ → ℕ) (R : ℕ → Reader) (c : Counted n ind R
 abbrev pub passedAt : ℕ → ℕ
 passedAt place = pick (eqb place 35) 0 (pick (eqb place 38) 2 1)
 
--- What one look comes to.
+-- What one look gives.
 pub record Looked (count : ℕ) (y : Publisher) (b : ℕ) (k : Progress) : Type 0 where
   pub mark-same : k .walk .mark ≡ y .walk .mark
   pub next-same : k .walk .next ≡ y .walk .next

@@ -28,8 +28,8 @@ use Rattle.statement.specs.Kept.{Ghost, Back}
 use Rattle.statement.specs.Kept as kept
 use Rattle.publication_law.specs.Steps.{reader, publisher, enterTests, leaveTests, syncTests, sync, raise, walk, placeAfter, made}
 use Rattle.publication_law.specs.DamageLaws.{Fine}
-use Rattle.publication_law.specs.Core.{Onward}
-use Rattle.publication_law.specs.Core.Onward.{stays-out, opens, picks}
+use Rattle.publication_law.specs.Onward.{Onward}
+use Rattle.publication_law.specs.Onward.Onward.{stays-out, opens, picks}
 use Rattle.publication_law.specs.Moves.{MovesReader, reader-moves, reader-moves-indicator}
 use Rattle.publication_law.specs.KindLaw.{KindLaw, up-to-law}
 use Rattle.publication_law.specs.Frames.{place-and-one}
@@ -110,7 +110,7 @@ enter-moves s f r l =
 pub leave-moves : (s : State) → Fine kind s → (r : ℕ) → r < readers (s .words) → MovesReader (s .words) (leaveWords s r) r (leaving (reader s r))
 leave-moves s f r l = reader-moves-indicator f r (leaving (reader s r)) l (INDICATORS-AT + parity (reader s r .first)) _ (omega arith) (omega arith)
 
--- The indicators after a reader is written, with one of them anew.
+-- The indicators after a reader is written, with one of them changed.
 pub changed-indicator : (w : List ℕ) → HEAD ≤ length w → (r : ℕ) (x : Reader) (k : ℕ) → k < INDICATORS → (d : ℕ → ℕ) (i : ℕ)
     → indicator (withIndicator (withReader w r x) k (d (indicator w k))) i ≡ pick (eqb k i) (d (indicator w i)) (indicator w i)
 changed-indicator w len r x k low d i = indicator-put (withReader w r x) k (d (indicator w k)) low (rw (length-reader w r x) len) i ∙ rw (indicator-reader w r x) (go (eqb k i) refl)

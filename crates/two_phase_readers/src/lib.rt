@@ -1,5 +1,4 @@
 // ENTER, LOOK and LEAVE of the old store, in place on the lent words. Each is total, and its contract is the step of two_phase_law.
-// It uses two_phase_damage, publication_entries and what lies below.
 ghost use mathlib.Core.Path.{_≡_};
 ghost use Prim.Native.Nat.{_<_};
 ghost use Rattle.calls.specs.declared.Call.the-variants.{Enter, Look, Leave};

@@ -1,6 +1,5 @@
 // What a version decides, of the old store: making, SYNC and RAISE, in place on the lent words and entries.
 // Each is total, and its contract is the making (or the step) of two_phase_law.
-// It uses two_phase_damage, making, publication_grace and what lies below.
 ghost use mathlib.Core.Path.{_≡_};
 ghost use Rattle.calls.specs.declared.Call.the-variants.{Sync, Raise};
 ghost use Rattle.statement.specs.Machine.{state, outcome, given};

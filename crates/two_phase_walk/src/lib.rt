@@ -1,5 +1,4 @@
 // WALK of the old store, in place on the lent words. It is total, and its contract is the step of two_phase_law.
-// It uses two_phase_damage, publication_grace, publication_looks and what lies below.
 ghost use mathlib.Core.Path.{_≡_};
 ghost use Prim.Native.Nat.{_+_, _≤_};
 ghost use Rattle.calls.specs.declared.Call.the-variants.{Walk as WALK};
@@ -37,7 +36,7 @@ fn looked_at(y: Publisher) -> u64
     1 - parity
 }
 
-// What up to b looks at an indicator with this count come to, of publisher y: at most one is made.
+// What up to b looks of publisher y at an indicator with this count give: at most one is made.
 fn look(count: u64, y: Publisher, b: u16) -> Progress
     requires { ⌜ (y .walk .looks + b ≤ NUMBER-MAX) × (y .walk .waits ≤ y .walk .looks) ⌝ }
     ensures { λ k. ⌜ k ≡ lookAt count y b ⌝ }

@@ -1,4 +1,4 @@
--- `enter` meets its contract: a damaged store and a reader that there is not are rows of the step; the rest is `advance`. Assumes nothing.
+-- `enter` meets its contract: a damaged store and a reader beyond the store's are rows of the step; the rest is `advance`. Assumes nothing.
 use borrow.Author.Needs.{needs}
 use native.Mathlib.Omega.{arith}
 use mathlib.Core.Path.{_≡_, refl, sym, _∙_}

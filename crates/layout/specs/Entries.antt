@@ -1,24 +1,19 @@
--- The entries by slot and number. Assumes nothing.
-use Prim.Native.Nat.{ℕ, zero, suc, _<_, _≤_}
+-- Laws of the entries by slot and number. Assumes nothing.
+use Prim.Native.Nat.{ℕ, _<_, _≤_}
 use native.Mathlib.Omega.{arith}
 use mathlib.Core.Path.{_≡_, refl, fun-ext}
 use mathlib.Core.Bool.{Bool, true, false}
 use mathlib.Core.List.{List}
-use mathlib.Core.Option.{some}
 use lib.IntN.{ℤ, pos}
-use lib.ListN.{getD, set, length, replicate, getD-replicate}
+use lib.ListN.{set, length, replicate, getD-replicate}
 use lib.Seq.{getD-set-same, getD-set-other}
 use lib.Dec.{ltb, eqb}
 use borrow.Author.Tests.{eqb-true, eqb-false, ltb-true, ltb-false, lt-ltb}
-use Rattle.calls.specs.Base.{pick, upd}
+use Rattle.calls.specs.Base.{upd}
 use Rattle.calls.specs.Numbers.{TABLE}
-use Rattle.calls.specs.Model.{entry}
-use Rattle.layout.specs.Layout.{entryAt}
+use Rattle.layout.specs.Layout.{entryAt, slotEntry}
 
--- Entry k of slot x, and 0 where there is none.
-abbrev pub slotEntry : List ℤ → ℕ → ℕ → ℤ
-slotEntry es x k = pick (ltb k TABLE) (getD es (entryAt x k) (pos 0)) (pos 0)
-
+-- One entry stored.
 pub set-entry : (es : List ℤ) (x k : ℕ) (v : ℤ) → k < TABLE → entryAt x k < length es
     → slotEntry (set es (entryAt x k) v) ≡ upd (slotEntry es) x (upd (slotEntry es x) k v)
 set-entry es x k v k32 lt = fun-ext (λ y. fun-ext (λ j. go y j (ltb j TABLE) refl (eqb y x) refl (eqb j k) refl))
@@ -36,11 +31,6 @@ set-entry es x k v k32 lt = fun-ext (λ y. fun-ext (λ j. go y j (ltb j TABLE) r
     go y j false d true e false f = rw (e, f, d) refl
     go y j false d false e c f = rw (e, d) refl
 
--- The first table of a store whose entries are all v.
-pub entry-same : (n k : ℕ) (v : ℤ) → k < n → entry (replicate n v) k ≡ some v
-entry-same zero k v l = absurd (omega arith)
-entry-same (suc n) zero v l = refl
-entry-same (suc n) (suc k) v l = entry-same n k v (omega arith)
-
+-- Slot 0 where every entry is v.
 pub slot-same : (n k : ℕ) (v : ℤ) → k < TABLE → TABLE ≤ n → slotEntry (replicate n v) 0 k ≡ v
 slot-same n k v l le = rw (lt-ltb k TABLE l) (getD-replicate n (entryAt 0 k) v (pos 0) (omega arith))
