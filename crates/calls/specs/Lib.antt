@@ -1,7 +1,5 @@
-pub mod Base
 pub mod Numbers
 pub mod PitchLaws
-pub mod Rows
 pub mod Events
 pub mod Model
 pub mod ModelLaws
@@ -9,5 +7,3 @@ pub mod Told
 pub mod Tally
 pub mod Answer
 pub mod AnswerLaws
-pub mod RowLaws
-pub mod Fills

@@ -4,10 +4,10 @@ use mathlib.Core.List.{List, [], _∷_, _++_}
 use mathlib.Core.Option.{Option, none, some}
 use lib.IntN.{ℤ}
 use lib.ListN.{replicate}
+use Rattle.base.specs.Base.{pick, upd, is}
 use Rattle.calls.specs.declared.Call.{Call}
 use Rattle.calls.specs.declared.Call.the-variants.{Enter, Look, Leave, Claim, Write, Swap, Sync, Raise, Walk, Release}
 use Rattle.calls.specs.declared.Reply.{Reply}
-use Rattle.calls.specs.Base.{pick, upd, is}
 use Rattle.calls.specs.Numbers.{TABLE, FEATHERED}
 use Rattle.calls.specs.Events.{Event, placeOf, foldEvents}
 

@@ -11,8 +11,8 @@ use borrow.Author.Tests.{ltb-true}
 use mir.Syntax.{Width, w16, w64}
 use mir.Val.{SFits, Fits, toZ, ofZ}
 use mir.ValLaws.{toZ-ofZ}
+use Rattle.base.specs.RowLaws.{clash}
 use Rattle.calls.specs.Numbers.{PITCH-BITS, PITCH-HALF}
-use Rattle.calls.specs.RowLaws.{clash}
 
 -- PITCH-BITS, as the machine has it.
 abbrev pub PITCH-WIDTH : Width

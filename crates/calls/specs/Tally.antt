@@ -4,12 +4,12 @@ use mathlib.Core.Bool.{Bool}
 use mathlib.Core.List.{List}
 use mathlib.Core.Option.{Option, none, some}
 use lib.Dec.{eqb}
+use Rattle.base.specs.Base.{upd}
 use Rattle.calls.specs.declared.Call.{Call}
 use Rattle.calls.specs.declared.Call.the-variants.{Enter, Look, Leave, Claim, Write, Swap, Sync, Raise, Walk, Release}
 use Rattle.calls.specs.declared.Reply.{Reply}
 use Rattle.calls.specs.declared.WalkReply.{WalkReply}
 use Rattle.calls.specs.declared.WalkReply.the-variants.{Waiting, Spent, Quiet, Returned}
-use Rattle.calls.specs.Base.{upd}
 use Rattle.calls.specs.Events.{Event, placeOf, walkOf, foldEvents}
 
 -- What a publisher did last, of CLAIM, SWAP, SYNC, a WALK that replied quiet, RAISE, a WALK that returned and RELEASE; idle after a RELEASE, and if nothing yet.

@@ -5,10 +5,10 @@ use mathlib.Core.List.{List}
 use mathlib.Core.Option.{Option, none, some}
 use mathlib.Core.Path.{_≡_}
 use lib.Dec.{eqb}
+use Rattle.base.specs.Base.{pick, upd, is}
 use Rattle.calls.specs.declared.Call.{Call}
 use Rattle.calls.specs.declared.Call.the-variants.{Enter, Look, Leave, Claim, Write, Swap, Sync, Raise, Walk, Release}
 use Rattle.calls.specs.declared.Reply.{Reply}
-use Rattle.calls.specs.Base.{pick, upd, is}
 use Rattle.calls.specs.Events.{Event, placeOf, foldEvents}
 
 pub record Told : Type 0 where

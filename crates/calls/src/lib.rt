@@ -1,5 +1,5 @@
 // The vocabulary of the store: calls, replies, limits and refusal numbers, as document 01 names them.
-// specs/: rows of refusals as data, what the calls alone tell, document 01's plain shelf, a reply's numbers for C.
+// specs/: what the calls alone tell, document 01's plain shelf, a reply's numbers for C.
 
 // A pitch, in hundredths of a degree, and half of the numbers that its type holds: the size of the least.
 pub type Pitch = i16;

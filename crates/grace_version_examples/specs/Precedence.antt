@@ -1,9 +1,9 @@
 -- The order of the new store's refusals, by computation: the examples that name no kind, and 21 before 30. Assumes nothing.
 use mathlib.Core.Path.{refl}
 use mathlib.Core.List.{List, [], _∷_, _++_}
+use Rattle.base.specs.Rows.{anyBelow}
 use Rattle.calls.specs.declared.Call.the-variants.{Claim}
 use Rattle.calls.specs.declared.Reply.the-variants.{Made, Claimed, Refused}
-use Rattle.calls.specs.Rows.{anyBelow}
 use Rattle.layout.specs.Layout.{readerAt, publisherAt, withReader, withPublisher, withReaders, fresh}
 use Rattle.statement.specs.Machine.{given}
 use Rattle.statement.specs.Examples.{Example, AllHold}

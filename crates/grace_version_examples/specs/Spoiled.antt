@@ -1,10 +1,10 @@
 -- 'Spoiled means' of the new store, clause by clause, by computation: the cases that name no kind, and its own. Assumes nothing.
 use mathlib.Core.Path.{_≡_, refl, sym, subst}
 use mathlib.Core.List.{List, [], _∷_, _++_}
+use Rattle.base.specs.Rows.{anyBelow}
 use Rattle.calls.specs.declared.Call.the-variants.{Enter, Claim}
 use Rattle.calls.specs.declared.Reply.the-variants.{At, Refused}
 use Rattle.calls.specs.Numbers.{KIND-NEW}
-use Rattle.calls.specs.Rows.{anyBelow}
 use Rattle.layout.specs.Layout.{readerAt, publisherAt, withReader, withPublisher, withReaders, fresh}
 use Rattle.statement.specs.Machine.{State}
 use Rattle.statement.specs.Examples.{AllHold}

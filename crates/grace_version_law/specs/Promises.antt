@@ -7,15 +7,15 @@ use mathlib.Core.Bool.{Bool, true, false, not, _||_}
 use mathlib.Core.List.{List, [], _∷_}
 use lib.Dec.{leb, ltb, eqb}
 use borrow.Author.Tests.{eqb-true, eqb-false, leb-true, leb-false, ltb-false, not-true}
+use Rattle.base.specs.Rows.{firstOf, anyBelow}
+use Rattle.base.specs.Rows.Test.{_gives_}
+use Rattle.base.specs.RowLaws.{and-true, or-false, any-below}
 use Rattle.calls.specs.declared.Call.{Call}
 use Rattle.calls.specs.declared.Call.the-variants.{Claim, Walk}
 use Rattle.calls.specs.declared.Reply.the-variants.{Walked, Refused}
 use Rattle.calls.specs.declared.WalkReply.{WalkReply}
 use Rattle.calls.specs.declared.WalkReply.the-variants.{Waiting, Spent, Quiet, Returned}
 use Rattle.calls.specs.Numbers.{NO-SUCH-PUBLISHER, NO-SUCH-SLOT, PUBLISHER-TURN, BUSY, SLOT-IN-USE}
-use Rattle.calls.specs.Rows.{firstOf, anyBelow}
-use Rattle.calls.specs.Rows.Test.{_gives_}
-use Rattle.calls.specs.RowLaws.{and-true, or-false, any-below}
 use Rattle.calls.specs.Events.{accepted}
 use Rattle.calls.specs.Tally.{tallyOf}
 use Rattle.calls.specs.Model.{firstTable}

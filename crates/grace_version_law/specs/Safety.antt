@@ -8,15 +8,15 @@ use mathlib.Core.Bool.{Bool, true, false, _||_}
 use mathlib.Core.List.{List}
 use lib.Dec.{leb, ltb, eqb}
 use borrow.Author.Tests.{eqb-true, ne-eqb, leb-false, lt-leb, ltb-true, ltb-false, le-ltb}
+use Rattle.base.specs.Base.{upd}
+use Rattle.base.specs.Rows.{anyTrue}
+use Rattle.base.specs.RowLaws.{clash, by-test, or-none, and-false, and-not, or-false, all-false, none-true, pick-split, same, at-or, AllClear, AllFalse}
 use Rattle.calls.specs.declared.Call.{Call}
 use Rattle.calls.specs.declared.Call.the-variants.{Enter, Leave, Sync, Raise, Walk}
 use Rattle.calls.specs.declared.Reply.the-variants.{At, Left, Synced, Walked}
 use Rattle.calls.specs.declared.WalkReply.{WalkReply}
 use Rattle.calls.specs.declared.WalkReply.the-variants.{Waiting, Spent, Quiet, Returned}
-use Rattle.calls.specs.Base.{upd}
 use Rattle.calls.specs.Numbers.{READERS-MAX, NOT-READING, KIND-NEW}
-use Rattle.calls.specs.Rows.{anyTrue}
-use Rattle.calls.specs.RowLaws.{clash, by-test, or-none, and-false, and-not, or-false, all-false, none-true, pick-split, same, at-or, AllClear, AllFalse}
 use Rattle.layout.specs.declared.Reader.{Reader}
 use Rattle.layout.specs.declared.Publisher.{Publisher}
 use Rattle.layout.specs.declared.Walk.{Walk as WalkNumbers}

@@ -9,11 +9,11 @@ use lib.IntN.{pos}
 use lib.ListN.{getD}
 use lib.Dec.{eqb}
 use borrow.Author.Tests.{eqb-true, eqb-false}
+use Rattle.base.specs.RowLaws.{clash}
 use Rattle.calls.specs.declared.Call.{Call}
 use Rattle.calls.specs.declared.Reply.the-variants.{Refused}
 use Rattle.calls.specs.Events.{accepted}
 use Rattle.calls.specs.Model.{firstTable}
-use Rattle.calls.specs.RowLaws.{clash}
 use Rattle.calls.specs.AnswerLaws.{NarrowPitch, Proper}
 use Rattle.calls.specs.Numbers.{KIND-NEW, KIND-OLD}
 use Rattle.statement.specs.Machine.{State, Outcome, Given, Machine, Fresh, afterAll}

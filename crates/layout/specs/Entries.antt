@@ -9,7 +9,7 @@ use lib.ListN.{set, length, replicate, getD-replicate}
 use lib.Seq.{getD-set-same, getD-set-other}
 use lib.Dec.{ltb, eqb}
 use borrow.Author.Tests.{eqb-true, eqb-false, ltb-true, ltb-false, lt-ltb}
-use Rattle.calls.specs.Base.{upd}
+use Rattle.base.specs.Base.{upd}
 use Rattle.calls.specs.Numbers.{TABLE}
 use Rattle.layout.specs.Layout.{entryAt, slotEntry}
 

@@ -11,9 +11,9 @@ use lib.ListN.{getD, set, length, length-set, replicate, length-replicate}
 use lib.Seq.{getD-set-same, getD-set-other, set-getD}
 use lib.Dec.{ltb, eqb}
 use borrow.Author.Tests.{eqb-true, eqb-false, ne-eqb, ltb-true, ltb-false, lt-ltb, le-ltb}
+use Rattle.base.specs.Base.{pick, upd}
 use Rattle.layout.specs.declared.Reader.{Reader}
 use Rattle.layout.specs.declared.Publisher.{Publisher}
-use Rattle.calls.specs.Base.{pick, upd}
 use Rattle.calls.specs.Numbers.{READERS-MAX, PUBLISHERS-MAX}
 use Rattle.layout.specs.Records.{_place≔_, _first≔_, _second≔_, _published≔_, _picked≔_, _atPlace_, _held≔_, _walk≔_, _mark≔_, _next≔_, _looks≔_, _waits≔_}
 use Rattle.layout.specs.Layout.{INDICATORS-AT, INDICATORS, indicator, withIndicator, KIND-AT, READERS-AT, PUBLISHERS-AT, SLOTS-AT, VERSION-AT, HEAD, READER-WORDS, FIRST-PUBLISHER, WORDS, readerWords, publisherWords, blankReader, noReader, noPublisher, putWords, readerRegion, publisherRegion, readerAt, publisherAt, withReader, withPublisher, withReaders, fresh}

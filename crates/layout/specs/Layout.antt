@@ -4,10 +4,10 @@ use mathlib.Core.List.{List, [], _∷_}
 use lib.IntN.{ℤ, pos}
 use lib.ListN.{getD, set, replicate}
 use lib.Dec.{ltb}
+use Rattle.base.specs.Base.{pick}
 use Rattle.layout.specs.declared.Reader.{Reader}
 use Rattle.layout.specs.declared.Publisher.{Publisher}
 use Rattle.layout.specs.declared.Walk.{Walk}
-use Rattle.calls.specs.Base.{pick}
 use Rattle.calls.specs.Numbers.{READERS-MAX, PUBLISHERS-MAX, TABLE}
 use Rattle.layout.specs.Records.{_published≔_}
 

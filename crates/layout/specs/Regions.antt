@@ -11,7 +11,7 @@ use lib.ListN.{getD, set, length, length-set}
 use lib.Seq.{getD-set-same, getD-set-other, set-getD}
 use lib.Dec.{ltb, eqb}
 use borrow.Author.Tests.{eqb-true, eqb-false, ltb-true, ltb-false, lt-ltb}
-use Rattle.calls.specs.Base.{pick, upd}
+use Rattle.base.specs.Base.{pick, upd}
 use Rattle.layout.specs.Layout.{Region, begins, ends, putWords, recordAt, withRecord}
 
 -- Words put in a row: how many there are, what stands elsewhere, what stands there; and words put where they stand already.

@@ -11,13 +11,13 @@ use lib.Signed.{ltZ}
 use lib.ListN.{getD, set, length, replicate}
 use lib.Dec.{ltb, eqb}
 use borrow.Author.Tests.{eqb-true, eqb-false, eq-eqb, ne-eqb, lt-leb, lt-ltb, le-ltb}
+use Rattle.base.specs.Rows.{firstOf, anyTrue}
+use Rattle.base.specs.Rows.Test.{_gives_}
+use Rattle.base.specs.RowLaws.{not-both, or-false, or-right, or-none, neither, negated, not-outside}
 use Rattle.calls.specs.declared.Call.{Call}
 use Rattle.calls.specs.declared.Call.the-variants.{Enter, Leave, Raise, Walk}
 use Rattle.calls.specs.declared.Reply.the-variants.{Made, Pitch, Claimed, Written, Swapped, Synced, Raised, Shared, Walked, Freed, Refused}
 use Rattle.calls.specs.Numbers.{FEATHERED, PITCH-LOW, PITCH-HIGH, MODULUS, NUMBER-MAX, DAMAGED}
-use Rattle.calls.specs.Rows.{firstOf, anyTrue}
-use Rattle.calls.specs.Rows.Test.{_gives_}
-use Rattle.calls.specs.RowLaws.{not-both, or-false, or-right, or-none, neither, negated, not-outside}
 use Rattle.layout.specs.declared.Reader.{Reader}
 use Rattle.layout.specs.declared.Publisher.{Publisher}
 use Rattle.layout.specs.declared.Progress.{Progress}

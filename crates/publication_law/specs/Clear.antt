@@ -4,9 +4,9 @@ use mathlib.Core.Path.{_≡_, refl}
 use mathlib.Core.Bool.{Bool, false, _&&_}
 use lib.ListN.{length}
 use borrow.Author.Tests.{eqb-true, eq-eqb, leb-false, lt-leb, not-false}
+use Rattle.base.specs.Rows.{firstOf}
+use Rattle.base.specs.RowLaws.{negated, within, not-outside, AllClear, clear}
 use Rattle.calls.specs.Numbers.{READERS-MAX, PUBLISHERS-MAX, SLOTS-MIN, SLOTS-MAX, TABLE}
-use Rattle.calls.specs.Rows.{firstOf}
-use Rattle.calls.specs.RowLaws.{negated, within, not-outside, AllClear, clear}
 use Rattle.layout.specs.Layout.{WORDS, publishers, slots}
 use Rattle.statement.specs.Machine.{State, Given}
 use Rattle.publication_law.specs.Steps.{Versions, publisher, anotherBusy, inUse, claimTests, makingTests}

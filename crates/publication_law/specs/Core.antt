@@ -9,7 +9,7 @@ use mathlib.Core.Option.{Option, none, some}
 use lib.IntN.{ℤ}
 use lib.ListN.{length}
 use lib.Dec.{leb, eqb}
-use Rattle.calls.specs.Base.{pick}
+use Rattle.base.specs.Base.{pick}
 use Rattle.calls.specs.Numbers.{TABLE}
 use Rattle.calls.specs.Model.{Model, entry}
 use Rattle.calls.specs.Told.{Told}

@@ -13,12 +13,12 @@ use lib.IntN.{ℤ}
 use lib.ListN.{length, length-append}
 use lib.Dec.{leb, eqb}
 use borrow.Author.Tests.{eqb-true, eqb-false, eq-eqb, ne-eqb, leb-true, le-leb, lt-leb}
+use Rattle.base.specs.Base.{upd, is}
+use Rattle.base.specs.RowLaws.{clash, not-both, or-left, or-right, or-none, or-either, same, at-or, found-below}
 use Rattle.calls.specs.declared.Call.the-variants.{Enter, Leave, Claim, Write, Swap, Release}
 use Rattle.calls.specs.declared.Reply.{Reply}
 use Rattle.calls.specs.declared.Reply.the-variants.{At}
-use Rattle.calls.specs.Base.{upd, is}
 use Rattle.calls.specs.Numbers.{TABLE}
-use Rattle.calls.specs.RowLaws.{clash, not-both, or-left, or-right, or-none, or-either, same, at-or, found-below}
 use Rattle.calls.specs.Model.{Model, model₀, shelve, entry}
 use Rattle.calls.specs.ModelLaws.{entry-old, entry-new}
 use Rattle.calls.specs.Told.{Told, told₀, tell, holds, Role, Has}

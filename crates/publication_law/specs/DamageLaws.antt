@@ -8,9 +8,9 @@ use lib.IntN.{ℤ}
 use lib.ListN.{length, replicate}
 use lib.Dec.{leb, ltb, eqb}
 use borrow.Author.Tests.{eqb-true, eqb-false, eq-eqb, ne-eqb, not-true, leb-true, leb-false, lt-leb, le-leb, ltb-false, le-ltb, not-false}
+use Rattle.base.specs.Rows.{anyTrue, outside}
+use Rattle.base.specs.RowLaws.{and-false, and-not, or-false, or-left, or-right, neither, negated, within, not-outside, all-false, none-true, none-below, no-below}
 use Rattle.calls.specs.Numbers.{READERS-MAX, PUBLISHERS-MAX, SLOTS-MIN, SLOTS-MAX, TABLE}
-use Rattle.calls.specs.Rows.{anyTrue, outside}
-use Rattle.calls.specs.RowLaws.{and-false, and-not, or-false, or-left, or-right, neither, negated, within, not-outside, all-false, none-true, none-below, no-below}
 use Rattle.layout.specs.declared.Publisher.{Publisher}
 use Rattle.layout.specs.Layout.{WORDS, kind, readers, publishers, slots, current, version}
 use Rattle.statement.specs.Machine.{State, state}

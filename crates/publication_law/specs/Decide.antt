@@ -6,9 +6,9 @@ use mathlib.Core.Bool.{true}
 use mathlib.Core.List.{List}
 use lib.Dec.{eqb}
 use borrow.Author.Tests.{eqb-true, eqb-false}
+use Rattle.base.specs.Rows.{Test, firstOf}
+use Rattle.base.specs.RowLaws.{AllClear, allAbove, clear, none-applies, not-both, pick-split}
 use Rattle.calls.specs.declared.Reply.the-variants.{Raised, Shared, Refused}
-use Rattle.calls.specs.Rows.{Test, firstOf}
-use Rattle.calls.specs.RowLaws.{AllClear, allAbove, clear, none-applies, not-both, pick-split}
 use Rattle.calls.specs.Events.{accepted}
 use Rattle.layout.specs.Layout.{version, withVersion, withPublisher}
 use Rattle.layout.specs.Records.{_atPlace_}

@@ -8,11 +8,11 @@ use mathlib.Core.List.{List}
 use lib.IntN.{ℤ}
 use lib.Dec.{eqb}
 use borrow.Author.Tests.{leb-true, leb-false}
+use Rattle.base.specs.Base.{upd}
+use Rattle.base.specs.RowLaws.{clash, pick-split, same, at-or, AllClear}
 use Rattle.calls.specs.declared.Call.the-variants.{Enter, Leave, Sync, Raise, Walk}
 use Rattle.calls.specs.declared.Reply.the-variants.{At, Left, Synced, Walked}
 use Rattle.calls.specs.declared.WalkReply.the-variants.{Returned}
-use Rattle.calls.specs.Base.{upd}
-use Rattle.calls.specs.RowLaws.{clash, pick-split, same, at-or, AllClear}
 use Rattle.calls.specs.Model.{firstTable}
 use Rattle.layout.specs.declared.Reader.{Reader}
 use Rattle.layout.specs.declared.Publisher.{Publisher}

@@ -6,8 +6,8 @@ use mathlib.Core.Path.{_≡_, refl, sym, _∙_}
 use mathlib.Core.Bool.{false, not}
 use lib.Dec.{eqb}
 use borrow.Author.Tests.{eq-eqb}
-use Rattle.calls.specs.Base.{pick}
-use Rattle.calls.specs.RowLaws.{clash, not-both, by-test, or-false, and-not, neither, same, at-or, none-below, no-below, missed}
+use Rattle.base.specs.Base.{pick}
+use Rattle.base.specs.RowLaws.{clash, not-both, by-test, or-false, and-not, neither, same, at-or, none-below, no-below, missed}
 use Rattle.calls.specs.Told.{holds, Has}
 use Rattle.calls.specs.Told.Role.{free}
 use Rattle.calls.specs.Tally.Phase.{idle}

@@ -6,12 +6,12 @@ use mathlib.Core.Bool.{false}
 use mathlib.Core.List.{List}
 use lib.IntN.{ℤ}
 use borrow.Author.Tests.{eqb-true, eq-eqb, leb-false, not-false}
+use Rattle.base.specs.Base.{upd}
+use Rattle.base.specs.RowLaws.{AllClear}
 use Rattle.calls.specs.declared.Call.the-variants.{Enter, Leave, Sync, Raise, Walk, Release}
 use Rattle.calls.specs.declared.Reply.the-variants.{At, Left, Synced, Walked, Freed}
 use Rattle.calls.specs.declared.WalkReply.{WalkReply}
 use Rattle.calls.specs.declared.WalkReply.the-variants.{Waiting, Spent, Quiet, Returned}
-use Rattle.calls.specs.Base.{upd}
-use Rattle.calls.specs.RowLaws.{AllClear}
 use Rattle.calls.specs.Model.{firstTable}
 use Rattle.calls.specs.Told.{holds}
 use Rattle.calls.specs.Tally.{withPhase}

@@ -6,11 +6,11 @@ use mathlib.Core.Path.{_≡_, refl, sym, _∙_}
 use mathlib.Core.Bool.{Bool, true, false}
 use lib.Dec.{leb, eqb}
 use borrow.Author.Tests.{eqb-true, eqb-false, ne-eqb, leb-true, lt-leb}
+use Rattle.base.specs.Base.{upd}
+use Rattle.base.specs.RowLaws.{clash, not-both, same, at-or}
 use Rattle.calls.specs.declared.Call.the-variants.{Enter, Leave, Sync}
 use Rattle.calls.specs.declared.Reply.{Reply}
 use Rattle.calls.specs.declared.Reply.the-variants.{At}
-use Rattle.calls.specs.Base.{upd}
-use Rattle.calls.specs.RowLaws.{clash, not-both, same, at-or}
 use Rattle.calls.specs.Told.{Told, told₀, tell}
 use Rattle.statement.specs.Kept.{Pend, pending}
 use Rattle.publication_law.specs.Onward.{Onward}

@@ -6,8 +6,8 @@ use mathlib.Core.Bool.{false}
 use mathlib.Core.List.{List}
 use lib.IntN.{ℤ}
 use lib.ListN.{getD, length}
-use Rattle.calls.specs.Base.{upd}
-use Rattle.calls.specs.RowLaws.{same, at-or}
+use Rattle.base.specs.Base.{upd}
+use Rattle.base.specs.RowLaws.{same, at-or}
 use Rattle.layout.specs.declared.Reader.{Reader}
 use Rattle.layout.specs.declared.Publisher.{Publisher}
 use Rattle.layout.specs.Layout.{KIND-AT, READERS-AT, PUBLISHERS-AT, SLOTS-AT, CURRENT-AT, VERSION-AT, readers, publishers, slots, current, version, slotEntry}

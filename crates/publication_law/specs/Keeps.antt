@@ -10,11 +10,11 @@ use lib.IntN.{ℤ, pos}
 use lib.ListN.{getD, set, length, length-set, replicate, length-replicate}
 use lib.Dec.{ltb, eqb}
 use borrow.Author.Tests.{eqb-true, eqb-false, leb-false, le-leb, ltb-false, lt-ltb, not-false}
+use Rattle.base.specs.Base.{pick}
+use Rattle.base.specs.RowLaws.{not-both, or-false, within, none-below, no-below, pick-split, same, AllClear}
 use Rattle.calls.specs.declared.Call.the-variants.{Claim, Write, Swap}
 use Rattle.calls.specs.declared.Reply.the-variants.{Claimed, Written, Swapped}
-use Rattle.calls.specs.Base.{pick}
 use Rattle.calls.specs.Numbers.{READERS-MAX, TABLE, FEATHERED}
-use Rattle.calls.specs.RowLaws.{not-both, or-false, within, none-below, no-below, pick-split, same, AllClear}
 use Rattle.calls.specs.Model.{entry, firstTable}
 use Rattle.calls.specs.ModelLaws.{entry-same}
 use Rattle.calls.specs.Told.{holds, Has}

@@ -6,8 +6,8 @@ use mathlib.Core.Logic.{_≢_}
 use mathlib.Core.Bool.{Bool, true, false, not, _&&_, _||_}
 use lib.Dec.{leb, ltb, eqb}
 use borrow.Author.Tests.{eqb-false, ne-eqb, le-leb, ltb-true, ltb-false, lt-ltb, le-ltb}
-use Rattle.calls.specs.Rows.{anyTrue}
-use Rattle.calls.specs.RowLaws.{or-false, or-left, or-right, or-none, neither}
+use Rattle.base.specs.Rows.{anyTrue}
+use Rattle.base.specs.RowLaws.{or-false, or-left, or-right, or-none, neither}
 use Rattle.layout.specs.declared.Reader.{Reader}
 use Rattle.layout.specs.declared.Publisher.{Publisher}
 use Rattle.publication_law.specs.Steps.{Versions, upTo}

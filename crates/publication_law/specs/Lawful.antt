@@ -11,13 +11,13 @@ use lib.ListN.{getD, length-set, replicate}
 use lib.Seq.{getD-set-same, getD-set-other}
 use lib.Dec.{eqb}
 use borrow.Author.Tests.{eqb-true, eq-eqb, leb-false, lt-leb, lt-ltb, ltb-false, le-ltb, not-false}
+use Rattle.base.specs.RowLaws.{clash, not-both, neither, negated, within, AllClear, allAbove}
 use Rattle.calls.specs.declared.Call.{Call}
 use Rattle.calls.specs.declared.Call.the-variants.{Enter, Look, Leave, Claim, Write, Swap, Sync, Raise, Walk, Release}
 use Rattle.calls.specs.declared.Reply.{Reply}
 use Rattle.calls.specs.declared.Reply.the-variants.{Made, At, Left, Synced, Walked, Freed, Refused}
 use Rattle.calls.specs.declared.WalkReply.the-variants.{Spent, Returned}
 use Rattle.calls.specs.Numbers.{READERS-MAX, FEATHERED, NUMBER-MAX, NOT-READING, MODULUS, DAMAGED}
-use Rattle.calls.specs.RowLaws.{clash, not-both, neither, negated, within, AllClear, allAbove}
 use Rattle.calls.specs.AnswerLaws.{Proper}
 use Rattle.calls.specs.Events.{accepted}
 use Rattle.calls.specs.Events.Event.{_⇒_}

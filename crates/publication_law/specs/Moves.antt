@@ -8,9 +8,9 @@ use lib.ListN.{getD, set, length, length-set}
 use lib.Seq.{getD-set-same, getD-set-other}
 use lib.Dec.{eqb}
 use borrow.Author.Tests.{eqb-true, eqb-false}
-use Rattle.calls.specs.Base.{pick, upd}
+use Rattle.base.specs.Base.{pick, upd}
+use Rattle.base.specs.RowLaws.{same}
 use Rattle.calls.specs.Numbers.{READERS-MAX, PUBLISHERS-MAX}
-use Rattle.calls.specs.RowLaws.{same}
 use Rattle.layout.specs.declared.Reader.{Reader}
 use Rattle.layout.specs.declared.Publisher.{Publisher}
 use Rattle.layout.specs.Layout.{HEAD, indicator, CURRENT-AT, VERSION-AT, RELEASES-AT, WORDS, readers, publishers, current, version, releases, readerAt, publisherAt, withReader, withPublisher}

@@ -6,8 +6,8 @@ use mathlib.Core.Path.{_≡_, refl, sym, ap, _∙_}
 use mathlib.Core.Bool.{Bool, true, false}
 use lib.Dec.{leb, eqb}
 use borrow.Author.Tests.{eqb-true, eqb-false, ne-eqb, leb-true, leb-false, le-leb}
-use Rattle.calls.specs.Base.{pick, upd}
-use Rattle.calls.specs.RowLaws.{same, at-or}
+use Rattle.base.specs.Base.{pick, upd}
+use Rattle.base.specs.RowLaws.{same, at-or}
 use Rattle.calls.specs.Tally.{Phase, firstPlace, tally₀}
 use Rattle.calls.specs.Tally.Phase.{idle, writing, swapped, synchronising, quiet, raised, returned}
 use Rattle.publication_law.specs.Phases.{phaseAt, Phases}

@@ -2,7 +2,7 @@
 use Prim.Native.Nat.{ℕ}
 use mathlib.Core.Path.{_≡_}
 use lib.Dec.{leb, eqb}
-use Rattle.calls.specs.Base.{pick}
+use Rattle.base.specs.Base.{pick}
 use Rattle.calls.specs.Tally.{Phase}
 use Rattle.calls.specs.Tally.Phase.{idle, writing, swapped, synchronising, quiet, raised, returned}
 

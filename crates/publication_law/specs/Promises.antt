@@ -9,11 +9,11 @@ use lib.IntN.{pos}
 use lib.ListN.{getD}
 use lib.Dec.{leb, eqb}
 use borrow.Author.Tests.{eqb-true, eqb-false, leb-true, leb-false, not-false}
+use Rattle.base.specs.RowLaws.{clash, not-both, pick-split}
 use Rattle.calls.specs.declared.Call.{Call}
 use Rattle.calls.specs.declared.Call.the-variants.{Sync, Raise, Walk}
 use Rattle.calls.specs.declared.Reply.the-variants.{Synced, Raised, Shared, Walked}
 use Rattle.calls.specs.declared.WalkReply.the-variants.{Spent}
-use Rattle.calls.specs.RowLaws.{clash, not-both, pick-split}
 use Rattle.calls.specs.AnswerLaws.{NarrowPitch, Proper}
 use Rattle.calls.specs.Events.{accepted}
 use Rattle.layout.specs.declared.Progress.{Progress}

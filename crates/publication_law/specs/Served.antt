@@ -10,10 +10,10 @@ use lib.Signed.{ltZ}
 use lib.ListN.{length}
 use lib.Dec.{leb, eqb}
 use borrow.Author.Tests.{eqb-true, eqb-false, eq-eqb, ne-eqb, leb-false, lt-leb, le-ltb, not-true, not-false}
+use Rattle.base.specs.RowLaws.{clash, and-not, neither, negated, within, not-outside, no-below, some-below, AllClear}
 use Rattle.calls.specs.declared.Call.the-variants.{Look, Claim, Write, Swap}
 use Rattle.calls.specs.declared.Reply.the-variants.{Pitch, Claimed, Written, Swapped, Refused}
 use Rattle.calls.specs.Numbers.{TABLE, PITCH-LOW, PITCH-HIGH, BUSY}
-use Rattle.calls.specs.RowLaws.{clash, and-not, neither, negated, within, not-outside, no-below, some-below, AllClear}
 use Rattle.calls.specs.Events.{accepted}
 use Rattle.calls.specs.Model.{entry}
 use Rattle.calls.specs.Told.{Has}

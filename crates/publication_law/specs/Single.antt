@@ -5,7 +5,7 @@ use mathlib.Core.Path.{_≡_, refl, sym}
 use mathlib.Core.Bool.{Bool, true, false, not, _&&_, _||_}
 use lib.Dec.{leb, eqb}
 use borrow.Author.Tests.{eqb-true, eqb-false, eq-eqb, ne-eqb, leb-true, leb-false, le-leb, lt-leb}
-use Rattle.calls.specs.RowLaws.{clash, not-both, or-none}
+use Rattle.base.specs.RowLaws.{clash, not-both, or-none}
 use Rattle.publication_law.specs.Core.{Hold}
 use Rattle.publication_law.specs.CoreLaws.{hold-map}
 use Rattle.publication_law.specs.Invariant.{formerAt}

@@ -6,13 +6,13 @@ use lib.IntN.{ℤ, pos}
 use lib.Signed.{ltZ}
 use lib.ListN.{getD, set, length, replicate}
 use lib.Dec.{leb, ltb, eqb}
+use Rattle.base.specs.Base.{pick}
+use Rattle.base.specs.Rows.{Test, firstOf, anyBelow, outside}
+use Rattle.base.specs.Rows.Test.{_gives_}
 use Rattle.calls.specs.declared.Reply.the-variants.{Pitch, Claimed, Written, Swapped, Synced, Raised, Shared, Walked, Freed, Refused}
 use Rattle.calls.specs.declared.WalkReply.{WalkReply}
 use Rattle.calls.specs.declared.WalkReply.the-variants.{Waiting, Spent, Quiet, Returned}
-use Rattle.calls.specs.Base.{pick}
 use Rattle.calls.specs.Numbers.{READERS-MAX, PUBLISHERS-MAX, SLOTS-MIN, SLOTS-MAX, TABLE, PITCH-LOW, PITCH-HIGH, FEATHERED, MODULUS, NUMBER-MAX, DAMAGED, BAD-READERS, BAD-PUBLISHERS, BAD-SLOTS, BAD-ENTRIES, BAD-VERSION, NO-SUCH-READER, NO-SUCH-PUBLISHER, NO-SUCH-SLOT, NO-SUCH-ENTRY, BAD-PITCH, READER-TURN, PUBLISHER-TURN, SLOT-IN-USE, BUSY, VERSION-IS-LAST, TOO-MANY-LOOKS}
-use Rattle.calls.specs.Rows.{Test, firstOf, anyBelow, outside}
-use Rattle.calls.specs.Rows.Test.{_gives_}
 use Rattle.layout.specs.declared.Reader.{Reader}
 use Rattle.layout.specs.declared.Publisher.{Publisher}
 use Rattle.layout.specs.declared.Walk.{Walk}

@@ -2,11 +2,11 @@
 -- and from the table its damage test, its steps and its making.
 use mathlib.Core.Bool.{Bool, _||_}
 use mathlib.Core.List.{List, _∷_}
+use Rattle.base.specs.Rows.{Test}
+use Rattle.base.specs.Rows.Test.{_gives_}
 use Rattle.calls.specs.declared.Call.{Call}
 use Rattle.calls.specs.declared.Reply.the-variants.{Made}
 use Rattle.calls.specs.Numbers.{DAMAGED}
-use Rattle.calls.specs.Rows.{Test}
-use Rattle.calls.specs.Rows.Test.{_gives_}
 use Rattle.statement.specs.Machine.{State, Outcome, outcome, Given, Machine}
 use Rattle.publication_law.specs.Steps.{decide}
 use Rattle.publication_law.specs.Damage.{Kind, sharedDamage}

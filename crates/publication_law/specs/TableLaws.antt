@@ -10,13 +10,13 @@ use lib.IntN.{ℤ, pos}
 use lib.ListN.{getD}
 use lib.Dec.{eqb}
 use borrow.Author.Tests.{eqb-true, eqb-false, ne-eqb}
+use Rattle.base.specs.Rows.{firstOf}
+use Rattle.base.specs.Rows.Test.{_gives_}
+use Rattle.base.specs.RowLaws.{clash, not-both, or-left, pick-split, AllClear, allAbove, all-above, clear, first-within}
 use Rattle.calls.specs.declared.Call.{Call}
 use Rattle.calls.specs.declared.Call.the-variants.{Write}
 use Rattle.calls.specs.declared.Reply.the-variants.{Made, Refused}
 use Rattle.calls.specs.Numbers.{DAMAGED}
-use Rattle.calls.specs.Rows.{firstOf}
-use Rattle.calls.specs.Rows.Test.{_gives_}
-use Rattle.calls.specs.RowLaws.{clash, not-both, or-left, pick-split, AllClear, allAbove, all-above, clear, first-within}
 use Rattle.calls.specs.AnswerLaws.{NarrowPitch, Proper}
 use Rattle.calls.specs.Events.{accepted}
 use Rattle.statement.specs.Machine.{State, Outcome, outcome, Given}

@@ -5,9 +5,9 @@ use native.Mathlib.Omega.{arith}
 use mathlib.Core.Path.{_≡_, refl, sym, _∙_}
 use mathlib.Core.Bool.{false}
 use lib.Dec.{eqb}
-use Rattle.calls.specs.Base.{upd}
+use Rattle.base.specs.Base.{upd}
+use Rattle.base.specs.RowLaws.{same, at-or}
 use Rattle.calls.specs.Numbers.{MODULUS}
-use Rattle.calls.specs.RowLaws.{same, at-or}
 use Rattle.calls.specs.Tally.{tally₀}
 use Rattle.publication_law.specs.Tallied.{Tallied}
 

@@ -10,7 +10,7 @@ use lib.ListN.{length, take, drop, length-drop}
 use lib.Seq.{take-all, take-add}
 use Rattle.sheet_law.specs.Printing.{PRINTED-MAX}
 use Rattle.sheet_law.specs.Sheet.{SheetState, fed}
-use Rattle.calls.specs.RowLaws.{clash}
+use Rattle.base.specs.RowLaws.{clash}
 use Rattle.sheet.specs.Feeds.{Feeds, within, moves}
 use Rattle.run_sheet.specs.Keeps.{Keeps}
 

@@ -10,8 +10,8 @@ use lib.Dec.{leb}
 use lib.ListN.{length, getD, set, take, drop, length-append, take-append-drop, drop-of-length-le}
 use lib.Seq.{take-suc, take-all, take-suc-set, length-take-le, drop-cons}
 use borrow.Author.Tests.{eq-eqb, ne-eqb, lt-ltb, le-ltb, leb-true, leb-false}
+use Rattle.base.specs.RowLaws.{clash}
 use Rattle.calls.specs.declared.Reply.{Reply}
-use Rattle.calls.specs.RowLaws.{clash}
 use Rattle.statement.specs.Machine.{State, Outcome, outcome}
 use Rattle.sheet_law.specs.declared.Command.{Command}
 use Rattle.sheet_law.specs.declared.Line.the-variants.{Read, Unread}

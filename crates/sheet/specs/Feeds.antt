@@ -9,8 +9,8 @@ use lib.Dec.{eqb, ltb}
 use lib.ListN.{length, take, drop, length-append}
 use lib.Seq.{take-at, take-length}
 use borrow.Author.Tests.{le-ltb}
-use Rattle.calls.specs.Base.{pick}
-use Rattle.calls.specs.RowLaws.{pick-split}
+use Rattle.base.specs.Base.{pick}
+use Rattle.base.specs.RowLaws.{pick-split}
 use Rattle.sheet.specs.declared.Fed.{Fed}
 use Rattle.sheet_law.specs.Text.{NEWLINE}
 use Rattle.sheet_law.specs.Printing.{PRINTED-MAX}

@@ -10,10 +10,10 @@ use lib.IntN.{ℤ, pos, negsuc}
 use lib.ListN.{length, length-append}
 use lib.Seq.{take-at, getD-at}
 use borrow.Author.Tests.{lt-ltb, le-ltb}
+use Rattle.base.specs.Base.{pick}
+use Rattle.base.specs.RowLaws.{pick-split}
 use Rattle.calls.specs.declared.Call.{Call}
 use Rattle.calls.specs.declared.Call.the-variants as call
-use Rattle.calls.specs.Base.{pick}
-use Rattle.calls.specs.RowLaws.{pick-split}
 use Rattle.calls.specs.Numbers.{PITCH-BITS, PITCH-HALF, NUMBER-MAX, KIND-NEW, KIND-OLD}
 use Rattle.sheet_law.specs.declared.Number.the-variants.{Fine}
 use Rattle.sheet_law.specs.declared.Angle.the-variants.{At}

@@ -8,9 +8,9 @@ use mathlib.Core.List.{List, [], _∷_, _++_, append-assoc, append-nil}
 use lib.Dec.{eqb}
 use lib.ListN.{length}
 use borrow.Author.Tests.{ne-eqb, eqb-true, eqb-false}
-use Rattle.calls.specs.Base.{pick}
-use Rattle.calls.specs.Rows.{outside}
-use Rattle.calls.specs.RowLaws.{pick-split, within, not-outside}
+use Rattle.base.specs.Base.{pick}
+use Rattle.base.specs.Rows.{outside}
+use Rattle.base.specs.RowLaws.{pick-split, within, not-outside}
 use Rattle.sheet_law.specs.declared.Number.{Number}
 use Rattle.sheet_law.specs.declared.Number.the-variants.{Fine}
 use Rattle.sheet_law.specs.declared.Angle.{Angle}

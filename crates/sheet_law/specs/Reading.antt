@@ -6,10 +6,10 @@ use mathlib.Core.List.{List, [], _∷_}
 use lib.Dec.{eqb, ltb}
 use lib.IntN.{ℤ, pos, negsuc}
 use lib.ListN.{length, getD, take, drop}
+use Rattle.base.specs.Base.{pick}
+use Rattle.base.specs.Rows.{outside}
 use Rattle.calls.specs.declared.Call.{Call}
 use Rattle.calls.specs.declared.Call.the-variants as call
-use Rattle.calls.specs.Base.{pick}
-use Rattle.calls.specs.Rows.{outside}
 use Rattle.calls.specs.Numbers.{PITCH-HALF, NUMBER-MAX, KIND-NEW, KIND-OLD}
 use Rattle.sheet_law.specs.declared.Number.{Number}
 use Rattle.sheet_law.specs.declared.Number.the-variants.{Fine, Bad}

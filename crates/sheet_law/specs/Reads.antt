@@ -9,7 +9,7 @@ use lib.Dec.{eqb, ltb}
 use lib.ListN.{length, take, length-append, length-take}
 use lib.Seq.{take-all, take-append-le}
 use borrow.Author.Tests.{lt-ltb, ltb-true, ltb-false}
-use Rattle.calls.specs.RowLaws.{pick-split}
+use Rattle.base.specs.RowLaws.{pick-split}
 use Rattle.statement.specs.Machine.{State}
 use Rattle.sheet_law.specs.declared.Line.the-variants.{Unread}
 use Rattle.sheet_law.specs.Text.{NEWLINE}

@@ -5,7 +5,7 @@ use mathlib.Core.List.{List, [], _∷_, _++_}
 use lib.Dec.{eqb, ltb}
 use lib.IntN.{ℤ, pos}
 use lib.ListN.{length, take, drop, replicate}
-use Rattle.calls.specs.Base.{pick}
+use Rattle.base.specs.Base.{pick}
 use Rattle.calls.specs.Numbers.{MODULUS, TABLE, SLOTS-MAX}
 use Rattle.layout.specs.Layout.{WORDS, kind, slots}
 use Rattle.statement.specs.Machine.{State, state, Outcome, outcome, given}

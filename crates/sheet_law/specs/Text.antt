@@ -5,7 +5,7 @@ use Prim.Native.String.{String, [] as none, _∷_ as _before_}
 use mathlib.Core.Bool.{Bool, true, false, _&&_}
 use mathlib.Core.List.{List, [], _∷_}
 use lib.Dec.{eqb}
-use Rattle.calls.specs.Base.{pick}
+use Rattle.base.specs.Base.{pick}
 
 -- The bytes of a quoted text, in ASCII.
 abbrev pub text : String → List ℕ

@@ -8,7 +8,7 @@ use mathlib.Core.List.{List}
 use lib.ListN.{length, take, drop, length-drop}
 use lib.Seq.{take-all}
 use borrow.Author.Tests.{lt-ltb, le-ltb, ltb-false, ltb-true}
-use Rattle.calls.specs.Base.{pick}
+use Rattle.base.specs.Base.{pick}
 use Rattle.sheet_law.specs.declared.Number.{Number}
 use Rattle.sheet_law.specs.declared.Number.the-variants.{Fine, Bad}
 use Rattle.sheet_law.specs.Reading.{within}

@@ -4,7 +4,7 @@ use mathlib.Core.Path.{_≡_}
 use mathlib.Core.List.{List}
 use lib.Dec.{eqb}
 use lib.ListN.{take}
-use Rattle.calls.specs.Base.{pick}
+use Rattle.base.specs.Base.{pick}
 use Rattle.sheet_law.specs.Printing.{withOne, withTwo}
 use Rattle.sheet_printing.specs.declared.Word.{Word}
 use Rattle.sheet_printing.specs.declared.Phrase.{Phrase}

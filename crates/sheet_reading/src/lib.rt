@@ -1,7 +1,7 @@
 // A run sheet's line to a command, by the definition of sheet_law.
 // A word, its arguments, and the whole line; only `parse` is for others.
 ghost use mathlib.Core.Path.{_≡_};
-ghost use Rattle.calls.specs.Base.{pick};
+ghost use Rattle.base.specs.Base.{pick};
 ghost use Rattle.sheet_law.specs.Text.{same as Text·same};
 ghost use Rattle.sheet_law.specs.Reading.{word as Reading·word, narrow as Reading·narrow, angle as Reading·angle, kindNamed, making as Reading·making, makingOf, command as Reading·command, lineOf};
 use calls::Call;

@@ -5,11 +5,11 @@ use mathlib.Core.Bool.{Bool, true, _&&_}
 use mathlib.Core.List.{List, [], _∷_, _++_}
 use lib.IntN.{ℤ, pos, negℤ}
 use lib.ListN.{replicate}
+use Rattle.base.specs.Base.{pick}
 use Rattle.calls.specs.declared.Call.{Call}
 use Rattle.calls.specs.declared.Call.the-variants.{Enter, Claim, Write, Swap}
 use Rattle.calls.specs.declared.Reply.{Reply}
 use Rattle.calls.specs.declared.Reply.the-variants.{Made, Written, Refused}
-use Rattle.calls.specs.Base.{pick}
 use Rattle.calls.specs.Numbers.{TABLE}
 use Rattle.calls.specs.Events.{accepted}
 use Rattle.layout.specs.Layout.{WORDS}

@@ -11,14 +11,14 @@ use lib.IntN.{ℤ}
 use lib.ListN.{length}
 use lib.Dec.{eqb}
 use borrow.Author.Tests.{eqb-true}
+use Rattle.base.specs.Base.{pick, upd, is}
+use Rattle.base.specs.RowLaws.{not-both, same, pick-split}
 use Rattle.calls.specs.declared.Call.{Call}
 use Rattle.calls.specs.declared.Call.the-variants.{Enter, Look, Leave, Claim, Write, Swap, Sync, Raise, Walk, Release}
 use Rattle.calls.specs.declared.Reply.{Reply}
 use Rattle.calls.specs.declared.Reply.the-variants.{Pitch, Walked}
 use Rattle.calls.specs.declared.WalkReply.the-variants.{Returned}
-use Rattle.calls.specs.Base.{pick, upd, is}
 use Rattle.calls.specs.Numbers.{TABLE}
-use Rattle.calls.specs.RowLaws.{not-both, same, pick-split}
 use Rattle.calls.specs.Events.{Event, accepted, placeOf, moved, foldEvents}
 use Rattle.calls.specs.Events.Event.{_⇒_}
 use Rattle.calls.specs.Model.{Model, model₀, shelve, entry}

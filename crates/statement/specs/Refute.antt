@@ -7,16 +7,16 @@ use mathlib.Core.Option.{Option, none}
 use lib.IntN.{ℤ}
 use lib.Dec.{eqb}
 use borrow.Author.Tests.{eqb-true}
+use Rattle.base.specs.Base.{pick, upd, is}
+use Rattle.base.specs.RowLaws.{clash, or-right}
 use Rattle.calls.specs.declared.Call.{Call}
 use Rattle.calls.specs.declared.Call.the-variants.{Enter, Look, Leave, Claim, Write, Swap, Sync, Raise, Walk, Release}
 use Rattle.calls.specs.declared.Reply.{Reply}
 use Rattle.calls.specs.declared.Reply.the-variants.{Walked}
 use Rattle.calls.specs.declared.WalkReply.the-variants.{Returned}
-use Rattle.calls.specs.Base.{pick, upd, is}
 use Rattle.calls.specs.Events.{Event, accepted, placeOf, moved, foldEvents}
 use Rattle.calls.specs.Events.Event.{_⇒_}
 use Rattle.calls.specs.Told.{Told, told₀, tell, entered, withSection}
-use Rattle.calls.specs.RowLaws.{clash, or-right}
 use Rattle.statement.specs.Machine.{State, Given, Machine, Fresh, events, afterAll}
 use Rattle.statement.specs.Demand3.{LeftIn, Demand3}
 

@@ -3,9 +3,9 @@ use Prim.Native.Nat.{ℕ}
 use mathlib.Core.Path.{_≡_, refl}
 use mathlib.Core.Bool.{false}
 use mathlib.Core.List.{List, [], _∷_, _++_}
+use Rattle.base.specs.Rows.{anyBelow, countBelow}
 use Rattle.calls.specs.declared.Call.the-variants.{Claim}
 use Rattle.calls.specs.declared.Reply.the-variants.{Made, Claimed, Refused}
-use Rattle.calls.specs.Rows.{anyBelow, countBelow}
 use Rattle.layout.specs.declared.Publisher.{Publisher}
 use Rattle.layout.specs.Layout.{indicator, readerAt, publisherAt, withReader, withPublisher, withReaders, noPublisher, fresh}
 use Rattle.layout.specs.Records.{_atPlace_, _held≔_}

@@ -1,10 +1,10 @@
 -- 'Spoiled means' of the old store, clause by clause, by computation: the cases that name no kind, and its own. Assumes nothing.
 use mathlib.Core.Path.{_≡_, refl, sym, subst}
 use mathlib.Core.List.{List, [], _∷_, _++_}
+use Rattle.base.specs.Rows.{anyBelow, countBelow}
 use Rattle.calls.specs.declared.Call.the-variants.{Enter, Claim}
 use Rattle.calls.specs.declared.Reply.the-variants.{At, Claimed, Refused}
 use Rattle.calls.specs.Numbers.{KIND-OLD}
-use Rattle.calls.specs.Rows.{anyBelow, countBelow}
 use Rattle.layout.specs.Layout.{indicator, readerAt, publisherAt, withReader, withPublisher, withReaders, fresh}
 use Rattle.statement.specs.Machine.{State}
 use Rattle.statement.specs.Examples.{AllHold}

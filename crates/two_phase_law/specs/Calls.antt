@@ -10,13 +10,13 @@ use mathlib.Core.List.{List, [], _∷_}
 use lib.ListN.{getD, set}
 use lib.Dec.{eqb}
 use borrow.Author.Tests.{eqb-true, eq-eqb, ne-eqb, lt-leb, le-leb, lt-ltb, not-false}
+use Rattle.base.specs.Base.{pick}
+use Rattle.base.specs.Rows.{anyTrue, countBelow}
+use Rattle.base.specs.RowLaws.{clash, pick-split, or-false, count-zero}
 use Rattle.calls.specs.declared.Call.the-variants.{Enter, Leave}
 use Rattle.calls.specs.declared.Reply.the-variants.{At, Left}
 use Rattle.calls.specs.declared.WalkReply.the-variants.{Waiting, Spent, Quiet, Returned}
-use Rattle.calls.specs.Base.{pick}
 use Rattle.calls.specs.Numbers.{READERS-MAX}
-use Rattle.calls.specs.Rows.{anyTrue, countBelow}
-use Rattle.calls.specs.RowLaws.{clash, pick-split, or-false, count-zero}
 use Rattle.layout.specs.declared.Reader.{Reader}
 use Rattle.layout.specs.declared.Publisher.{Publisher}
 use Rattle.layout.specs.declared.Walk.{Walk}

@@ -6,10 +6,10 @@ use mathlib.Core.Logic.{_≢_, _⊎_, inl, inr}
 use mathlib.Core.Bool.{Bool, true, false, _||_}
 use lib.Dec.{leb, eqb}
 use borrow.Author.Tests.{eqb-true, eqb-false, eq-eqb, ne-eqb, le-leb, lt-leb}
+use Rattle.base.specs.Base.{pick, upd}
+use Rattle.base.specs.Rows.{countBelow}
+use Rattle.base.specs.RowLaws.{and-false, negated, neither, pick-split, same, count-zero, count-upd}
 use Rattle.calls.specs.declared.WalkReply.the-variants.{Quiet, Waiting, Spent, Returned}
-use Rattle.calls.specs.Base.{pick, upd}
-use Rattle.calls.specs.Rows.{countBelow}
-use Rattle.calls.specs.RowLaws.{and-false, negated, neither, pick-split, same, count-zero, count-upd}
 use Rattle.layout.specs.declared.Reader.{Reader}
 use Rattle.layout.specs.declared.Publisher.{Publisher}
 use Rattle.layout.specs.declared.Progress.{Progress}

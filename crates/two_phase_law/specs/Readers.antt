@@ -6,10 +6,10 @@ use mathlib.Core.Bool.{Bool, true, false, _&&_}
 use lib.ListN.{length}
 use lib.Dec.{eqb}
 use borrow.Author.Tests.{leb-false}
+use Rattle.base.specs.Base.{pick}
+use Rattle.base.specs.RowLaws.{clash}
 use Rattle.calls.specs.declared.Call.the-variants.{Enter, Leave}
 use Rattle.calls.specs.declared.Reply.the-variants.{At, Left}
-use Rattle.calls.specs.Base.{pick}
-use Rattle.calls.specs.RowLaws.{clash}
 use Rattle.calls.specs.Events.{accepted}
 use Rattle.layout.specs.declared.Reader.{Reader}
 use Rattle.layout.specs.Layout.{HEAD, readers, current, version, indicator, withReader, withIndicator}

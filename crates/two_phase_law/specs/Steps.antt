@@ -4,11 +4,11 @@ use Prim.Native.Nat.{ℕ, _+_, _-_, _%_}
 use mathlib.Core.Bool.{Bool, true, not, _&&_, _||_}
 use mathlib.Core.List.{List, [], _∷_}
 use lib.Dec.{leb, ltb, eqb}
+use Rattle.base.specs.Base.{pick}
+use Rattle.base.specs.Rows.{anyTrue, countBelow}
 use Rattle.calls.specs.declared.WalkReply.{WalkReply}
 use Rattle.calls.specs.declared.WalkReply.the-variants.{Waiting, Spent, Quiet, Returned}
-use Rattle.calls.specs.Base.{pick}
 use Rattle.calls.specs.Numbers.{NOT-READING, KIND-OLD}
-use Rattle.calls.specs.Rows.{anyTrue, countBelow}
 use Rattle.layout.specs.declared.Reader.{Reader}
 use Rattle.layout.specs.declared.Publisher.{Publisher}
 use Rattle.layout.specs.declared.Progress.{Progress}

@@ -5,7 +5,7 @@ use lib.ListN.{length, length-set}
 use Prim.Native.Nat.{_-_, _<_, _≤_}
 use mathlib.Core.Path.{_≡_, refl}
 use lib.ListN.{take, replicate}
-use Rattle.calls.specs.Fills.{fills, filled}
+use Rattle.base.specs.Fills.{fills, filled}
 use Rattle.layout.proofs.clear.Statement.{statement}
 use Rattle.layout.proofs.clear.Tie as tie
 use Rattle.layout.proofs.clear.Reads as reads

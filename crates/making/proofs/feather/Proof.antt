@@ -5,8 +5,8 @@ use lib.ListN.{length}
 use lib.ListN.{length, take, replicate}
 use Prim.Native.Nat.{_+_, _-_, _*_, _≤_}
 use mathlib.Core.Path.{_≡_, refl, _∙_}
+use Rattle.base.specs.Fills.{filled}
 use Rattle.calls.specs.Numbers.{FEATHERED}
-use Rattle.calls.specs.Fills.{filled}
 use Rattle.making.proofs.feather.Statement.{statement}
 use Rattle.making.proofs.feather.Tie as tie
 use Rattle.making.proofs.feather.Reads as reads

@@ -5,8 +5,8 @@ use lib.ListN.{length, length-set}
 use lib.ListN.{length, length-set, take, replicate}
 use Prim.Native.Nat.{_+_, _-_, _<_, _≤_}
 use mathlib.Core.Path.{_≡_, refl}
+use Rattle.base.specs.Fills.{fills}
 use Rattle.calls.specs.Numbers.{FEATHERED}
-use Rattle.calls.specs.Fills.{fills}
 use Rattle.making.proofs.feather_table.Statement.{statement}
 use Rattle.making.proofs.feather_table.Tie as tie
 use Rattle.making.proofs.feather_table.Reads as reads

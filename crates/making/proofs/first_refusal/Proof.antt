@@ -2,7 +2,7 @@
 use native.Mathlib.Omega.{arith}
 use mathlib.Core.Path.{refl, sym, _∙_}
 use borrow.Author.Tests.{eq-eqb, ne-eqb}
-use Rattle.calls.specs.RowLaws.{within}
+use Rattle.base.specs.RowLaws.{within}
 use Rattle.making.proofs.first_refusal.Statement.{statement}
 use Rattle.making.proofs.first_refusal.Tie as tie
 use Rattle.making.proofs.first_refusal.Reads as reads

@@ -4,7 +4,7 @@ use native.Mathlib.Omega.{arith}
 use Prim.Native.Nat.{ℕ, _*_, _/_, _%_}
 use mathlib.Core.Path.{_≡_, refl, sym, ap, _∙_}
 use borrow.Author.Tests.{eq-eqb, ne-eqb, le-leb, lt-leb}
-use Rattle.calls.specs.RowLaws.{or-none}
+use Rattle.base.specs.RowLaws.{or-none}
 use Rattle.making.proofs.head_damaged.Statement.{statement}
 use Rattle.making.proofs.head_damaged.Tie as tie
 use Rattle.making.proofs.head_damaged.Reads as reads

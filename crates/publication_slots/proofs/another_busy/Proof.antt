@@ -5,8 +5,8 @@ use mathlib.Core.Path.{_≡_, sym}
 use Prim.Native.Nat.{_-_, _≤_}
 use mathlib.Core.Bool.{false, not, _&&_}
 use lib.Dec.{eqb}
-use Rattle.calls.specs.Rows.{anyBelow}
-use Rattle.calls.specs.RowLaws.{some-below, none-first, none-more}
+use Rattle.base.specs.Rows.{anyBelow}
+use Rattle.base.specs.RowLaws.{some-below, none-first, none-more}
 use Rattle.layout.specs.Layout.{publisherAt}
 use Rattle.publication_slots.proofs.another_busy.Statement.{statement}
 use Rattle.publication_slots.proofs.another_busy.Tie as tie

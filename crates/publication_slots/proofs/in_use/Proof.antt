@@ -6,8 +6,8 @@ use borrow.Author.Tests.{eq-eqb, ne-eqb}
 use Prim.Native.Nat.{_-_, _≤_}
 use mathlib.Core.Bool.{false, not, _&&_}
 use lib.Dec.{eqb}
-use Rattle.calls.specs.Rows.{anyBelow}
-use Rattle.calls.specs.RowLaws.{some-below, none-first, none-more}
+use Rattle.base.specs.Rows.{anyBelow}
+use Rattle.base.specs.RowLaws.{some-below, none-first, none-more}
 use Rattle.layout.specs.Layout.{publisherAt}
 use Rattle.publication_slots.proofs.in_use.Statement.{statement}
 use Rattle.publication_slots.proofs.in_use.Tie as tie

@@ -10,9 +10,9 @@ use lib.Dec.{T}
 use Prim.Native.Nat.{ℕ, suc, _-_, _<_}
 use lib.IntN.{ℤ, pos, negsuc, natAbs, _-ℤ_}
 use lib.Signed.{leZ, nonNeg, mag}
+use Rattle.base.specs.RowLaws.{clash}
 use Rattle.calls.specs.Numbers.{PITCH-HALF, NUMBER-MAX}
 use Rattle.calls.specs.PitchLaws.{PITCH-WIDTH}
-use Rattle.calls.specs.RowLaws.{clash}
 use Rattle.calls.specs.Answer.{pitchNumber}
 use Rattle.reply_numbers.proofs.pitch_number.Statement.{statement}
 use Rattle.reply_numbers.proofs.pitch_number.Tie as tie

@@ -6,7 +6,7 @@ use mathlib.Core.Path.{_≡_, refl, ap, _∙_}
 use lib.IntN.{ℤ, pos, negsuc, natAbs}
 use lib.Signed.{ltZ}
 use borrow.Author.Tests.{ltb-true}
-use Rattle.calls.specs.RowLaws.{clash}
+use Rattle.base.specs.RowLaws.{clash}
 use Rattle.calls.specs.PitchLaws.{pitch-back}
 use Rattle.sheet_law.specs.Text.{text}
 use Rattle.sheet_law.specs.Printing.{withOne, pitchText}

@@ -7,10 +7,10 @@ use mathlib.Core.Bool.{_&&_}
 use mathlib.Core.List.{List}
 use lib.IntN.{ℤ}
 use lib.Seq.{length-take-le}
+use Rattle.base.specs.Base.{pick}
 use Rattle.calls.specs.PitchLaws.{pitch-back}
 use Rattle.calls.specs.declared.Call.{Call}
 use Rattle.calls.specs.declared.Call.the-variants as call
-use Rattle.calls.specs.Base.{pick}
 use Rattle.sheet_law.specs.declared.Number.the-variants.{Fine, Bad}
 use Rattle.sheet_law.specs.declared.Angle.the-variants.{At, Wrong}
 use Rattle.sheet_law.specs.declared.Command.the-variants.{Run}

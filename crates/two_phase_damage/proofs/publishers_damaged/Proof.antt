@@ -4,8 +4,8 @@ use native.Mathlib.Omega.{arith}
 use Prim.Native.Nat.{ℕ, _-_, _≤_}
 use mathlib.Core.Path.{_≡_, sym, _∙_}
 use mathlib.Core.Bool.{false}
-use Rattle.calls.specs.Rows.{anyBelow}
-use Rattle.calls.specs.RowLaws.{some-below, none-first, none-more}
+use Rattle.base.specs.Rows.{anyBelow}
+use Rattle.base.specs.RowLaws.{some-below, none-first, none-more}
 use Rattle.layout.specs.Layout.{publisherAt}
 use Rattle.two_phase_law.specs.Steps.{kind}
 use Rattle.two_phase_damage.proofs.publishers_damaged.Statement.{statement}

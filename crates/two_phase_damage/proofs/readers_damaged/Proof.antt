@@ -5,8 +5,8 @@ use Prim.Native.Nat.{_-_, _≤_, _%_}
 use mathlib.Core.Path.{_≡_, refl, sym, _∙_}
 use mathlib.Core.Logic.{⊎-elim}
 use mathlib.Core.Bool.{false}
-use Rattle.calls.specs.Rows.{anyBelow}
-use Rattle.calls.specs.RowLaws.{some-below, none-first, none-more, or-left}
+use Rattle.base.specs.Rows.{anyBelow}
+use Rattle.base.specs.RowLaws.{some-below, none-first, none-more, or-left}
 use Rattle.layout.specs.Layout.{readerAt}
 use Rattle.two_phase_law.specs.Steps.{kind}
 use Rattle.two_phase_law.specs.Calls.{addedCounts, counts-none, counts-out, counts-in, counts-most, InSection, picked-right, picked-wrong, not-picked, outside-fits, no-reader-place}

@@ -8,9 +8,9 @@ use mathlib.Core.Bool.{Bool, true, false, not, _&&_, _||_}
 use mathlib.Core.List.{List, [], _∷_}
 use lib.Dec.{ltb, eqb}
 use borrow.Author.Tests.{eqb-true, eqb-false, eq-eqb, ne-eqb, ltb-true, ltb-false, lt-ltb, le-ltb}
-use Rattle.calls.specs.Base.{pick, upd}
-use Rattle.calls.specs.Rows.{Test, firstOf, anyTrue, anyBelow, countBelow, outside}
-use Rattle.calls.specs.Rows.Test.{_gives_}
+use Rattle.base.specs.Base.{pick, upd}
+use Rattle.base.specs.Rows.{Test, firstOf, anyTrue, anyBelow, countBelow, outside}
+use Rattle.base.specs.Rows.Test.{_gives_}
 
 -- Tests.
 pub clash : {A : Type 0} → true ≡ false → A

@@ -3,7 +3,7 @@ use Prim.Native.Nat.{ℕ, zero, suc}
 use mathlib.Core.Bool.{Bool, false, _||_}
 use mathlib.Core.List.{List, [], _∷_}
 use lib.Dec.{ltb}
-use Rattle.calls.specs.Base.{pick}
+use Rattle.base.specs.Base.{pick}
 
 infix 70 _gives_
 pub data Test : Type 0 where

@@ -1,0 +1,6 @@
+-- Definitions.
+pub mod Base
+pub mod Rows
+-- Laws.
+pub mod RowLaws
+pub mod Fills
