@@ -252,7 +252,7 @@ static void publisher_turn(struct cabinet *c, uint16_t p)
 /* ---- The executive ---- */
 
 /* A fresh store, every task at its beginning, the shelf's table feathered. */
-static void cabinet_made(struct cabinet *c, uint16_t kind, uint64_t seed)
+static void make_cabinet(struct cabinet *c, uint16_t kind, uint64_t seed)
 {
     memset(c, 0, sizeof *c);
     c->kind = kind;
@@ -265,7 +265,7 @@ static void cabinet_made(struct cabinet *c, uint16_t kind, uint64_t seed)
 }
 
 /* TURNS turns of each task, in a shuffled order. */
-static void turns_shuffled(struct cabinet *c, uint16_t order[TASKS * TURNS])
+static void shuffle_turns(struct cabinet *c, uint16_t order[TASKS * TURNS])
 {
     for (unsigned i = 0; i < TASKS * TURNS; i++)
         order[i] = (uint16_t)(i % TASKS);
@@ -277,11 +277,11 @@ static void turns_shuffled(struct cabinet *c, uint16_t order[TASKS * TURNS])
     }
 }
 
-static void round_run(struct cabinet *c, int round)
+static void run_round(struct cabinet *c, int round)
 {
     const struct counts before = c->all;
     uint16_t order[TASKS * TURNS];
-    turns_shuffled(c, order);
+    shuffle_turns(c, order);
     for (int i = 0; i < TASKS * TURNS; i++) {
         c->turns++;
         if (order[i] < BLADES)
@@ -293,13 +293,13 @@ static void round_run(struct cabinet *c, int round)
            c->all.looks - before.looks, c->all.swaps - before.swaps, c->all.waits - before.waits, c->all.freed - before.freed);
 }
 
-static void kind_run(uint16_t kind, const char *name, uint64_t seed)
+static void run_kind(uint16_t kind, const char *name, uint64_t seed)
 {
     static struct cabinet c;
     printf("%s store\n", name);
-    cabinet_made(&c, kind, seed);
+    make_cabinet(&c, kind, seed);
     for (int round = 1; round <= ROUNDS; round++)
-        round_run(&c, round);
+        run_round(&c, round);
     if (c.all.looks == 0 || c.all.freed < PUBLISHERS) {
         fprintf(stderr, "executive: too little happened\n");
         exit(1);
@@ -310,8 +310,8 @@ static void kind_run(uint16_t kind, const char *name, uint64_t seed)
 int main(int argc, char **argv)
 {
     const uint64_t seed = argc > 1 ? strtoull(argv[1], NULL, 10) : 2;
-    kind_run(RAHUVYTE_KIND_NEW, "new", seed);
+    run_kind(RAHUVYTE_KIND_NEW, "new", seed);
     printf("\n");
-    kind_run(RAHUVYTE_KIND_OLD, "old", seed);
+    run_kind(RAHUVYTE_KIND_OLD, "old", seed);
     return 0;
 }

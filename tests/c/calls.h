@@ -25,7 +25,7 @@ struct lent {
 #define LENT(l) (l).store, (l).store_len, (l).entries, (l).entries_len
 
 /* size bytes right before a page that cannot be touched: one byte too far ends the program. Null for none. */
-static void *bytes_lent(size_t size)
+static void *lend_bytes(size_t size)
 {
     if (size == 0)
         return NULL;
@@ -36,15 +36,15 @@ static void *bytes_lent(size_t size)
     return start + room - size;
 }
 
-static struct lent arrays_lent(size_t store_len, size_t entries_len)
+static struct lent lend_arrays(size_t store_len, size_t entries_len)
 {
-    const struct lent l = { (uint64_t *)bytes_lent(store_len * sizeof(uint64_t)), store_len,
-                            (rahuvyte_pitch *)bytes_lent(entries_len * sizeof(rahuvyte_pitch)), entries_len };
+    const struct lent l = { (uint64_t *)lend_bytes(store_len * sizeof(uint64_t)), store_len,
+                            (rahuvyte_pitch *)lend_bytes(entries_len * sizeof(rahuvyte_pitch)), entries_len };
     return l;
 }
 
 /* One of the ten calls; second is the entry, slot, pitch or b, if it has one. */
-static struct rahuvyte_reply called(struct lent l, enum word word, uint16_t first, int second)
+static struct rahuvyte_reply make_call(struct lent l, enum word word, uint16_t first, int second)
 {
     switch (word) {
     case ENTER: return rahuvyte_enter(LENT(l), first);
@@ -66,7 +66,7 @@ static int same_reply(struct rahuvyte_reply reply, uint64_t code, uint64_t first
     return reply.code == code && reply.first == first && reply.second == second;
 }
 
-static void failed(const char *test, const char *call, struct rahuvyte_reply reply, uint64_t code, const char *what)
+static void report_failure(const char *test, const char *call, struct rahuvyte_reply reply, uint64_t code, const char *what)
 {
     fprintf(stderr, "%s: %s replies %llu %llu %llu; expected %llu%s\n", test, call, (unsigned long long)reply.code, (unsigned long long)reply.first,
             (unsigned long long)reply.second, (unsigned long long)code, what);
@@ -79,7 +79,7 @@ struct copies {
     rahuvyte_pitch entries[RAHUVYTE_SLOTS_MAX * RAHUVYTE_TABLE + 1];
 };
 
-static void copied(struct copies *to, struct lent l)
+static void copy_lent(struct copies *to, struct lent l)
 {
     if (l.store_len > 0)
         memcpy(to->store, l.store, l.store_len * sizeof(uint64_t));

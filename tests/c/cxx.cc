@@ -4,7 +4,7 @@
 #include <cstdio>
 #include <vector>
 
-static bool looked_up(uint16_t kind)
+static bool look_up(uint16_t kind)
 {
     std::vector<uint64_t> store(RAHUVYTE_WORDS);
     std::vector<rahuvyte_pitch> entries(RAHUVYTE_ENTRIES(2));
@@ -19,7 +19,7 @@ static bool looked_up(uint16_t kind)
 }
 
 // Every pitch, as a reply has them.
-static bool pitches_restored()
+static bool restore_pitches()
 {
     for (int v = -32768; v <= 32767; v++) {
         const rahuvyte_reply reply = { RAHUVYTE_PITCH, static_cast<uint64_t>(static_cast<int64_t>(v)), 0 };
@@ -31,7 +31,7 @@ static bool pitches_restored()
 
 int main()
 {
-    if (!looked_up(RAHUVYTE_KIND_NEW) || !looked_up(RAHUVYTE_KIND_OLD) || !pitches_restored()) {
+    if (!look_up(RAHUVYTE_KIND_NEW) || !look_up(RAHUVYTE_KIND_OLD) || !restore_pitches()) {
         std::fprintf(stderr, "cxx: not as from C\n");
         return 1;
     }

@@ -19,17 +19,17 @@ static struct copies before;
 static void expect(const char *call, struct lent l, struct rahuvyte_reply reply, uint64_t code, uint64_t value, uint64_t other)
 {
     if (!same_reply(reply, code, value, other))
-        failed("replies", call, reply, code, "");
+        report_failure("replies", call, reply, code, "");
     if (!rahuvyte_accepted(reply) && !unchanged(&before, l))
-        failed("replies", call, reply, code, ", and nothing changed");
+        report_failure("replies", call, reply, code, ", and nothing changed");
     seen[code] = 1;
     played++;
 }
 
 static void play(struct lent l, struct line x)
 {
-    copied(&before, l);
-    expect(names[x.word], l, called(l, x.word, x.first, x.second), x.code, x.value, x.other);
+    copy_lent(&before, l);
+    expect(names[x.word], l, make_call(l, x.word, x.first, x.second), x.code, x.value, x.other);
 }
 
 static void play_all(struct lent l, const struct line *lines, size_t count)
@@ -42,12 +42,12 @@ static void play_all(struct lent l, const struct line *lines, size_t count)
 
 static void make(struct lent l, uint16_t kind, uint16_t readers, uint16_t publishers, uint16_t slots, uint64_t version, uint64_t code)
 {
-    copied(&before, l);
+    copy_lent(&before, l);
     expect("make", l, rahuvyte_make(LENT(l), kind, readers, publishers, slots, version), code, 0, 0);
 }
 
 /* CLAIM, 32 WRITEs of k times step - 500, SWAP. */
-static void swapped_in(struct lent l, uint16_t p, uint16_t slot, int step, uint64_t former)
+static void swap_in(struct lent l, uint16_t p, uint16_t slot, int step, uint64_t former)
 {
     const struct line claim = { CLAIM, p, slot, RAHUVYTE_CLAIMED, slot, 0 }, swap = { SWAP, p, 0, RAHUVYTE_SWAPPED, former, 0 };
     play(l, claim);
@@ -59,10 +59,10 @@ static void swapped_in(struct lent l, uint16_t p, uint16_t slot, int step, uint6
 }
 
 /* Making: each refusal alone, the order of two at once, the ends of each range. */
-static void makings(uint16_t kind, uint64_t last)
+static void try_makings(uint16_t kind, uint64_t last)
 {
-    const struct lent l = arrays_lent(RAHUVYTE_WORDS, RAHUVYTE_ENTRIES(3)), least = arrays_lent(RAHUVYTE_WORDS, RAHUVYTE_ENTRIES(2)),
-                      most = arrays_lent(RAHUVYTE_WORDS, RAHUVYTE_ENTRIES(32)), more = arrays_lent(RAHUVYTE_WORDS, RAHUVYTE_ENTRIES(32) + 1);
+    const struct lent l = lend_arrays(RAHUVYTE_WORDS, RAHUVYTE_ENTRIES(3)), least = lend_arrays(RAHUVYTE_WORDS, RAHUVYTE_ENTRIES(2)),
+                      most = lend_arrays(RAHUVYTE_WORDS, RAHUVYTE_ENTRIES(32)), more = lend_arrays(RAHUVYTE_WORDS, RAHUVYTE_ENTRIES(32) + 1);
     make(l, 3, 0, 0, 0, 0, RAHUVYTE_DAMAGED);
     make(l, kind, 0, 0, 3, 0, RAHUVYTE_BAD_READERS);
     make(l, kind, 65, 1, 3, 0, RAHUVYTE_BAD_READERS);
@@ -113,14 +113,14 @@ static const struct line new_looks[] = {
     { LEAVE, 1, 0, RAHUVYTE_LEFT, 0, 0 },
 };
 
-static void new_lists(void)
+static void play_new_lists(void)
 {
-    const struct lent l = arrays_lent(RAHUVYTE_WORDS, RAHUVYTE_ENTRIES(3));
+    const struct lent l = lend_arrays(RAHUVYTE_WORDS, RAHUVYTE_ENTRIES(3));
     make(l, RAHUVYTE_KIND_NEW, 2, 2, 3, 0, RAHUVYTE_MADE);
     PLAY(l, names_refused);
     PLAY(l, new_enters);
-    swapped_in(l, 0, 1, 100, 0);
-    swapped_in(l, 1, 2, 200, 1);
+    swap_in(l, 0, 1, 100, 0);
+    swap_in(l, 1, 2, 200, 1);
     PLAY(l, new_waits);
     PLAY(l, new_looks);
 }
@@ -142,29 +142,29 @@ static const struct line old_looks[] = {
     { LOOK, 1, 0, RAHUVYTE_PITCH, UINT64_MAX - 499, 0 }, { LOOK, 1, 31, RAHUVYTE_PITCH, 2600, 0 }, { LEAVE, 1, 0, RAHUVYTE_LEFT, 0, 0 },
 };
 
-static void old_lists(void)
+static void play_old_lists(void)
 {
-    const struct lent l = arrays_lent(RAHUVYTE_WORDS, RAHUVYTE_ENTRIES(3));
+    const struct lent l = lend_arrays(RAHUVYTE_WORDS, RAHUVYTE_ENTRIES(3));
     make(l, RAHUVYTE_KIND_OLD, 2, 2, 3, 0, RAHUVYTE_MADE);
     PLAY(l, names_refused);
     PLAY(l, old_enters);
-    swapped_in(l, 0, 1, 100, 0);
+    swap_in(l, 0, 1, 100, 0);
     PLAY(l, old_waits);
     PLAY(l, old_looks);
 }
 
 /* SYNC at the last version and one before it; WALK with looks at their end (word 329 + 4, docs/LAYOUT.md). */
-static void numbers_at_their_end(uint16_t kind, uint64_t last)
+static void reach_last_numbers(uint16_t kind, uint64_t last)
 {
     static const struct line at_last[] = { { SYNC, 0, 0, RAHUVYTE_VERSION_IS_LAST, 0, 0 } };
     static const struct line new_raise[] = { { RAISE, 0, 0, RAHUVYTE_RAISED, 0, 0 } };
     static const struct line too_many[] = { { WALK, 0, 2, RAHUVYTE_TOO_MANY_LOOKS, 0, 0 } };
-    const struct lent l = arrays_lent(RAHUVYTE_WORDS, RAHUVYTE_ENTRIES(2));
+    const struct lent l = lend_arrays(RAHUVYTE_WORDS, RAHUVYTE_ENTRIES(2));
     make(l, kind, 1, 1, 2, last, RAHUVYTE_MADE);
-    swapped_in(l, 0, 1, 0, 0);
+    swap_in(l, 0, 1, 0, 0);
     PLAY(l, at_last);
     make(l, kind, 1, 1, 2, last - 1, RAHUVYTE_MADE);
-    swapped_in(l, 0, 1, 0, 0);
+    swap_in(l, 0, 1, 0, 0);
     const struct line before_last = { SYNC, 0, 0, RAHUVYTE_SYNCED, last, 0 };
     play(l, before_last);
     if (kind == RAHUVYTE_KIND_NEW)
@@ -177,7 +177,7 @@ static void numbers_at_their_end(uint16_t kind, uint64_t last)
 }
 
 /* Every code that has a meaning was seen, and every code seen has one. */
-static void all_seen(void)
+static void check_all_seen(void)
 {
     const char *const none = rahuvyte_meaning(0);
     for (uint64_t code = 0; code < sizeof seen / sizeof seen[0]; code++)
@@ -189,13 +189,13 @@ static void all_seen(void)
 
 int main(void)
 {
-    makings(RAHUVYTE_KIND_NEW, RAHUVYTE_LAST_NEW);
-    makings(RAHUVYTE_KIND_OLD, RAHUVYTE_LAST_OLD);
-    new_lists();
-    old_lists();
-    numbers_at_their_end(RAHUVYTE_KIND_NEW, RAHUVYTE_LAST_NEW);
-    numbers_at_their_end(RAHUVYTE_KIND_OLD, RAHUVYTE_LAST_OLD);
-    all_seen();
+    try_makings(RAHUVYTE_KIND_NEW, RAHUVYTE_LAST_NEW);
+    try_makings(RAHUVYTE_KIND_OLD, RAHUVYTE_LAST_OLD);
+    play_new_lists();
+    play_old_lists();
+    reach_last_numbers(RAHUVYTE_KIND_NEW, RAHUVYTE_LAST_NEW);
+    reach_last_numbers(RAHUVYTE_KIND_OLD, RAHUVYTE_LAST_OLD);
+    check_all_seen();
     printf("replies: %u calls, every reply and every refusal\n", played);
     return 0;
 }

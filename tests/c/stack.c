@@ -60,7 +60,7 @@ static void call(void)
 }
 
 /* Makes the call on the painted stack; the bytes that it took. */
-static size_t taken(unsigned char paint)
+static size_t measure_stack(unsigned char paint)
 {
     memset(painted, paint, sizeof painted);
     if (getcontext(&there) != 0)
@@ -85,10 +85,10 @@ static void expect(uint64_t code, enum word w, uint16_t a, uint16_t b)
     memcpy(store_before, store, sizeof store);
     memcpy(entries_before, entries, sizeof entries);
     word = w, first = a, second = b;
-    size_t bytes = taken(0xa5);
+    size_t bytes = measure_stack(0xa5);
     memcpy(store, store_before, sizeof store);
     memcpy(entries, entries_before, sizeof entries);
-    const size_t again = taken(0x5a);
+    const size_t again = measure_stack(0x5a);
     if (again > bytes)
         bytes = again;
     /* The return address alone is 8 bytes: less means that nothing was measured. */
@@ -106,7 +106,7 @@ static void expect(uint64_t code, enum word w, uint16_t a, uint16_t b)
 }
 
 /* All readers go in and look; some calls out of turn. */
-static void readers_in(void)
+static void enter_readers(void)
 {
     for (uint16_t r = 0; r < READERS; r++) {
         expect(RAHUVYTE_READER_TURN, LEAVE, r, 0);
@@ -121,14 +121,14 @@ static void readers_in(void)
     expect(RAHUVYTE_NO_SUCH_ENTRY, LOOK, 0, 32);
 }
 
-static void readers_out(void)
+static void leave_readers(void)
 {
     for (uint16_t r = 0; r < READERS; r++)
         expect(RAHUVYTE_LEFT, LEAVE, r, 0);
 }
 
 /* A publisher writes a table and swaps it in. */
-static void swapped_in(uint16_t p, uint16_t slot)
+static void swap_in(uint16_t p, uint16_t slot)
 {
     expect(RAHUVYTE_SLOT_IN_USE, CLAIM, p, (uint16_t)store[4]);
     expect(RAHUVYTE_CLAIMED, CLAIM, p, slot);
@@ -144,10 +144,10 @@ static void swapped_in(uint16_t p, uint16_t slot)
 }
 
 /* The new store: every publisher at once, all readers in. */
-static void new_published(void)
+static void publish_new(void)
 {
     for (uint16_t p = 0; p < PUBLISHERS; p++)
-        swapped_in(p, (uint16_t)(p + 1));
+        swap_in(p, (uint16_t)(p + 1));
     for (uint16_t p = 0; p < PUBLISHERS; p++)
         expect(p == 0 ? RAHUVYTE_RAISED : RAHUVYTE_SHARED, RAISE, p, 0);
     expect(RAHUVYTE_PUBLISHER_TURN, RAISE, 0, 0);
@@ -156,7 +156,7 @@ static void new_published(void)
         expect(RAHUVYTE_WAITING, WALK, p, UINT16_MAX);
         expect(RAHUVYTE_PUBLISHER_TURN, RELEASE, p, 0);
     }
-    readers_out();
+    leave_readers();
     for (uint16_t p = 0; p < PUBLISHERS; p++) {
         expect(RAHUVYTE_SPENT, WALK, p, READERS - 1);
         expect(RAHUVYTE_RETURNED, WALK, p, UINT16_MAX);
@@ -166,10 +166,10 @@ static void new_published(void)
 }
 
 /* The old store: the highest publisher, all readers in. */
-static void old_published(void)
+static void publish_old(void)
 {
     const uint16_t p = PUBLISHERS - 1;
-    swapped_in(p, SLOTS - 1);
+    swap_in(p, SLOTS - 1);
     expect(RAHUVYTE_BUSY, CLAIM, 0, 1);
     expect(RAHUVYTE_PUBLISHER_TURN, RAISE, p, 0);
     expect(RAHUVYTE_SPENT, WALK, p, 0);
@@ -177,37 +177,37 @@ static void old_published(void)
     expect(RAHUVYTE_RAISED, RAISE, p, 0);
     expect(RAHUVYTE_WAITING, WALK, p, UINT16_MAX);
     expect(RAHUVYTE_PUBLISHER_TURN, RELEASE, p, 0);
-    readers_out();
+    leave_readers();
     expect(RAHUVYTE_RETURNED, WALK, p, UINT16_MAX);
     expect(RAHUVYTE_PUBLISHER_TURN, WALK, p, 1);
     expect(RAHUVYTE_FREED, RELEASE, p, 0);
 }
 
 /* Every call on a store whose last publisher is out of range: the damage test at its longest. */
-static void all_damaged(void)
+static void call_damaged(void)
 {
     store[RAHUVYTE_WORDS - 6] = 39;
     for (int w = ENTER; w <= RELEASE; w++)
         expect(RAHUVYTE_DAMAGED, (enum word)w, 0, 1);
 }
 
-static void kind_measured(uint16_t k)
+static void measure_kind(uint16_t k)
 {
     kind = k;
     expect(RAHUVYTE_BAD_READERS, MAKE, READERS + 1, 0);
     expect(RAHUVYTE_MADE, MAKE, READERS, 0);
-    readers_in();
+    enter_readers();
     if (kind == RAHUVYTE_KIND_NEW)
-        new_published();
+        publish_new();
     else
-        old_published();
-    all_damaged();
+        publish_old();
+    call_damaged();
 }
 
 int main(void)
 {
-    kind_measured(RAHUVYTE_KIND_NEW);
-    kind_measured(RAHUVYTE_KIND_OLD);
+    measure_kind(RAHUVYTE_KIND_NEW);
+    measure_kind(RAHUVYTE_KIND_OLD);
     size_t deepest = 0;
     printf("%-8s %9s %8s   bytes of stack\n", "call", "accepted", "refused");
     for (int w = MAKE; w <= RELEASE; w++) {

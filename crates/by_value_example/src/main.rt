@@ -12,23 +12,23 @@ use two_phase::TwoPhase;
 const LAST_ENTRY: u16 = 31;
 
 // A word, and the numbers of a reply, on a line of its own.
-fn say(word: &[u8]) {
+fn show(word: &[u8]) {
     io::write_all(1, word);
     io::write_all(1, b"\n");
 }
 
-fn say_one(word: &[u8], a: u64) {
+fn show_one(word: &[u8], a: u64) {
     io::write_all(1, word);
     io::write_all(1, b" ");
     io::print_decimal(1, a);
     io::write_all(1, b"\n");
 }
 
-fn say_two(word: &[u8], a: u64, b: u64) {
+fn show_two(word: &[u8], a: u64, b: u64) {
     io::write_all(1, word);
     io::write_all(1, b" ");
     io::print_decimal(1, a);
-    say_one(b"", b);
+    show_one(b"", b);
 }
 
 // The size of a pitch.
@@ -43,56 +43,56 @@ fn size(v: Pitch) -> u64
 }
 
 // A negative pitch has a minus.
-fn say_pitch(v: Pitch) {
+fn show_pitch(v: Pitch) {
     io::write_all(1, b"pitch ");
     if v < 0 {
         io::write_all(1, b"-");
     }
     io::print_decimal(1, size(v));
-    say(b"");
+    show(b"");
 }
 
-fn say_walk(reply: WalkReply) {
+fn show_walk(reply: WalkReply) {
     match reply {
-        WalkReply::Waiting(w) => say_one(b"waiting", w),
-        WalkReply::Spent => say(b"spent"),
-        WalkReply::Quiet => say(b"quiet"),
-        WalkReply::Returned(looks, waits) => say_two(b"returned", looks, waits),
+        WalkReply::Waiting(w) => show_one(b"waiting", w),
+        WalkReply::Spent => show(b"spent"),
+        WalkReply::Quiet => show(b"quiet"),
+        WalkReply::Returned(looks, waits) => show_two(b"returned", looks, waits),
     }
 }
 
-fn say_reply(reply: Reply) {
+fn show_reply(reply: Reply) {
     match reply {
-        Reply::Made => say(b"made"),
-        Reply::At(place) => say_one(b"at", place),
-        Reply::Pitch(v) => say_pitch(v),
-        Reply::Left => say(b"left"),
-        Reply::Claimed(slot) => say_one(b"claimed", slot),
-        Reply::Written(n) => say_one(b"written", n),
-        Reply::Swapped(slot) => say_one(b"swapped", slot),
-        Reply::Synced(mark) => say_one(b"synced", mark),
-        Reply::Raised => say(b"raised"),
-        Reply::Shared => say(b"shared"),
-        Reply::Walked(w) => say_walk(w),
-        Reply::Freed(slot, releases) => say_two(b"freed", slot, releases),
-        Reply::Refused(n) => say_one(b"refused", n),
+        Reply::Made => show(b"made"),
+        Reply::At(place) => show_one(b"at", place),
+        Reply::Pitch(v) => show_pitch(v),
+        Reply::Left => show(b"left"),
+        Reply::Claimed(slot) => show_one(b"claimed", slot),
+        Reply::Written(n) => show_one(b"written", n),
+        Reply::Swapped(slot) => show_one(b"swapped", slot),
+        Reply::Synced(mark) => show_one(b"synced", mark),
+        Reply::Raised => show(b"raised"),
+        Reply::Shared => show(b"shared"),
+        Reply::Walked(w) => show_walk(w),
+        Reply::Freed(slot, releases) => show_two(b"freed", slot, releases),
+        Reply::Refused(n) => show_one(b"refused", n),
     }
 }
 
-// A store handed back, its reply said.
-fn said_new(stepped: grace_version::Stepped) -> GraceVersion
+// A store handed back, its reply shown.
+fn show_new(stepped: grace_version::Stepped) -> GraceVersion
     ensures { λ s. ⌜ s ≡ stepped .store ⌝ }
 {
     let reply = stepped.reply;
-    say_reply(reply);
+    show_reply(reply);
     stepped.store
 }
 
-fn said_old(stepped: two_phase::Stepped) -> TwoPhase
+fn show_old(stepped: two_phase::Stepped) -> TwoPhase
     ensures { λ s. ⌜ s ≡ stepped .store ⌝ }
 {
     let reply = stepped.reply;
-    say_reply(reply);
+    show_reply(reply);
     stepped.store
 }
 
@@ -101,7 +101,7 @@ fn new_pitch(k: u16) -> Pitch {
     if k == 0 { -500 } else { 2500 }
 }
 
-// The 32 WRITEs of that table, in order. Only the last reply is said.
+// The 32 WRITEs of that table, in order. Only the last reply is shown.
 fn write_new(store: GraceVersion, entries: &mut [Pitch], p: u16) -> GraceVersion {
     let mut store = store;
     let mut k: u16 = 0;
@@ -110,7 +110,7 @@ fn write_new(store: GraceVersion, entries: &mut [Pitch], p: u16) -> GraceVersion
         store = stepped.store;
         k += 1;
     }
-    said_new(store.write(entries, p, new_pitch(LAST_ENTRY)))
+    show_new(store.write(entries, p, new_pitch(LAST_ENTRY)))
 }
 
 fn write_old(store: TwoPhase, entries: &mut [Pitch], p: u16) -> TwoPhase {
@@ -121,64 +121,64 @@ fn write_old(store: TwoPhase, entries: &mut [Pitch], p: u16) -> TwoPhase {
         store = stepped.store;
         k += 1;
     }
-    said_old(store.write(entries, p, new_pitch(LAST_ENTRY)))
+    show_old(store.write(entries, p, new_pitch(LAST_ENTRY)))
 }
 
 // ENTER up to the pick: places 1 to 5 of the new store, and 1, 4, 5 of the old.
 fn pick_new(store: GraceVersion, entries: &[Pitch], r: u16) -> GraceVersion {
-    let store = said_new(store.enter(entries, r));
-    let store = said_new(store.enter(entries, r));
-    let store = said_new(store.enter(entries, r));
-    let store = said_new(store.enter(entries, r));
-    said_new(store.enter(entries, r))
+    let store = show_new(store.enter(entries, r));
+    let store = show_new(store.enter(entries, r));
+    let store = show_new(store.enter(entries, r));
+    let store = show_new(store.enter(entries, r));
+    show_new(store.enter(entries, r))
 }
 
 fn pick_old(store: TwoPhase, entries: &[Pitch], r: u16) -> TwoPhase {
-    let store = said_old(store.enter(entries, r));
-    let store = said_old(store.enter(entries, r));
-    said_old(store.enter(entries, r))
+    let store = show_old(store.enter(entries, r));
+    let store = show_old(store.enter(entries, r));
+    show_old(store.enter(entries, r))
 }
 
 // CLAIM, the WRITEs, SWAP.
 fn swap_in_new(store: GraceVersion, entries: &mut [Pitch], p: u16, slot: u16) -> GraceVersion {
-    let store = said_new(store.claim(entries, p, slot));
+    let store = show_new(store.claim(entries, p, slot));
     let store = write_new(store, entries, p);
-    said_new(store.swap(entries, p))
+    show_new(store.swap(entries, p))
 }
 
 fn swap_in_old(store: TwoPhase, entries: &mut [Pitch], p: u16, slot: u16) -> TwoPhase {
-    let store = said_old(store.claim(entries, p, slot));
+    let store = show_old(store.claim(entries, p, slot));
     let store = write_old(store, entries, p);
-    said_old(store.swap(entries, p))
+    show_old(store.swap(entries, p))
 }
 
 // The new store, 2 readers. Reader 1 has picked the old table when the new one is swapped in.
 fn publish_new(entries: &mut [Pitch]) {
-    let store = said_new(GraceVersion::make(entries, 2, 1, 2, 0));
+    let store = show_new(GraceVersion::make(entries, 2, 1, 2, 0));
     let store = pick_new(store, entries, 1);
-    let store = said_new(store.look(entries, 1, 0));
+    let store = show_new(store.look(entries, 1, 0));
     let store = swap_in_new(store, entries, 0, 1);
     wait_new(store, entries);
 }
 
 // The walk passes reader 0, and waits for reader 1, which keeps its table until it leaves and then picks the new one.
 fn wait_new(store: GraceVersion, entries: &[Pitch]) {
-    let store = said_new(store.sync(entries, 0));
-    let store = said_new(store.raise(entries, 0));
-    let store = said_new(store.walk(entries, 0, 1));
-    let store = said_new(store.walk(entries, 0, 10));
-    let store = said_new(store.look(entries, 1, 0));
-    let store = said_new(store.leave(entries, 1));
-    let store = said_new(store.walk(entries, 0, 10));
-    let store = said_new(store.release(entries, 0));
+    let store = show_new(store.sync(entries, 0));
+    let store = show_new(store.raise(entries, 0));
+    let store = show_new(store.walk(entries, 0, 1));
+    let store = show_new(store.walk(entries, 0, 10));
+    let store = show_new(store.look(entries, 1, 0));
+    let store = show_new(store.leave(entries, 1));
+    let store = show_new(store.walk(entries, 0, 10));
+    let store = show_new(store.release(entries, 0));
     let store = pick_new(store, entries, 1);
-    let store = said_new(store.look(entries, 1, 0));
-    said_new(store.look(entries, 1, LAST_ENTRY));
+    let store = show_new(store.look(entries, 1, 0));
+    show_new(store.look(entries, 1, LAST_ENTRY));
 }
 
 // The new store, 2 publishers. Both swap a table in while the reader is at the first.
 fn publish_side_by_side(entries: &mut [Pitch]) {
-    let store = said_new(GraceVersion::make(entries, 1, 2, 3, 0));
+    let store = show_new(GraceVersion::make(entries, 1, 2, 3, 0));
     let store = pick_new(store, entries, 0);
     let store = swap_in_new(store, entries, 0, 1);
     let store = swap_in_new(store, entries, 1, 2);
@@ -187,55 +187,55 @@ fn publish_side_by_side(entries: &mut [Pitch]) {
 
 // Both synchronise at version 0, with the same mark: one raises the version, and both wait for the reader and return.
 fn share_wait(store: GraceVersion, entries: &[Pitch]) {
-    let store = said_new(store.sync(entries, 0));
-    let store = said_new(store.sync(entries, 1));
-    let store = said_new(store.raise(entries, 0));
-    let store = said_new(store.raise(entries, 1));
-    let store = said_new(store.walk(entries, 0, 10));
-    let store = said_new(store.walk(entries, 1, 10));
-    let store = said_new(store.leave(entries, 0));
-    let store = said_new(store.walk(entries, 0, 10));
-    let store = said_new(store.walk(entries, 1, 10));
-    let store = said_new(store.release(entries, 0));
-    said_new(store.release(entries, 1));
+    let store = show_new(store.sync(entries, 0));
+    let store = show_new(store.sync(entries, 1));
+    let store = show_new(store.raise(entries, 0));
+    let store = show_new(store.raise(entries, 1));
+    let store = show_new(store.walk(entries, 0, 10));
+    let store = show_new(store.walk(entries, 1, 10));
+    let store = show_new(store.leave(entries, 0));
+    let store = show_new(store.walk(entries, 0, 10));
+    let store = show_new(store.walk(entries, 1, 10));
+    let store = show_new(store.release(entries, 0));
+    show_new(store.release(entries, 1));
 }
 
 // The old store, 2 publishers. The reader has picked the old table, and added to indicator 0, when the new table is swapped in.
 fn publish_old(entries: &mut [Pitch]) {
-    let store = said_old(TwoPhase::make(entries, 1, 2, 3, 0));
+    let store = show_old(TwoPhase::make(entries, 1, 2, 3, 0));
     let store = pick_old(store, entries, 0);
-    let store = said_old(store.look(entries, 0, 0));
+    let store = show_old(store.look(entries, 0, 0));
     let store = swap_in_old(store, entries, 0, 1);
     wait_old(store, entries);
 }
 
 // Indicator 1 is quiet, the version is raised, and the walk waits for indicator 0. Publisher 1 is refused until the RELEASE.
 fn wait_old(store: TwoPhase, entries: &[Pitch]) {
-    let store = said_old(store.sync(entries, 0));
-    let store = said_old(store.walk(entries, 0, 10));
-    let store = said_old(store.raise(entries, 0));
-    let store = said_old(store.walk(entries, 0, 10));
-    let store = said_old(store.claim(entries, 1, 2));
-    let store = said_old(store.look(entries, 0, 0));
-    let store = said_old(store.leave(entries, 0));
-    let store = said_old(store.walk(entries, 0, 0));
-    let store = said_old(store.walk(entries, 0, 10));
-    let store = said_old(store.release(entries, 0));
-    let store = said_old(store.claim(entries, 1, 2));
+    let store = show_old(store.sync(entries, 0));
+    let store = show_old(store.walk(entries, 0, 10));
+    let store = show_old(store.raise(entries, 0));
+    let store = show_old(store.walk(entries, 0, 10));
+    let store = show_old(store.claim(entries, 1, 2));
+    let store = show_old(store.look(entries, 0, 0));
+    let store = show_old(store.leave(entries, 0));
+    let store = show_old(store.walk(entries, 0, 0));
+    let store = show_old(store.walk(entries, 0, 10));
+    let store = show_old(store.release(entries, 0));
+    let store = show_old(store.claim(entries, 1, 2));
     let store = pick_old(store, entries, 0);
-    let store = said_old(store.look(entries, 0, 0));
-    said_old(store.look(entries, 0, LAST_ENTRY));
+    let store = show_old(store.look(entries, 0, 0));
+    show_old(store.look(entries, 0, LAST_ENTRY));
 }
 
 fn main() {
     let mut two_slots = [0; 2 * TABLE];
     let mut three_slots = [0; 3 * TABLE];
-    say_one(b"new store: the last version is", GraceVersion::LAST);
-    say(b"new store: a publication, and a reader of the old table");
+    show_one(b"new store: the last version is", GraceVersion::LAST);
+    show(b"new store: a publication, and a reader of the old table");
     publish_new(&mut two_slots);
-    say(b"new store: two publishers share a wait");
+    show(b"new store: two publishers share a wait");
     publish_side_by_side(&mut three_slots);
-    say_one(b"old store: the last version is", TwoPhase::LAST);
-    say(b"old store: a publication, a reader of the old table, a second publisher");
+    show_one(b"old store: the last version is", TwoPhase::LAST);
+    show(b"old store: a publication, a reader of the old table, a second publisher");
     publish_old(&mut three_slots);
 }

@@ -5,5 +5,5 @@ pub mod Model
 pub mod ModelLaws
 pub mod Told
 pub mod Tally
-pub mod Answer
-pub mod AnswerLaws
+pub mod ReplyNumbers
+pub mod ReplyNumbersLaws

@@ -35,21 +35,21 @@ abbrev pub withTable : Model → List ℤ → Model
 withTable m l = record { table = l; note = m .note; draft = m .draft }
 
 -- CLAIM empties p's draft; WRITE appends v; SWAP makes the draft the table; an ENTER that replies place 5 copies the table into r's note.
-abbrev pub shelve : Model → Call → Reply → Model
-shelve m (Enter r) a = pick (is (placeOf a) 5) (withNote m r (m .table)) m
-shelve m (Look r k) a = m
-shelve m (Leave r) a = m
-shelve m (Claim p s) a = withDraft m p []
-shelve m (Write p v) a = withDraft m p (m .draft p ++ (v ∷ []))
-shelve m (Swap p) a = withTable m (m .draft p)
-shelve m (Sync p) a = m
-shelve m (Raise p) a = m
-shelve m (Walk p b) a = m
-shelve m (Release p) a = m
+abbrev pub modelStep : Model → Call → Reply → Model
+modelStep m (Enter r) a = pick (is (placeOf a) 5) (withNote m r (m .table)) m
+modelStep m (Look r k) a = m
+modelStep m (Leave r) a = m
+modelStep m (Claim p s) a = withDraft m p []
+modelStep m (Write p v) a = withDraft m p (m .draft p ++ (v ∷ []))
+modelStep m (Swap p) a = withTable m (m .draft p)
+modelStep m (Sync p) a = m
+modelStep m (Raise p) a = m
+modelStep m (Walk p b) a = m
+modelStep m (Release p) a = m
 
 -- The model after some events, from its first table.
 abbrev pub modelOf : List ℤ → List Event → Model
-modelOf first es = foldEvents shelve (model₀ first) es
+modelOf first es = foldEvents modelStep (model₀ first) es
 
 -- Entry k of a table, if it has one: LOOK replies with entry k of the note.
 abbrev pub entry : List ℤ → ℕ → Option ℤ

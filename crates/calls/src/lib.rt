@@ -149,9 +149,9 @@ pub enum Reply {
     Refused(u64),
 }
 
-// A reply as C gets it, three numbers of 64 bits; `answerOf` in specs/ says which.
+// A reply as C gets it, three numbers of 64 bits; `numbersOf` in specs/ says which.
 #[repr(C)]
-pub struct Answer {
+pub struct ReplyNumbers {
     pub code: u64,
     pub first: u64,
     pub second: u64,

@@ -40,7 +40,7 @@ impl GraceVersion {
 
     // LAST is the number that the rules go by: the versions of making, of SYNC and of the damage test are those up to it.
     pub fn last_version() -> u64
-        ensures { λ n. ⌜ rules .kind .versions ≡ upTo n ⌝ }
+        ensures { λ n. ⌜ rules .damage .versions ≡ upTo n ⌝ }
     {
         Self::LAST
     }

@@ -1,4 +1,4 @@
-// The new store's damage test (document 01's spoiled), and its last version.
+// The new store's damage test, and its last version.
 // It reads only the records in use, and a record's further words only at the places that need them.
 // Its contracts cite grace_version_law.
 ghost use mathlib.Core.Path.{_≡_};
@@ -11,7 +11,7 @@ ghost use Rattle.calls.specs.Numbers.{READERS-MAX, PUBLISHERS-MAX};
 ghost use Rattle.layout.specs.Layout.{WORDS, readerAt, publisherAt};
 ghost use Rattle.statement.specs.Machine.{state};
 ghost use Rattle.publication_law.specs.Damage.{headRows, readersTest, publishersTest};
-ghost use Rattle.grace_version_law.specs.Steps.{kind, readerRows};
+ghost use Rattle.grace_version_law.specs.Steps.{damageRules, readerRows};
 use calls::KIND_NEW;
 use calls::PUBLISHERS_MAX;
 use calls::READERS_MAX;
@@ -23,12 +23,12 @@ use layout::reader_at;
 use layout::reader_place;
 use layout::readers_of;
 use layout::slots_of;
-use making::head_damaged;
+use making::head_damaged_of_kind;
 
 // The last version: 2^64 - 2.
 pub const LAST: u64 = 18446744073709551614;
 
-// Whether reader r is spoiled.
+// Whether reader r is damaged.
 fn reader_damaged(words: &[u64], r: usize, slots: u64) -> bool
     requires { ⌜ (length (now words) ≡ WORDS) × (r < READERS-MAX) ⌝ }
     ensures { λ b. ⌜ b ≡ anyTrue (readerRows slots (readerAt (now (words .entry)) r)) ⌝ }
@@ -49,10 +49,10 @@ fn reader_damaged(words: &[u64], r: usize, slots: u64) -> bool
     false
 }
 
-// Whether one of the first n readers is spoiled.
-fn readers_damaged(words: &[u64], n: u64, slots: u64) -> bool
+// Whether one of the first n readers is damaged.
+fn first_readers_damaged(words: &[u64], n: u64, slots: u64) -> bool
     requires { ⌜ (length (now words) ≡ WORDS) × (n ≤ READERS-MAX) ⌝ }
-    ensures { λ b. ⌜ b ≡ anyBelow (λ r. kind .readerDamaged n slots (readerAt (now (words .entry)) r)) n ⌝ }
+    ensures { λ b. ⌜ b ≡ anyBelow (λ r. damageRules .readerDamaged n slots (readerAt (now (words .entry)) r)) n ⌝ }
 {
     for r in 0..n {
         if reader_damaged(words, r as usize, slots) {
@@ -62,10 +62,10 @@ fn readers_damaged(words: &[u64], n: u64, slots: u64) -> bool
     false
 }
 
-// Whether publisher p is spoiled.
+// Whether publisher p is damaged.
 fn publisher_damaged(words: &[u64], p: usize, readers: u64, slots: u64) -> bool
     requires { ⌜ (length (now words) ≡ WORDS) × (p < PUBLISHERS-MAX) ⌝ }
-    ensures { λ b. ⌜ b ≡ kind .publisherDamaged readers slots (publisherAt (now (words .entry)) p) ⌝ }
+    ensures { λ b. ⌜ b ≡ damageRules .publisherDamaged readers slots (publisherAt (now (words .entry)) p) ⌝ }
 {
     let place = publisher_place(words, p);
     if place == 0 {
@@ -94,10 +94,10 @@ fn publisher_damaged(words: &[u64], p: usize, readers: u64, slots: u64) -> bool
     walk.next >= readers
 }
 
-// Whether one of the first n publishers is spoiled.
-fn publishers_damaged(words: &[u64], n: u64, readers: u64, slots: u64) -> bool
+// Whether one of the first n publishers is damaged.
+fn first_publishers_damaged(words: &[u64], n: u64, readers: u64, slots: u64) -> bool
     requires { ⌜ (length (now words) ≡ WORDS) × (n ≤ PUBLISHERS-MAX) ⌝ }
-    ensures { λ b. ⌜ b ≡ anyBelow (λ p. kind .publisherDamaged readers slots (publisherAt (now (words .entry)) p)) n ⌝ }
+    ensures { λ b. ⌜ b ≡ anyBelow (λ p. damageRules .publisherDamaged readers slots (publisherAt (now (words .entry)) p)) n ⌝ }
 {
     for p in 0..n {
         if publisher_damaged(words, p as usize, readers, slots) {
@@ -107,16 +107,16 @@ fn publishers_damaged(words: &[u64], n: u64, readers: u64, slots: u64) -> bool
     false
 }
 
-// Whether the head spoils a store with these words and so many entries.
+// Whether the head damages a store with these words and so many entries.
 pub fn head_is_damaged(words: &[u64], entries: usize) -> bool
-    ensures { λ b. ⌜ ((es : List ℤ) → length es ≡ entries → b ≡ anyTrue (headRows kind (state (now (words .entry)) es))) ⌝ }
+    ensures { λ b. ⌜ ((es : List ℤ) → length es ≡ entries → b ≡ anyTrue (headRows damageRules (state (now (words .entry)) es))) ⌝ }
 {
-    head_damaged(words, entries, KIND_NEW, LAST)
+    head_damaged_of_kind(words, entries, KIND_NEW, LAST)
 }
 
-// Whether the readers spoil it.
+// Whether the readers damage it.
 pub fn readers_are_damaged(words: &[u64]) -> bool
-    ensures { λ b. ⌜ ((es : List ℤ) → b ≡ readersTest kind (state (now (words .entry)) es)) ⌝ }
+    ensures { λ b. ⌜ ((es : List ℤ) → b ≡ readersTest damageRules (state (now (words .entry)) es)) ⌝ }
 {
     if words.len() != WORDS {
         return true;
@@ -125,12 +125,12 @@ pub fn readers_are_damaged(words: &[u64]) -> bool
     if (readers < 1) | (readers > READERS_MAX as u64) {
         return true;
     }
-    readers_damaged(words, readers, slots_of(words))
+    first_readers_damaged(words, readers, slots_of(words))
 }
 
-// Whether the publishers spoil it.
+// Whether the publishers damage it.
 pub fn publishers_are_damaged(words: &[u64]) -> bool
-    ensures { λ b. ⌜ ((es : List ℤ) → b ≡ publishersTest kind (state (now (words .entry)) es)) ⌝ }
+    ensures { λ b. ⌜ ((es : List ℤ) → b ≡ publishersTest damageRules (state (now (words .entry)) es)) ⌝ }
 {
     if words.len() != WORDS {
         return true;
@@ -139,5 +139,5 @@ pub fn publishers_are_damaged(words: &[u64]) -> bool
     if (publishers < 1) | (publishers > PUBLISHERS_MAX as u64) {
         return true;
     }
-    publishers_damaged(words, publishers, readers_of(words), slots_of(words))
+    first_publishers_damaged(words, publishers, readers_of(words), slots_of(words))
 }

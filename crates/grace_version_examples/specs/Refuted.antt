@@ -22,7 +22,7 @@ use Rattle.publication_law.specs.Steps.{publisher, made}
 use Rattle.publication_law.specs.Table.{damaged, step, making, machine}
 use Rattle.publication_law.specs.Rules.{Rules, tableBy}
 use Rattle.publication_law.specs.Varied.{varied}
-use Rattle.grace_version_law.specs.Steps.{onward, progress, looksFrom, fixed, rules, GraceVersion}
+use Rattle.grace_version_law.specs.Steps.{onward, walkResult, looksFrom, fixed, rules, GraceVersion}
 use Rattle.grace_version_law.specs.Promises.{new-demand3}
 
 -- One reader, one publisher, two slots, version 0.
@@ -68,7 +68,7 @@ passesAllRules : Rules
 passesAllRules = varied fixed (fixed .exclusive) (λ s p b.
     let k = publisher s p .walk in
     let q = looksFrom (s .words) (readers (s .words)) 0 (k .waits) b (k .next) (k .looks) in
-    progress (k .mark) (q .walk .next) (q .walk .looks) (q .walk .waits) (q .reply))
+    walkResult (k .mark) (q .walk .next) (q .walk .looks) (q .walk .waits) (q .reply))
 
 pub PassesAll : Machine
 unfolding passesAllRules

@@ -16,7 +16,7 @@ use Rattle.calls.specs.declared.Reply.the-variants.{At, Left}
 use Rattle.calls.specs.declared.WalkReply.the-variants.{Waiting, Spent, Returned}
 use Rattle.layout.specs.declared.Reader.{Reader}
 use Rattle.layout.specs.declared.Publisher.{Publisher}
-use Rattle.layout.specs.declared.Walk.{Walk}
+use Rattle.layout.specs.declared.WalkRecord.{WalkRecord}
 use Rattle.layout.specs.declared.Progress.{Progress}
 use Rattle.layout.specs.Layout.{readers, publishers, slots, current, version, readerAt, withReader}
 use Rattle.layout.specs.Records.{_place≔_, _first≔_, _second≔_, _published≔_, _picked≔_}
@@ -24,8 +24,8 @@ use Rattle.statement.specs.Machine.{State, state, outcome}
 use Rattle.publication_law.specs.Steps.{reader, publisher}
 use Rattle.publication_law.specs.Looks.{withLook}
 use Rattle.publication_law.specs.Table.{damaged, step}
-use Rattle.publication_law.specs.Calls.{undamaged-fine, enter-accepted, leave-accepted}
-use Rattle.grace_version_law.specs.Steps.{readerRows, ownRows, onward, leaving, lookedAt, looksFrom, fixed, rules}
+use Rattle.publication_law.specs.Calls.{undamaged-facts, enter-accepted, leave-accepted}
+use Rattle.grace_version_law.specs.Steps.{readerRows, extraRows, onward, leaving, lookedAt, looksFrom, fixed, rules}
 use Rattle.grace_version_law.specs.Safety.{next-below}
 
 -- The damage test of a reader, by its place.
@@ -45,7 +45,7 @@ module _ (ss : ℕ) (x : Reader) where
 
 -- What the kind adds to the damage test of a publisher, by its place.
 module _ (rs : ℕ) (y : Publisher) where
-  pub no-such-place : (ltb 38 (y .place) || eqb (y .place) 36) ≡ true → anyTrue (ownRows rs y) ≡ true
+  pub no-such-place : (ltb 38 (y .place) || eqb (y .place) 36) ≡ true → anyTrue (extraRows rs y) ≡ true
   no-such-place e = go (ltb 38 (y .place)) (eqb (y .place) 36) (((eqb (y .place) 35 || eqb (y .place) 37) && leb rs (y .walk .next)) || false) e
     where
       go : (a b t : Bool) → a || b ≡ true → (a || (b || t)) ≡ true
@@ -53,29 +53,29 @@ module _ (rs : ℕ) (y : Publisher) where
       go false true t d = refl
       go false false t d = clash (sym d)
 
-  pub own-returned : y .place ≡ 38 → anyTrue (ownRows rs y) ≡ false
+  pub own-returned : y .place ≡ 38 → anyTrue (extraRows rs y) ≡ false
   own-returned e = rw e refl
 
-  pub own-walking : 35 ≤ y .place → (ltb 38 (y .place) || eqb (y .place) 36) ≡ false → y .place ≢ 38 → anyTrue (ownRows rs y) ≡ leb rs (y .walk .next)
+  pub own-walking : 35 ≤ y .place → (ltb 38 (y .place) || eqb (y .place) 36) ≡ false → y .place ≢ 38 → anyTrue (extraRows rs y) ≡ leb rs (y .walk .next)
   own-walking late place ne =
       let q = or-false (ltb 38 (y .place)) (eqb (y .place) 36) place in
       let high = ltb-false 38 (y .place) (q .0) in
       let other = eqb-false (y .place) 36 (q .1) in
       go high other (eqb (y .place) 35) refl
     where
-      go : y .place ≤ 38 → (y .place ≡ 36 → ⊥) → (b : Bool) → eqb (y .place) 35 ≡ b → anyTrue (ownRows rs y) ≡ leb rs (y .walk .next)
+      go : y .place ≤ 38 → (y .place ≡ 36 → ⊥) → (b : Bool) → eqb (y .place) 35 ≡ b → anyTrue (extraRows rs y) ≡ leb rs (y .walk .next)
       go high other true e = rw (eqb-true (y .place) 35 e) (or-none _)
       go high other false e = let d : y .place ≡ 37 = (let q = eqb-false (y .place) 35 e in omega arith) in rw d (or-none _)
 
 -- At 3 a reader has published the version that it loaded first.
 pub published-of : (s : State) → damaged rules s ≡ false → (r : ℕ) → r < readers (s .words) → reader s r .place ≡ 3 → reader s r .published ≡ reader s r .first
 published-of s e r named turn =
-    let f = all-false (readerRows (slots (s .words)) (reader s r)) (undamaged-fine rules s e .readers-fine r named) in
+    let f = all-false (readerRows (slots (s .words)) (reader s r)) (undamaged-facts rules s e .readers-undamaged r named) in
     eqb-true _ _ (not-false _ (and-false (eqb (reader s r .place) 2 || eqb (reader s r .place) 3) (not (eqb (reader s r .published) (reader s r .first))) (f .1 .1 .0) (rw turn refl)))
 
 -- At 35 and at 37 a walk has readers left to pass.
 pub next-low : (s : State) → damaged rules s ≡ false → (p : ℕ) → p < publishers (s .words) → (eqb (publisher s p .place) 35 || eqb (publisher s p .place) 37) ≡ true → publisher s p .walk .next < readers (s .words)
-next-low s e p named turn = next-below (readers (s .words)) (slots (s .words)) (publisher s p) (undamaged-fine rules s e .publishers-fine p named) turn
+next-low s e p named turn = next-below (readers (s .words)) (slots (s .words)) (publisher s p) (undamaged-facts rules s e .publishers-undamaged p named) turn
 
 module _ (s : State) (clean : damaged rules s ≡ false) where
   pub enter-is : (v : List ℕ) (r : ℕ) (x y : Reader) → r < readers (s .words) → x ≡ reader s r → x .place < 5 → y ≡ onward (version (s .words)) (current (s .words)) x → v ≡ withReader (s .words) r y
@@ -126,25 +126,25 @@ module _ (v cur : ℕ) (x : Reader) where
   onward-picks n d e = rw (d, e) refl
 
 -- How a walk's looks go on from the walk k, by the first: none left, not passed, the last reader passed, another passed. A look leaves the walk m.
-module _ (w : List ℕ) (n : ℕ) (k : Walk) where
-  abbrev looksOn : Walk → ℕ → Progress
+module _ (w : List ℕ) (n : ℕ) (k : WalkRecord) where
+  abbrev looksOn : WalkRecord → ℕ → Progress
   looksOn j b = looksFrom w n (j .mark) (j .waits) b (j .next) (j .looks)
 
   pub looks-spent : (b : ℕ) → b ≡ 0 → looksOn k b ≡ record { walk = k; reply = Spent }
   unfolding looksFrom
   looks-spent b e = rw e refl
 
-  pub looks-wait : (b : ℕ) (m : Walk) → 0 < b → m ≡ withLook k 0 1 → readerAt w (lookedAt n (k .next)) .published < k .mark → looksOn k b ≡ record { walk = m; reply = Waiting (lookedAt n (k .next)) }
+  pub looks-wait : (b : ℕ) (m : WalkRecord) → 0 < b → m ≡ withLook k 0 1 → readerAt w (lookedAt n (k .next)) .published < k .mark → looksOn k b ≡ record { walk = m; reply = Waiting (lookedAt n (k .next)) }
   unfolding looksFrom
   looks-wait zero m l is e = absurd (omega arith)
   looks-wait (suc b) m l is e = rw (is, add-zero (k .next), lt-ltb _ _ e) refl
 
-  pub looks-return : (b : ℕ) (m : Walk) → 0 < b → m ≡ withLook k 1 0 → k .mark ≤ readerAt w (lookedAt n (k .next)) .published → n ≤ m .next → looksOn k b ≡ record { walk = m; reply = Returned (m .looks) (m .waits) }
+  pub looks-return : (b : ℕ) (m : WalkRecord) → 0 < b → m ≡ withLook k 1 0 → k .mark ≤ readerAt w (lookedAt n (k .next)) .published → n ≤ m .next → looksOn k b ≡ record { walk = m; reply = Returned (m .looks) (m .waits) }
   unfolding looksFrom
   looks-return zero m l is e f = absurd (omega arith)
   looks-return (suc b) m l is e f = rw (is, add-zero (k .waits), le-ltb _ _ e, le-leb _ _ (rw is at f)) refl
 
-  pub looks-on : (b : ℕ) (m : Walk) → 0 < b → m ≡ withLook k 1 0 → k .mark ≤ readerAt w (lookedAt n (k .next)) .published → m .next < n → looksOn k b ≡ looksOn m (b - 1)
+  pub looks-on : (b : ℕ) (m : WalkRecord) → 0 < b → m ≡ withLook k 1 0 → k .mark ≤ readerAt w (lookedAt n (k .next)) .published → m .next < n → looksOn k b ≡ looksOn m (b - 1)
   unfolding looksFrom
   looks-on zero m l is e f = absurd (omega arith)
   looks-on (suc b) m l is e f = let d : suc b - 1 ≡ b = omega arith in rw (is, add-zero (k .waits), le-ltb _ _ e, lt-leb _ _ (rw is at f), d) refl

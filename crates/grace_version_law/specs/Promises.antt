@@ -23,24 +23,24 @@ use Rattle.layout.specs.declared.Progress.{Progress}
 use Rattle.layout.specs.Layout.{readers, publishers, slots, current, readerAt}
 use Rattle.statement.specs.Machine.{State, Given, Fresh, events, afterAll, heldSlot}
 use Rattle.statement.specs.Demand3.{Demand3}
-use Rattle.statement.specs.Kept.{Ghost, ghost₀, all-tally}
+use Rattle.statement.specs.KeptInvariant.{Ghost, ghost₀, all-tally}
 use Rattle.statement.specs.FreeSlot.{FindsFreeSlot}
 use Rattle.publication_law.specs.Steps.{reader, publisher, inUse}
 use Rattle.publication_law.specs.Table.{damaged, rows, step}
-use Rattle.publication_law.specs.DamageLaws.{Fine}
-use Rattle.publication_law.specs.KindLaw.{fine-publisher}
+use Rattle.publication_law.specs.DamageLaws.{Undamaged}
+use Rattle.publication_law.specs.KindLaw.{undamaged-publisher}
 use Rattle.publication_law.specs.Decide.{decide-why}
-use Rattle.publication_law.specs.Lawful.{Good}
+use Rattle.publication_law.specs.KindShows.{WholeInvariant}
 use Rattle.publication_law.specs.Detector.{OwnOf}
 use Rattle.publication_law.specs.Promises.{Promises, promises-of, WalkFacts, walk-facts}
 use Rattle.publication_law.specs.FreeSlot.{finds-free-slot-of}
-use Rattle.grace_version_law.specs.Steps.{LAST, kind, lookedAt, looksOf, fixed, rules, GraceVersion}
+use Rattle.grace_version_law.specs.Steps.{LAST, damageRules, lookedAt, looksOf, fixed, rules, GraceVersion}
 use Rattle.grace_version_law.specs.Traits.{traits}
-use Rattle.grace_version_law.specs.Walks.{Ends, Looked, looked, spent-if}
-use Rattle.grace_version_law.specs.Safety.{law, detector, next-below, lawful, new-reached}
+use Rattle.grace_version_law.specs.Walks.{Ends, LooksFacts, looks-facts, spent-if}
+use Rattle.grace_version_law.specs.Safety.{law, detector, next-below, kind-shows, new-reached}
 
 pub new-promises : Promises rules traits
-new-promises = promises-of fixed traits lawful
+new-promises = promises-of fixed traits kind-shows
 
 pub new-demand3 : Demand3 GraceVersion (λ z. firstTable)
 new-demand3 = new-promises .demand3
@@ -50,15 +50,15 @@ new-walk-zero = new-promises .walk-zero
 
 -- What an accepted WALK says of its looks: waiting, spent and returned are said of the looks made, and spent exactly if b looks all passed and readers are left.
 pub record WalkLooks (s : State) (p b : ℕ) (k : Progress) : Type 0 where
-  pub looks-are : Looked (s .words) (readers (s .words)) (publisher s p .walk .mark) b (publisher s p .walk .next) (publisher s p .walk .looks) (publisher s p .walk .waits) k
+  pub looks-are : LooksFacts (s .words) (readers (s .words)) (publisher s p .walk .mark) b (publisher s p .walk .next) (publisher s p .walk .looks) (publisher s p .walk .waits) k
   pub spent-exactly : publisher s p .walk .next + b < readers (s .words)
       → ((i : ℕ) → publisher s p .walk .next ≤ i → i < publisher s p .walk .next + b → publisher s p .walk .mark ≤ reader s (lookedAt (readers (s .words)) i) .published) → k .reply ≡ Spent
 
 pub new-walk-facts : (s : State) (p b : ℕ) → accepted (step rules s (Walk p b) .reply) ≡ true
     → let k = looksOf s (publisher s p .walk) b in WalkFacts s p k (WalkLooks s p b k) (step rules s (Walk p b))
-new-walk-facts s p b = walk-facts fixed s p b (WalkLooks s p b (looksOf s (publisher s p .walk) b)) (λ fine lt turn.
-    let low = next-below _ _ (publisher s p) (fine .publishers-fine p lt) (rw (eqb-true (publisher s p .place) 37 turn) refl) in record {
-      looks-are = looked (s .words) (readers (s .words)) (publisher s p .walk .mark) (publisher s p .walk .waits) b (publisher s p .walk .next) (publisher s p .walk .looks) low;
+new-walk-facts s p b = walk-facts fixed s p b (WalkLooks s p b (looksOf s (publisher s p .walk) b)) (λ no-damage lt turn.
+    let low = next-below _ _ (publisher s p) (no-damage .publishers-undamaged p lt) (rw (eqb-true (publisher s p .place) 37 turn) refl) in record {
+      looks-are = looks-facts (s .words) (readers (s .words)) (publisher s p .walk .mark) (publisher s p .walk .waits) b (publisher s p .walk .next) (publisher s p .walk .looks) low;
       spent-exactly = λ l all. spent-if (s .words) (readers (s .words)) (publisher s p .walk .mark) (publisher s p .walk .waits) b (publisher s p .walk .next) (publisher s p .walk .looks) l all;
     })
 
@@ -66,7 +66,7 @@ new-walk-facts s p b = walk-facts fixed s p b (WalkLooks s p b (looksOf s (publi
 abbrev pub InUse : State → ℕ → Type 0
 InUse s x = (current (s .words) ≡ x) ⊎ ((q : ℕ) × (q < publishers (s .words)) × (publisher s q .place ≢ 0) × (publisher s q .held ≡ x))
 
--- A claim on an unspoiled new store is refused only for a wrong name, a wrong turn or a slot in use: each number only on its condition.
+-- A claim on an undamaged new store is refused only for a wrong name, a wrong turn or a slot in use: each number only on its condition.
 pub data ClaimRefusal (s : State) (p x : ℕ) : ℕ → Type 0 where
   no-publisher : publishers (s .words) ≤ p → ClaimRefusal s p x 11
   no-slot : slots (s .words) ≤ x → ClaimRefusal s p x 12
@@ -94,9 +94,9 @@ module _ (s : State) (p x n : ℕ) (ne : n ≢ 0) where
 
 pub new-claim-refusals : (s : State) (p x n : ℕ) → damaged rules s ≡ false → step rules s (Claim p x) .reply ≡ Refused n → ClaimRefusal s p x n
 unfolding step
-new-claim-refusals s p x n fine e =
+new-claim-refusals s p x n no-damage e =
     let q = decide-why (rows rules s (Claim p x)) (rules .act s (Claim p x)) s n refl e in
-    claim-first s p x n (q .1) (leb (publishers (s .words)) p) (leb (slots (s .words)) x) (not (eqb (publisher s p .place) 0)) (inUse s x) refl refl refl refl (rw fine at (q .0))
+    claim-first s p x n (q .1) (leb (publishers (s .words)) p) (leb (slots (s .words)) x) (not (eqb (publisher s p .place) 0)) (inUse s x) refl refl refl refl (rw no-damage at (q .0))
 
 -- A WALK waits only for a reader that has published a version and not left since: never for one that never entered.
 waiting-below : (w : List ℕ) (n mark start b nx lk wt r : ℕ) (o : WalkReply) → Ends w n mark start b nx lk wt o → o ≡ Waiting r → (r ≡ lookedAt n nx) × (nx < n) × (readerAt w r .published < mark)
@@ -105,20 +105,20 @@ waiting-below w n mark start b nx lk wt r Spent e d = absurd (let y : _≡_ {A =
 waiting-below w n mark start b nx lk wt r Quiet e d = absurd e
 waiting-below w n mark start b nx lk wt r (Returned l u) e d = absurd (let y : _≡_ {A = ℕ} 0 1 = cc in omega arith)
 
-waits-published : (z : Given) (g : Ghost) (s : State) → Good kind (OwnOf detector) z g s → (p b r : ℕ) → step rules s (Walk p b) .reply ≡ Walked (Waiting r) → 2 ≤ g .tally .place r
+waits-published : (z : Given) (g : Ghost) (s : State) → WholeInvariant damageRules (OwnOf detector) z g s → (p b r : ℕ) → step rules s (Walk p b) .reply ≡ Walked (Waiting r) → 2 ≤ g .tally .place r
 waits-published z g s i p b r e =
     let k = looksOf s (publisher s p .walk) b in
     let facts = walk-facts fixed s p b (k .reply ≡ Waiting r → 2 ≤ g .tally .place r) looks (rw e refl) in
     facts .looks-are (let q : Walked (k .reply) ≡ Walked (Waiting r) = sym (facts .reply-is) ∙ e in cc)
   where
-    looks : Fine kind s → p < publishers (s .words) → eqb (publisher s p .place) 37 ≡ true → looksOf s (publisher s p .walk) b .reply ≡ Waiting r → 2 ≤ g .tally .place r
-    looks fine lt turn q =
+    looks : Undamaged damageRules s → p < publishers (s .words) → eqb (publisher s p .place) 37 ≡ true → looksOf s (publisher s p .walk) b .reply ≡ Waiting r → 2 ≤ g .tally .place r
+    looks no-damage lt turn q =
         let at37 = eqb-true (publisher s p .place) 37 turn in
         let k = looksOf s (publisher s p .walk) b in
-        let low = next-below _ _ (publisher s p) (fine .publishers-fine p lt) (rw at37 refl) in
-        let o = looked (s .words) (readers (s .words)) (publisher s p .walk .mark) (publisher s p .walk .waits) b (publisher s p .walk .next) (publisher s p .walk .looks) low in
+        let low = next-below _ _ (publisher s p) (no-damage .publishers-undamaged p lt) (rw at37 refl) in
+        let o = looks-facts (s .words) (readers (s .words)) (publisher s p .walk .mark) (publisher s p .walk .waits) b (publisher s p .walk .next) (publisher s p .walk .looks) low in
         let x = waiting-below (s .words) (readers (s .words)) (publisher s p .walk .mark) (publisher s p .walk .next) b _ _ _ r (k .reply) (o .ends) q in
-        let fits = fine-publisher law (readers (s .words)) (slots (s .words)) (publisher s p) (fine .publishers-fine p lt) .mark-fits (omega arith) in
+        let fits = undamaged-publisher law (readers (s .words)) (slots (s .words)) (publisher s p) (no-damage .publishers-undamaged p lt) .mark-fits (omega arith) in
         let high = ltb-false LAST (publisher s p .walk .mark) (or-false (eqb (publisher s p .walk .mark) 0) (ltb LAST (publisher s p .walk .mark)) fits .1) in
         go (leb 2 (reader s r .place)) refl (x .2) high (omega (arith, x .0, x .1))
       where
@@ -132,4 +132,4 @@ new-waits-for s f cs p b r e = rw (← all-tally (ghost₀ (traits .every .first
 
 -- With more slots than publishers, an idle publisher always finds a free slot, and its claim of that slot is accepted.
 pub new-finds-free-slot : FindsFreeSlot GraceVersion
-new-finds-free-slot = finds-free-slot-of fixed traits lawful refl
+new-finds-free-slot = finds-free-slot-of fixed traits kind-shows refl

@@ -13,7 +13,7 @@ use Rattle.layout.specs.Records.{_place≔_, _first≔_, _second≔_, _publishe
 use Rattle.statement.specs.Machine.{State, Outcome}
 use Rattle.publication_law.specs.Steps.{reader}
 use Rattle.publication_law.specs.Table.{rows, step}
-use Rattle.publication_law.specs.Calls.{undamaged-fine}
+use Rattle.publication_law.specs.Calls.{undamaged-facts}
 use Rattle.publication_law.specs.Moves.{reader-moves, reader-written}
 use Rattle.publication_law.specs.Decide.{decided}
 use Rattle.grace_version_law.specs.Steps.{entered, leaving, rules}
@@ -44,7 +44,7 @@ unfolding step
 new-enter-facts s r = decided (λ (o : Outcome). accepted (o .reply) ≡ true → EnterFacts s r o) (rows rules s (Enter r)) (rules .act s (Enter r)) s refl
     (λ f _.
     let lt = leb-false (readers (s .words)) r (f .1 .0) in
-    let is = reader-written (reader-moves (undamaged-fine rules s (f .0)) r (entered s r) lt) in record {
+    let is = reader-written (reader-moves (undamaged-facts rules s (f .0)) r (entered s r) lt) in record {
       reply-is = ap (λ (x : Reader). At (x .place)) (sym is);
       from-0 = λ e. is ∙ sym (onward-loads _ (current (s .words)) (reader s r) _ refl e);
       from-1 = λ e. is ∙ sym (onward-publishes (version (s .words)) (current (s .words)) (reader s r) e);
@@ -59,6 +59,6 @@ unfolding step
 new-leave-facts s r = decided (λ (o : Outcome). accepted (o .reply) ≡ true → LeaveFacts s r o) (rows rules s (Leave r)) (rules .act s (Leave r)) s refl
     (λ f _. record {
       reply-is = refl;
-      record-is = reader-written (reader-moves (undamaged-fine rules s (f .0)) r (leaving (reader s r)) (leb-false (readers (s .words)) r (f .1 .0)));
+      record-is = reader-written (reader-moves (undamaged-facts rules s (f .0)) r (leaving (reader s r)) (leb-false (readers (s .words)) r (f .1 .0)));
     })
     (λ ok. clash (sym ok))

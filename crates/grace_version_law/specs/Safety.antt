@@ -19,14 +19,14 @@ use Rattle.calls.specs.declared.WalkReply.the-variants.{Waiting, Spent, Quiet, 
 use Rattle.calls.specs.Numbers.{READERS-MAX, NOT-READING, KIND-NEW}
 use Rattle.layout.specs.declared.Reader.{Reader}
 use Rattle.layout.specs.declared.Publisher.{Publisher}
-use Rattle.layout.specs.declared.Walk.{Walk as WalkNumbers}
+use Rattle.layout.specs.declared.WalkRecord.{WalkRecord}
 use Rattle.layout.specs.Layout.{READERS-AT, readers, publishers, slots, current, version, readerAt, withReader}
 use Rattle.layout.specs.Records.{_place≔_, _atPlace_, _walk≔_}
 use Rattle.layout.specs.Laws.{head-reader, fresh-head, fresh-reader}
 use Rattle.statement.specs.Machine.{State, state, Given, Fresh, events, afterAll}
 use Rattle.statement.specs.Frame.{PlaceAndOne}
-use Rattle.statement.specs.Kept.{Ghost, Back}
-use Rattle.statement.specs.Kept as kept
+use Rattle.statement.specs.KeptInvariant.{Ghost, Back}
+use Rattle.statement.specs.KeptInvariant as kept
 use Rattle.publication_law.specs.Steps.{reader, publisher, enterTests, leaveTests, syncTests, sync, raise, walk, newWalk, placeAfter, made}
 use Rattle.publication_law.specs.Damage.{publisherRows}
 use Rattle.publication_law.specs.Onward.{Onward}
@@ -34,15 +34,15 @@ use Rattle.publication_law.specs.Onward.Onward.{stays-out, opens, picks}
 use Rattle.publication_law.specs.Moves.{reader-moves}
 use Rattle.publication_law.specs.KindLaw.{KindLaw, up-to-law}
 use Rattle.publication_law.specs.Frames.{place-and-one}
-use Rattle.publication_law.specs.Lawful.{Good, Lawful, reached}
-use Rattle.publication_law.specs.Detector.{Detector, OwnOf, start-own, early-own, enter-good, leave-good, sync-good, raise-good, walk-good, return-good}
-use Rattle.grace_version_law.specs.Steps.{LAST, versions, kind, readerRows, ownRows, onward, entered, leaving, lookedAt, looksOf, looksFrom, freshReader, fixed, GraceVersion}
+use Rattle.publication_law.specs.KindShows.{WholeInvariant, KindShows, reached}
+use Rattle.publication_law.specs.Detector.{Detector, OwnOf, start-own, early-own, enter-invariant, leave-invariant, sync-invariant, raise-invariant, walk-invariant, return-from-invariant}
+use Rattle.grace_version_law.specs.Steps.{LAST, versions, damageRules, readerRows, extraRows, onward, entered, leaving, lookedAt, looksOf, looksFrom, freshReader, fixed, GraceVersion}
 use Rattle.grace_version_law.specs.Traits.{traits}
-use Rattle.grace_version_law.specs.Walks.{lookedAt-all, Ends, Looked, looks-mark, looked}
+use Rattle.grace_version_law.specs.Walks.{lookedAt-all, Ends, LooksFacts, looks-mark, looks-facts}
 
 -- What the kind adds to a publisher's rows, from facts and to them.
-pub own-clear : (rs : ℕ) (y : Publisher) → y .place ≤ 38 → y .place ≢ 36 → (35 ≤ y .place → y .place ≤ 37 → y .walk .next < rs) → anyTrue (ownRows rs y) ≡ false
-own-clear rs y high ne below = none-true (ownRows rs y) (
+pub extra-clear : (rs : ℕ) (y : Publisher) → y .place ≤ 38 → y .place ≢ 36 → (35 ≤ y .place → y .place ≤ 37 → y .walk .next < rs) → anyTrue (extraRows rs y) ≡ false
+extra-clear rs y high ne below = none-true (extraRows rs y) (
   le-ltb 38 (y .place) high,
   (
     ne-eqb (y .place) 36 ne,
@@ -55,23 +55,23 @@ own-clear rs y high ne below = none-true (ownRows rs y) (
     by-place false d true e t = below (omega (arith, eqb-true (y .place) 37 e)) (omega (arith, eqb-true (y .place) 37 e))
     by-place false d false e t = clash (sym t)
 
-pub next-below : (rs ss : ℕ) (y : Publisher) → kind .publisherDamaged rs ss y ≡ false → (eqb (y .place) 35 || eqb (y .place) 37) ≡ true → y .walk .next < rs
+pub next-below : (rs ss : ℕ) (y : Publisher) → damageRules .publisherDamaged rs ss y ≡ false → (eqb (y .place) 35 || eqb (y .place) 37) ≡ true → y .walk .next < rs
 next-below rs ss y e t =
-    let f = all-false (ownRows rs y) (or-false (anyTrue (ownRows rs y)) (anyTrue (publisherRows versions ss y)) e .0) in
+    let f = all-false (extraRows rs y) (or-false (anyTrue (extraRows rs y)) (anyTrue (publisherRows versions ss y)) e .0) in
     leb-false rs (y .walk .next) (and-false (eqb (y .place) 35 || eqb (y .place) 37) (leb rs (y .walk .next)) (f .1 .1 .0) t)
 
--- At 5 a reader is spoiled by its pick alone.
+-- At 5 a reader is damaged by its pick alone.
 pub picked-rows : (ss : ℕ) (x : Reader) → x .place ≡ 5 → anyTrue (readerRows ss x) ≡ leb ss (x .picked)
 picked-rows ss x e = rw e (or-none (leb ss (x .picked)))
 
-abbrev pub law : KindLaw kind
+abbrev pub law : KindLaw damageRules
 law = record {
   versions-law = up-to-law LAST;
   reader-picked = λ rs ss x e f. leb-false ss (x .picked) (sym (picked-rows ss x e) ∙ f);
-  own = λ rs y. anyTrue (ownRows rs y);
-  own-rows = λ rs ss y. refl;
-  own-early = λ rs y l. own-clear rs y (omega arith) (λ e. omega arith) (λ a b. absurd (omega arith));
-  own-beyond = λ rs y e. ltb-false 38 (y .place) (all-false (ownRows rs y) e .0);
+  extraDamage = λ rs y. anyTrue (extraRows rs y);
+  extra-rows = λ rs ss y. refl;
+  extra-early = λ rs y l. extra-clear rs y (omega arith) (λ e. omega arith) (λ a b. absurd (omega arith));
+  extra-beyond = λ rs y e. ltb-false 38 (y .place) (all-false (extraRows rs y) e .0);
 }
 
 -- The kind's own numbers: what reader r of n published at a version, and which of them a walk has still to pass.
@@ -82,7 +82,7 @@ pub record Shown (ver n r : ℕ) (x : Reader) : Type 0 where
   pub out : r < n → x .place ≤ 1 → x .published ≡ NOT-READING
 
 -- A synchronise waits for a reader that published a version below its mark and that its walk has not passed.
-pub record Behind (n : ℕ) (x : Reader) (k : WalkNumbers) (r : ℕ) : Type 0 where
+pub record Behind (n : ℕ) (x : Reader) (k : WalkRecord) (r : ℕ) : Type 0 where
   pub below : x .published < k .mark
   pub unpassed : (i : ℕ) → i < k .next → lookedAt n i ≢ r
 
@@ -154,42 +154,42 @@ unfolding onward
 onward-published ver cur x l = rw (ne-eqb (x .place) 0 (λ z. omega arith), ne-eqb (x .place) 1 (λ z. omega arith), ne-eqb (x .place) 2 (λ z. omega arith), ne-eqb (x .place) 3 (λ z. omega arith)) refl
 
 -- Each of the kind's own steps keeps the invariant.
-module _ (z : Given) (g : Ghost) (s : State) (i : Good kind (OwnOf detector) z g s) where
+module _ (z : Given) (g : Ghost) (s : State) (i : WholeInvariant damageRules (OwnOf detector) z g s) where
   -- What is shown of reader r as it is then and of the others.
   shown-anew : (r : ℕ) (x : Reader) → Shown (version (s .words)) (readers (s .words)) r x → (j : ℕ) → Shown (version (s .words)) (readers (s .words)) j (upd (readerAt (s .words)) r x j)
   shown-anew r x o = at-or r (rw (same r) o) (λ j d. rw d (i .own .readers-are j))
 
-  enter-kept : (r : ℕ) → AllClear (enterTests s r) → Good kind (OwnOf detector) z (kept.advance g (Enter r) (At (entered s r .place))) (state (withReader (s .words) r (entered s r)) (s .entries))
+  enter-kept : (r : ℕ) → AllClear (enterTests s r) → WholeInvariant damageRules (OwnOf detector) z (kept.advance g (Enter r) (At (entered s r .place))) (state (withReader (s .words) r (entered s r)) (s .entries))
   enter-kept r f =
       let lt : r < readers (s .words) = leb-false _ _ (f .0) in
       let l : reader s r .place ≤ 4 = let q = leb-false 5 (reader s r .place) (f .1 .0) in omega arith in
-      enter-good detector kind law z g s i _ r (entered s r) (reader-moves (i .shared .every .fine) r (entered s r) lt)
-      (none-true (readerRows (slots (s .words)) (entered s r)) (onward-fits _ _ _ (reader s r) _ l (i .shared .every .fine .head .current-below) (all-false (readerRows (slots (s .words)) (reader s r)) (i .shared .every .fine .readers-fine r lt))))
+      enter-invariant detector damageRules law z g s i _ r (entered s r) (reader-moves (i .shared .every .no-damage) r (entered s r) lt)
+      (none-true (readerRows (slots (s .words)) (entered s r)) (onward-fits _ _ _ (reader s r) _ l (i .shared .every .no-damage .head .current-below) (all-false (readerRows (slots (s .words)) (reader s r)) (i .shared .every .no-damage .readers-undamaged r lt))))
       (shown-anew r _ (onward-shown _ _ _ _ (reader s r) _ l (i .own .readers-are r))) lt (onward-goes _ _ (reader s r) _ l)
       (λ four y a. record { below = rw (onward-published (version (s .words)) (current (s .words)) (reader s r) four) (a .below); unpassed = a .unpassed })
 
-  leave-kept : (r : ℕ) → AllClear (leaveTests s r) → Good kind (OwnOf detector) z (kept.advance g (Leave r) Left) (state (withReader (s .words) r (leaving (reader s r))) (s .entries))
-  leave-kept r f = leave-good detector kind law z g s i _ r (leaving (reader s r)) (reader-moves (i .shared .every .fine) r (leaving (reader s r)) (leb-false _ _ (f .0))) refl
+  leave-kept : (r : ℕ) → AllClear (leaveTests s r) → WholeInvariant damageRules (OwnOf detector) z (kept.advance g (Leave r) Left) (state (withReader (s .words) r (leaving (reader s r))) (s .entries))
+  leave-kept r f = leave-invariant detector damageRules law z g s i _ r (leaving (reader s r)) (reader-moves (i .shared .every .no-damage) r (leaving (reader s r)) (leb-false _ _ (f .0))) refl
       (shown-anew r _ (let o = i .own .readers-are r in record { first-low = o .first-low; second-low = o .second-low; shown = λ q. absurd (omega arith); out = λ rn q. refl })) refl
 
-  sync-kept : (p : ℕ) → AllClear (syncTests versions s p) → Good kind (OwnOf detector) z (kept.advance g (Sync p) (Synced (version (s .words) + 1))) (sync versions s p .after)
-  sync-kept p f = sync-good detector kind law z g s i p f
-      (own-clear (readers (s .words)) (publisher s p atPlace 35 walk≔ newWalk (publisher s p .walk) (version (s .words) + 1)) (omega arith) (λ e. omega arith) (λ a b. omega (arith, i .shared .every .fine .head .readers-low)))
+  sync-kept : (p : ℕ) → AllClear (syncTests versions s p) → WholeInvariant damageRules (OwnOf detector) z (kept.advance g (Sync p) (Synced (version (s .words) + 1))) (sync versions s p .after)
+  sync-kept p f = sync-invariant detector damageRules law z g s i p f
+      (extra-clear (readers (s .words)) (publisher s p atPlace 35 walk≔ newWalk (publisher s p .walk) (version (s .words) + 1)) (omega arith) (λ e. omega arith) (λ a b. omega (arith, i .shared .every .no-damage .head .readers-low)))
       refl (λ r l. record { below = omega (arith, i .own .readers-are r .shown (omega arith)); unpassed = λ j a. absurd (omega arith) })
 
-  raise-kept : (p : ℕ) → p < publishers (s .words) → eqb (publisher s p .place) 35 ≡ true → Good kind (OwnOf detector) z (kept.advance g (Raise p) (raise versions s p .reply)) (raise versions s p .after)
+  raise-kept : (p : ℕ) → p < publishers (s .words) → eqb (publisher s p .place) 35 ≡ true → WholeInvariant damageRules (OwnOf detector) z (kept.advance g (Raise p) (raise versions s p .reply)) (raise versions s p .after)
   raise-kept p lt turn =
       let at35 = eqb-true (publisher s p .place) 35 turn in
-      raise-good detector kind law z g s i p lt (omega arith) (omega arith)
-      (own-clear (readers (s .words)) (publisher s p atPlace 37) (omega arith) (λ e. omega arith) (λ a b. next-below _ _ (publisher s p) (i .shared .every .fine .publishers-fine p lt) (rw at35 refl)))
+      raise-invariant detector damageRules law z g s i p lt (omega arith) (omega arith)
+      (extra-clear (readers (s .words)) (publisher s p atPlace 37) (omega arith) (λ e. omega arith) (λ a b. next-below _ _ (publisher s p) (i .shared .every .no-damage .publishers-undamaged p lt) (rw at35 refl)))
       refl (λ r a. a)
       (λ e r. let o = i .own .readers-are r in record { first-low = omega (arith, o .first-low); second-low = omega (arith, o .second-low); shown = λ q. omega (arith, o .shown q); out = o .out })
 
   -- A walk from the numbers of publisher p.
   module _ (p b : ℕ) (lt : p < publishers (s .words)) (at37 : publisher s p .place ≡ 37) where
-    pub came : Looked (s .words) (readers (s .words)) (publisher s p .walk .mark) b (publisher s p .walk .next) (publisher s p .walk .looks) (publisher s p .walk .waits) (looksOf s (publisher s p .walk) b)
-    came = looked (s .words) (readers (s .words)) (publisher s p .walk .mark) (publisher s p .walk .waits) b (publisher s p .walk .next) (publisher s p .walk .looks)
-        (next-below _ _ (publisher s p) (i .shared .every .fine .publishers-fine p lt) (rw at37 refl))
+    pub came : LooksFacts (s .words) (readers (s .words)) (publisher s p .walk .mark) b (publisher s p .walk .next) (publisher s p .walk .looks) (publisher s p .walk .waits) (looksOf s (publisher s p .walk) b)
+    came = looks-facts (s .words) (readers (s .words)) (publisher s p .walk .mark) (publisher s p .walk .waits) b (publisher s p .walk .next) (publisher s p .walk .looks)
+        (next-below _ _ (publisher s p) (i .shared .every .no-damage .publishers-undamaged p lt) (rw at37 refl))
 
     -- A reader waited for has not been passed.
     still-behind : (r : ℕ) → g .pend p r ≡ true → Behind (readers (s .words)) (reader s r) (looksOf s (publisher s p .walk) b .walk) r
@@ -217,19 +217,19 @@ module _ (z : Given) (g : Ghost) (s : State) (i : Good kind (OwnOf detector) z g
     returned-all Quiet nx lk wt e z = absurd e
     returned-all (Returned l u) nx lk wt e z = e .0
 
-    after-clear : (o : WalkReply) (k : WalkNumbers) → EndsHere (k .next) (k .looks) (k .waits) o → anyTrue (ownRows (readers (s .words)) (publisher s p atPlace (placeAfter 37 o) walk≔ k)) ≡ false
-    after-clear (Waiting r) k e = own-clear (readers (s .words)) (publisher s p atPlace 37 walk≔ k) (omega arith) (λ z. omega arith) (λ c d. e .0)
-    after-clear Spent k e = own-clear (readers (s .words)) (publisher s p atPlace 37 walk≔ k) (omega arith) (λ z. omega arith) (λ c d. e .0)
+    after-clear : (o : WalkReply) (k : WalkRecord) → EndsHere (k .next) (k .looks) (k .waits) o → anyTrue (extraRows (readers (s .words)) (publisher s p atPlace (placeAfter 37 o) walk≔ k)) ≡ false
+    after-clear (Waiting r) k e = extra-clear (readers (s .words)) (publisher s p atPlace 37 walk≔ k) (omega arith) (λ z. omega arith) (λ c d. e .0)
+    after-clear Spent k e = extra-clear (readers (s .words)) (publisher s p atPlace 37 walk≔ k) (omega arith) (λ z. omega arith) (λ c d. e .0)
     after-clear Quiet k e = absurd e
-    after-clear (Returned a c) k e = own-clear (readers (s .words)) (publisher s p atPlace 38 walk≔ k) (omega arith) (λ z. omega arith) (λ c d. absurd (omega arith))
+    after-clear (Returned a c) k e = extra-clear (readers (s .words)) (publisher s p atPlace 38 walk≔ k) (omega arith) (λ z. omega arith) (λ c d. absurd (omega arith))
 
     still-counted : looksOf s (publisher s p .walk) b .walk .looks ≡ looksOf s (publisher s p .walk) b .walk .next + looksOf s (publisher s p .walk) b .walk .waits
     still-counted = omega (arith, came .counted, i .own .counted p (omega arith))
 
-    walk-kept : Good kind (OwnOf detector) z (kept.advance g (Walk p b) (Walked (looksOf s (publisher s p .walk) b .reply))) (walk s p (looksOf s (publisher s p .walk) b) .after)
+    walk-kept : WholeInvariant damageRules (OwnOf detector) z (kept.advance g (Walk p b) (Walked (looksOf s (publisher s p .walk) b .reply))) (walk s p (looksOf s (publisher s p .walk) b) .after)
     walk-kept =
         let k = looksOf s (publisher s p .walk) b in
-        walk-good detector kind law z g s i p b lt (omega arith) (omega arith) k (came .waits-are) still-counted
+        walk-invariant detector damageRules law z g s i p b lt (omega arith) (omega arith) k (came .waits-are) still-counted
         (λ e. none-pending (returned-all (k .reply) _ _ _ (came .ends) (rw at37 at e))) (came .mark-same) (rw at37 (after-clear (k .reply) (k .walk) (came .ends))) still-behind
 
 start-shown : (z : Given) (s : State) → z .readers ≤ READERS-MAX → (r : ℕ) → Shown (version (made KIND-NEW freshReader z s .words)) (readers (made KIND-NEW freshReader z s .words)) r (readerAt (made KIND-NEW freshReader z s .words) r)
@@ -250,14 +250,14 @@ return-numbers w n mark start b l u nx lk wt Spent e q = absurd (let y : _≡_ {
 return-numbers w n mark start b l u nx lk wt Quiet e q = absurd e
 return-numbers w n mark start b l u nx lk wt (Returned c d) e q = let f : c ≡ l = cc in let g : d ≡ u = cc in (e .0, sym f ∙ e .2, sym g ∙ e .3)
 
-return-shown : (z : Given) (g : Ghost) (s : State) (i : Good kind (OwnOf detector) z g s) (p b l w : ℕ) → p < publishers (s .words) → eqb (publisher s p .place) 37 ≡ true
+return-shown : (z : Given) (g : Ghost) (s : State) (i : WholeInvariant damageRules (OwnOf detector) z g s) (p b l w : ℕ) → p < publishers (s .words) → eqb (publisher s p .place) 37 ≡ true
     → looksOf s (publisher s p .walk) b .reply ≡ Returned l w → Back traits z g p l w
 return-shown z g s i p b l w lt turn q =
     let at37 = eqb-true (publisher s p .place) 37 turn in
     let k = looksOf s (publisher s p .walk) b in
     let o = came z g s i p b lt at37 in
     let n = return-numbers (s .words) (readers (s .words)) (publisher s p .walk .mark) (publisher s p .walk .next) b l w (k .walk .next) (k .walk .looks) (k .walk .waits) (k .reply) (o .ends) q in
-    return-good detector kind law z g s i p b lt (omega arith) (omega arith) k (o .waits-are) (still-counted z g s i p b lt at37) traits l w at37 q
+    return-from-invariant detector damageRules law z g s i p b lt (omega arith) (omega arith) k (o .waits-are) (still-counted z g s i p b lt at37) traits l w at37 q
     (none-pending z g s i p b lt at37 (n .0)) (n .1) (n .2) (n .0 ∙ i .shared .every .sized .readers-are)
 
 no-looks : (s : State) (p : ℕ) → looksOf s (publisher s p .walk) 0 ≡ record { walk = publisher s p .walk; reply = Spent }
@@ -265,8 +265,8 @@ unfolding looksFrom
 no-looks s p = refl
 
 -- All that only the new store can show: a walk passes each reader, ENTER goes 1, 2, 3, 4, 5.
-pub lawful : Lawful fixed traits
-lawful = record {
+pub kind-shows : KindShows fixed traits
+kind-shows = record {
   kind-law = law;
   first-is = refl;
   lacks-is = λ c. refl;
@@ -304,6 +304,6 @@ lawful = record {
 
 -- The invariant after every list from fresh.
 pub new-reached : (s : State) (f : Fresh GraceVersion s) (cs : List Call)
-    → Good kind (OwnOf detector) (f .arguments) (kept.nextAll (kept.ghost₀ (traits .every .first (f .arguments))) (events GraceVersion s cs)) (afterAll GraceVersion s cs)
-unfolding lawful
-new-reached s f cs = reached fixed traits lawful s f cs
+    → WholeInvariant damageRules (OwnOf detector) (f .arguments) (kept.afterEvents (kept.ghost₀ (traits .every .first (f .arguments))) (events GraceVersion s cs)) (afterAll GraceVersion s cs)
+unfolding kind-shows
+new-reached s f cs = reached fixed traits kind-shows s f cs

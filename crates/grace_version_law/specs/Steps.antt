@@ -11,13 +11,13 @@ use Rattle.calls.specs.declared.WalkReply.the-variants.{Waiting, Spent, Returne
 use Rattle.calls.specs.Numbers.{NOT-READING, KIND-NEW}
 use Rattle.layout.specs.declared.Reader.{Reader}
 use Rattle.layout.specs.declared.Publisher.{Publisher}
-use Rattle.layout.specs.declared.Walk.{Walk}
+use Rattle.layout.specs.declared.WalkRecord.{WalkRecord}
 use Rattle.layout.specs.declared.Progress.{Progress}
 use Rattle.layout.specs.Layout.{readers, current, version, readerAt, withReader, blankReader, noWalk}
 use Rattle.layout.specs.Records.{_place≔_, _first≔_, _second≔_, _published≔_, _picked≔_, _mark≔_, _next≔_, _looks≔_, _waits≔_}
 use Rattle.statement.specs.Machine.{State, Machine}
 use Rattle.publication_law.specs.Steps.{Versions, upTo, reader, publisher}
-use Rattle.publication_law.specs.Damage.{Kind, wrongPick, publisherRows}
+use Rattle.publication_law.specs.Damage.{DamageRules, wrongPick, publisherRows}
 use Rattle.publication_law.specs.Table.{Table, machine}
 use Rattle.publication_law.specs.Rules.{Rules, tableBy}
 
@@ -37,19 +37,19 @@ readerRows slots x =
     ∷ []
 
 -- A place that the kind does not have (36 is the old store's); at 35 or 37 next not below readers.
-abbrev pub ownRows : ℕ → Publisher → List Bool
-ownRows readers y =
+abbrev pub extraRows : ℕ → Publisher → List Bool
+extraRows readers y =
     ltb 38 (y .place)
     ∷ eqb (y .place) 36
     ∷ ((eqb (y .place) 35 || eqb (y .place) 37) && leb readers (y .walk .next))
     ∷ []
 
-abbrev pub kind : Kind
-kind = record {
+abbrev pub damageRules : DamageRules
+damageRules = record {
   number = KIND-NEW;
   versions = versions;
   readerDamaged = λ readers slots x. anyTrue (readerRows slots x);
-  publisherDamaged = λ readers slots y. anyTrue (ownRows readers y) || anyTrue (publisherRows versions slots y);
+  publisherDamaged = λ readers slots y. anyTrue (extraRows readers y) || anyTrue (publisherRows versions slots y);
 }
 
 -- ENTER r: 0 to 1 loads the version; 1 to 2 publishes it as r's entry in the versions; 2 to 3 loads the version again;
@@ -73,32 +73,32 @@ leaving x = x place≔ 0 published≔ NOT-READING
 abbrev pub lookedAt : ℕ → ℕ → ℕ
 lookedAt n i = i
 
-abbrev pub progress : ℕ → ℕ → ℕ → ℕ → WalkReply → Progress
-progress mark next looks waits a = record { walk = noWalk mark≔ mark next≔ next looks≔ looks waits≔ waits; reply = a }
+abbrev pub walkResult : ℕ → ℕ → ℕ → ℕ → WalkReply → Progress
+walkResult mark next looks waits a = record { walk = noWalk mark≔ mark next≔ next looks≔ looks waits≔ waits; reply = a }
 
 -- Up to b looks of a walk that has passed `next` of n readers: a look at a reader passes if its published version is at least mark; next then rises.
 -- WALK stops at the first reader not passed, adds one to waits and replies waiting with that reader. When next reaches the reader count: returned.
 -- Spent is the reply exactly if b looks all passed and next is still below the count. Every look, passed or not, adds one to looks.
 unfoldable pub looksFrom : List ℕ → ℕ → ℕ → ℕ → ℕ → ℕ → ℕ → Progress
-looksFrom w n mark waits zero next looks = progress mark next looks waits Spent
+looksFrom w n mark waits zero next looks = walkResult mark next looks waits Spent
 looksFrom w n mark waits (suc b) next looks =
     pick (ltb (readerAt w (lookedAt n next) .published) mark)
-    (progress mark next (looks + 1) (waits + 1) (Waiting (lookedAt n next)))
+    (walkResult mark next (looks + 1) (waits + 1) (Waiting (lookedAt n next)))
     (pick (leb n (next + 1))
-    (progress mark (next + 1) (looks + 1) waits (Returned (looks + 1) waits))
+    (walkResult mark (next + 1) (looks + 1) waits (Returned (looks + 1) waits))
     (looksFrom w n mark waits b (next + 1) (looks + 1)))
 
-abbrev pub looksOf : State → Walk → ℕ → Progress
+abbrev pub looksOf : State → WalkRecord → ℕ → Progress
 looksOf s k b = looksFrom (s .words) (readers (s .words)) (k .mark) (k .waits) b (k .next) (k .looks)
 
 -- A fresh reader's published version is NOT_READING, in all 64 records.
 abbrev pub freshReader : Reader
 freshReader = blankReader NOT-READING
 
--- Nothing else spoils it; no 31; RAISE p at 35; WALK p b at 37.
+-- Nothing else damages it; no 31; RAISE p at 35; WALK p b at 37.
 abbrev pub fixed : Rules
 fixed = record {
-  kind = kind;
+  damage = damageRules;
   further = λ s. false;
   freshReader = freshReader;
   entered = entered;

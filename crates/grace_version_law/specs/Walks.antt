@@ -13,7 +13,7 @@ use Rattle.calls.specs.declared.WalkReply.the-variants.{Waiting, Spent, Quiet, 
 use Rattle.layout.specs.declared.Progress.{Progress}
 use Rattle.layout.specs.Layout.{readerAt}
 use Rattle.publication_law.specs.GraceKeeps.{waitsAfter}
-use Rattle.grace_version_law.specs.Steps.{lookedAt, progress, looksFrom}
+use Rattle.grace_version_law.specs.Steps.{lookedAt, walkResult, looksFrom}
 
 -- A walk comes to each reader.
 pub lookedAt-all : (n r : ℕ) → r < n → (i : ℕ) × (i < n) × (lookedAt n i ≡ r)
@@ -30,7 +30,7 @@ Ends w n mark start b next looks waits Spent = (next < n) × (next ≡ start + b
 Ends w n mark start b next looks waits Quiet = ⊥
 Ends w n mark start b next looks waits (Returned l u) = (next ≡ n) × (next ≤ start + b) × (l ≡ looks) × (u ≡ waits)
 
-pub record Looked (w : List ℕ) (n mark b next looks waits : ℕ) (k : Progress) : Type 0 where
+pub record LooksFacts (w : List ℕ) (n mark b next looks waits : ℕ) (k : Progress) : Type 0 where
   pub mark-same : k .walk .mark ≡ mark
   pub ahead : next ≤ k .walk .next
   pub passed : (i : ℕ) → next ≤ i → i < k .walk .next → mark ≤ readerAt w (lookedAt n i) .published
@@ -46,7 +46,7 @@ module _ (w : List ℕ) (n mark waits : ℕ) where
   ends-later start b nx lk wt Quiet e = e
   ends-later start b nx lk wt (Returned l u) e = (e .0, omega (arith, e .1), e .2, e .3)
 
-  passed-one : (b next looks : ℕ) (k : Progress) → mark ≤ readerAt w (lookedAt n next) .published → Looked w n mark b (next + 1) (looks + 1) waits k → Looked w n mark (suc b) next looks waits k
+  passed-one : (b next looks : ℕ) (k : Progress) → mark ≤ readerAt w (lookedAt n next) .published → LooksFacts w n mark b (next + 1) (looks + 1) waits k → LooksFacts w n mark (suc b) next looks waits k
   passed-one b next looks k e o = record {
     mark-same = o .mark-same;
     ahead = omega (arith, o .ahead);
@@ -62,12 +62,12 @@ module _ (w : List ℕ) (n mark waits : ℕ) where
 
   -- A look that does not pass ends the walk's slice; one that passes goes on with k.
   one-look : (waiting : Bool) (b next looks : ℕ) (k : Progress) → next < n → (waiting ≡ true → readerAt w (lookedAt n next) .published < mark) → (waiting ≡ false → mark ≤ readerAt w (lookedAt n next) .published)
-      → Looked w n mark b (next + 1) (looks + 1) waits k → Looked w n mark (suc b) next looks waits (pick waiting (progress mark next (looks + 1) (waits + 1) (Waiting (lookedAt n next))) k)
+      → LooksFacts w n mark b (next + 1) (looks + 1) waits k → LooksFacts w n mark (suc b) next looks waits (pick waiting (walkResult mark next (looks + 1) (waits + 1) (Waiting (lookedAt n next))) k)
   one-look true b next looks k l d e o = record { mark-same = refl; ahead = omega arith; passed = λ i a c. absurd (omega arith); ends = (l, omega arith, refl, d refl); counted = omega arith; waits-are = refl }
   one-look false b next looks k l d e o = passed-one b next looks k (e refl) o
 
   -- The last reader passed.
-  last-passed : (b next looks : ℕ) → next < n → n ≤ next + 1 → Looked w n mark b (next + 1) (looks + 1) waits (progress mark (next + 1) (looks + 1) waits (Returned (looks + 1) waits))
+  last-passed : (b next looks : ℕ) → next < n → n ≤ next + 1 → LooksFacts w n mark b (next + 1) (looks + 1) waits (walkResult mark (next + 1) (looks + 1) waits (Returned (looks + 1) waits))
   last-passed b next looks l le = record {
     mark-same = refl;
     ahead = omega arith;
@@ -84,13 +84,13 @@ module _ (w : List ℕ) (n mark waits : ℕ) where
   looks-mark (suc b) next looks = pick-split (λ (k : Progress). k .walk .mark ≡ mark) (ltb (readerAt w (lookedAt n next) .published) mark) (λ _. refl)
       (λ _. pick-split (λ (k : Progress). k .walk .mark ≡ mark) (leb n (next + 1)) (λ _. refl) (λ _. looks-mark b (next + 1) (looks + 1)))
 
-  pub looked : (b next looks : ℕ) → next < n → Looked w n mark b next looks waits (looksFrom w n mark waits b next looks)
+  pub looks-facts : (b next looks : ℕ) → next < n → LooksFacts w n mark b next looks waits (looksFrom w n mark waits b next looks)
   unfolding looksFrom
-  looked zero next looks l = record { mark-same = refl; ahead = omega arith; passed = λ i a c. absurd (omega arith); ends = (l, omega arith); counted = refl; waits-are = refl }
-  looked (suc b) next looks l = one-look _ b next looks _ l (ltb-true _ _) (not-below _ _ mark (omega arith))
-      (pick-split (Looked w n mark b (next + 1) (looks + 1) waits) (leb n (next + 1))
+  looks-facts zero next looks l = record { mark-same = refl; ahead = omega arith; passed = λ i a c. absurd (omega arith); ends = (l, omega arith); counted = refl; waits-are = refl }
+  looks-facts (suc b) next looks l = one-look _ b next looks _ l (ltb-true _ _) (not-below _ _ mark (omega arith))
+      (pick-split (LooksFacts w n mark b (next + 1) (looks + 1) waits) (leb n (next + 1))
       (λ d. last-passed b next looks l (leb-true n (next + 1) d))
-      (λ d. looked b (next + 1) (looks + 1) (leb-false n (next + 1) d)))
+      (λ d. looks-facts b (next + 1) (looks + 1) (leb-false n (next + 1) d)))
 
   -- Spent is the reply exactly if b looks all passed and next is still below the count: `Ends` is one half, this the other.
   all-spent : (b next nx lk wt : ℕ) (a : WalkReply) → Ends w n mark next b nx lk wt a → next ≤ nx → next + b < n
@@ -101,4 +101,4 @@ module _ (w : List ℕ) (n mark waits : ℕ) where
   all-spent b next nx lk wt (Returned c u) e ahead l all = absurd (omega (arith, e .0, e .1))
 
   pub spent-if : (b next looks : ℕ) → next + b < n → ((i : ℕ) → next ≤ i → i < next + b → mark ≤ readerAt w (lookedAt n i) .published) → looksFrom w n mark waits b next looks .reply ≡ Spent
-  spent-if b next looks l all = let o = looked b next looks (omega arith) in all-spent b next _ _ _ (looksFrom w n mark waits b next looks .reply) (o .ends) (o .ahead) l all
+  spent-if b next looks l all = let o = looks-facts b next looks (omega arith) in all-spent b next _ _ _ (looksFrom w n mark waits b next looks .reply) (o .ends) (o .ahead) l all

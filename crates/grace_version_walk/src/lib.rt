@@ -20,7 +20,7 @@ use grace_version_damage::head_is_damaged;
 use grace_version_damage::publishers_are_damaged;
 use grace_version_damage::readers_are_damaged;
 use layout::Progress;
-use layout::Walk;
+use layout::WalkRecord;
 use layout::publisher_at;
 use layout::publishers_of;
 use layout::reader_at;
@@ -37,7 +37,7 @@ fn looked_at(n: u64, passed: u64) -> u64
 }
 
 // Up to b looks of a walk over n readers.
-fn looks(words: &[u64], n: u64, walk: Walk, b: u16) -> Progress
+fn looks(words: &[u64], n: u64, walk: WalkRecord, b: u16) -> Progress
     requires { ⌜ (length (now words) ≡ WORDS) × (n ≤ READERS-MAX) × (walk .next < n) × (walk .looks + b ≤ NUMBER-MAX) × (walk .waits ≤ walk .looks) ⌝ }
     ensures { λ k. ⌜ k ≡ looksFrom (now (words .entry)) n (walk .mark) (walk .waits) b (walk .next) (walk .looks) ⌝ }
 {

@@ -1,5 +1,5 @@
 -- P1 to P12 as one list of words of any kind, with one proof that all hold, and P1 as a run sheet's bytes beside them; each starts at its making. They are proved of each kind's own steps;
--- each begins with an accepted making, so that the store of the kind's number gives the same replies. The order of the refusals and what spoils a store are shown
+-- each begins with an accepted making, so that the store of the kind's number gives the same replies. The order of the refusals and what damages a store are shown
 -- likewise, as lists of their own; where such an example is of a state put together by hand, that state has the kind's number as kind word. Assumes nothing.
 use Prim.Native.Nat.{ℕ, _+_}
 use native.Mathlib.Omega.{arith}
@@ -13,23 +13,23 @@ use Rattle.layout.specs.Laws.{head-reader, head-publisher, fresh-head}
 use Rattle.statement.specs.Machine.{State}
 use Rattle.statement.specs.Examples.{Example, AllHold, all-hold-append}
 use Rattle.statement.specs.Precedence.{freshOf, withPublisherAs, withCurrentAs, small, looked}
-use Rattle.statement.specs.Spoiled.{Change, change, changed, Case, casesOn, cases}
-use Rattle.statement.specs.Spoiled.Change.{readersTo, publishersTo, slotsTo, currentTo, versionTo, indicatorTo, entriesTo, readerTo, publisherTo}
-use Rattle.statement.specs.Spoiled.Case.{on}
+use Rattle.statement.specs.DamageCases.{Change, change, changed, Case, casesOn, cases}
+use Rattle.statement.specs.DamageCases.Change.{readersTo, publishersTo, slotsTo, currentTo, versionTo, indicatorTo, entriesTo, readerTo, publisherTo}
+use Rattle.statement.specs.DamageCases.Case.{on}
 use Rattle.statement.specs.Alike.{SameAt, allBy, AllCarry, all-hold-alike}
 use Rattle.publication_law.specs.Table.{making}
 use Rattle.grace_version_examples.specs.Examples as new-store
 use Rattle.grace_version_examples.specs.Precedence as new-order
-use Rattle.grace_version_examples.specs.Spoiled as new-spoiled
+use Rattle.grace_version_examples.specs.DamageCases as new-cases
 use Rattle.two_phase_examples.specs.Examples as old-store
 use Rattle.two_phase_examples.specs.Precedence as old-order
-use Rattle.two_phase_examples.specs.Spoiled as old-spoiled
-use Rattle.kinds_law.specs.Kinds.{Name, number, store}
-use Rattle.kinds_law.specs.Kinds.Name.{new, old}
+use Rattle.two_phase_examples.specs.DamageCases as old-cases
+use Rattle.kinds_law.specs.Kinds.{Kind, kindNumber, store}
+use Rattle.kinds_law.specs.Kinds.Kind.{new, old}
 use Rattle.kinds_law.specs.Calls.{step-named}
 use Rattle.sheet_law.specs.Sheet.{sheet}
 use Rattle.sheet_law.specs.Example.{P1, P1-printed, p1-bytes}
-use Rattle.guarantees.specs.Named.{storeOf, alike}
+use Rattle.guarantees.specs.ByKind.{storeOf, alike}
 
 -- P1 to P4, P6 to P12 of the new store; P5, P6 and P9 to P11 of the old; of each one whole publication and what ENTER loads; and the order of a new walk's readers.
 abbrev pub examples : List Example
@@ -57,23 +57,23 @@ abbrev pub inOrder : List Example
 inOrder = allBy (store KIND-NEW) new-order.inOrder ++ allBy (store KIND-OLD) old-order.inOrder
 
 -- The kind word of a fresh store; a state put together from one by hand has it too, and so its kind's own steps.
-new-kind : kind (freshOf (storeOf new) small .words) ≡ number new
+new-kind : kind (freshOf (storeOf new) small .words) ≡ kindNumber new
 unfolding making
 new-kind = fresh-head KIND-NEW 1 1 2 0 _ 0 (omega arith)
 
-old-kind : kind (freshOf (storeOf old) small .words) ≡ number old
+old-kind : kind (freshOf (storeOf old) small .words) ≡ kindNumber old
 unfolding making
 old-kind = fresh-head KIND-OLD 1 1 2 0 _ 0 (omega arith)
 
-one-claimed-kind : kind (old-order.oneClaimed .words) ≡ number old
+one-claimed-kind : kind (old-order.oneClaimed .words) ≡ kindNumber old
 unfolding making
 one-claimed-kind = head-publisher _ 0 (old-order.claimed 1) 0 (omega arith) ∙ fresh-head KIND-OLD 1 3 4 0 _ 0 (omega arith)
 
-module _ (k : Name) (s : State) (e : kind (s .words) ≡ number k) where
-  put-publisher : (p : ℕ) (y : Publisher) → SameAt (storeOf k) (store (number k)) (withPublisherAs s p y)
+module _ (k : Kind) (s : State) (e : kind (s .words) ≡ kindNumber k) where
+  put-publisher : (p : ℕ) (y : Publisher) → SameAt (storeOf k) (store (kindNumber k)) (withPublisherAs s p y)
   put-publisher p y c = step-named k (withPublisherAs s p y) c (head-publisher (s .words) p y 0 (omega arith) ∙ e)
 
-  put-current : (x : ℕ) → SameAt (storeOf k) (store (number k)) (withCurrentAs s x)
+  put-current : (x : ℕ) → SameAt (storeOf k) (store (kindNumber k)) (withCurrentAs s x)
   put-current x c = step-named k (withCurrentAs s x) c (getD-set-other (s .words) CURRENT-AT 0 x 0 (λ z. omega arith) ∙ e)
 
 new-in-order : AllCarry (storeOf new) (store KIND-NEW) new-order.inOrder
@@ -93,9 +93,9 @@ precedence = all-hold-append (allBy (store KIND-NEW) new-order.inOrder) (allBy (
     (all-hold-alike (storeOf new) (store KIND-NEW) (alike new) new-order.inOrder new-in-order new-order.precedence)
     (all-hold-alike (storeOf old) (store KIND-OLD) (alike old) old-order.inOrder old-in-order old-order.precedence)
 
--- What spoils a store, clause by clause.
+-- What damages a store, clause by clause.
 abbrev pub clauses : List Example
-clauses = allBy (store KIND-NEW) (cases (storeOf new) new-spoiled.clauses) ++ allBy (store KIND-OLD) (cases (storeOf old) old-spoiled.clauses)
+clauses = allBy (store KIND-NEW) (cases (storeOf new) new-cases.clauses) ++ allBy (store KIND-OLD) (cases (storeOf old) old-cases.clauses)
 
 -- No change by hand is one of the kind word.
 change-kind : (d : Change) (s : State) → kind (change d s .words) ≡ kind (s .words)
@@ -113,11 +113,11 @@ changed-kind : (ds : List Change) (s : State) → kind (changed ds s .words) ≡
 changed-kind [] s = refl
 changed-kind (d ∷ ds) s = changed-kind ds (change d s) ∙ change-kind d s
 
-cases-carry : (k : Name) (s : State) → kind (s .words) ≡ number k → (xs : List Case) → AllCarry (storeOf k) (store (number k)) (casesOn (storeOf k) s xs)
+cases-carry : (k : Kind) (s : State) → kind (s .words) ≡ kindNumber k → (xs : List Case) → AllCarry (storeOf k) (store (kindNumber k)) (casesOn (storeOf k) s xs)
 cases-carry k s e [] = tt
 cases-carry k s e (on ds c a ∷ xs) = ((refl, λ d. step-named k (changed ds s) d (changed-kind ds s ∙ e)), cases-carry k s e xs)
 
-pub spoiled : AllHold clauses
-spoiled = all-hold-append (allBy (store KIND-NEW) (cases (storeOf new) new-spoiled.clauses)) (allBy (store KIND-OLD) (cases (storeOf old) old-spoiled.clauses))
-    (all-hold-alike (storeOf new) (store KIND-NEW) (alike new) (cases (storeOf new) new-spoiled.clauses) (cases-carry new (freshOf (storeOf new) small) new-kind new-spoiled.clauses) new-spoiled.spoiled)
-    (all-hold-alike (storeOf old) (store KIND-OLD) (alike old) (cases (storeOf old) old-spoiled.clauses) (cases-carry old (freshOf (storeOf old) small) old-kind old-spoiled.clauses) old-spoiled.spoiled)
+pub damage-cases : AllHold clauses
+damage-cases = all-hold-append (allBy (store KIND-NEW) (cases (storeOf new) new-cases.clauses)) (allBy (store KIND-OLD) (cases (storeOf old) old-cases.clauses))
+    (all-hold-alike (storeOf new) (store KIND-NEW) (alike new) (cases (storeOf new) new-cases.clauses) (cases-carry new (freshOf (storeOf new) small) new-kind new-cases.clauses) new-cases.damage-cases)
+    (all-hold-alike (storeOf old) (store KIND-OLD) (alike old) (cases (storeOf old) old-cases.clauses) (cases-carry old (freshOf (storeOf old) small) old-kind old-cases.clauses) old-cases.damage-cases)

@@ -1,3 +1,3 @@
-pub mod Named
+pub mod ByKind
 pub mod Kinds
 pub mod Bench

@@ -16,26 +16,26 @@ use Rattle.publication_law.specs.TableLaws.{making-leaves}
 use Rattle.publication_law.specs.Calls.{step-damaged, damaged-head}
 use Rattle.grace_version_law.specs.Steps as new-store
 use Rattle.two_phase_law.specs.Steps as old-store
-use Rattle.kinds_law.specs.Kinds.{Name, rulesOf, number, named, stepOf, anyStep, makingOf, anyMaking}
-use Rattle.kinds_law.specs.Kinds.Name.{new, old}
+use Rattle.kinds_law.specs.Kinds.{Kind, tableOf, kindNumber, kindOfNumber, stepOf, anyStep, makingOf, anyMaking}
+use Rattle.kinds_law.specs.Kinds.Kind.{new, old}
 
 -- A kind's number names it, and it is the number in the kind's own damage test.
-pub number-named : (k : Name) → named (number k) ≡ some k
-unfolding named
+pub number-named : (k : Kind) → kindOfNumber (kindNumber k) ≡ some k
+unfolding kindOfNumber
 number-named new = refl
 number-named old = refl
 
-pub number-own : (k : Name) → rulesOf k .kind .number ≡ number k
+pub number-own : (k : Kind) → tableOf k .damage .number ≡ kindNumber k
 number-own new = refl
 number-own old = refl
 
 -- No other number names a kind.
-pub named-none : (n : ℕ) → n ≢ KIND-NEW → n ≢ KIND-OLD → named n ≡ none
-unfolding named
+pub named-none : (n : ℕ) → n ≢ KIND-NEW → n ≢ KIND-OLD → kindOfNumber n ≡ none
+unfolding kindOfNumber
 named-none n a b = rw (ne-eqb n KIND-NEW a, ne-eqb n KIND-OLD b) refl
 
 -- Words of a known kind: that kind's own step.
-pub step-named : (k : Name) (s : State) (c : Call) → kind (s .words) ≡ number k → anyStep s c ≡ step (rulesOf k) s c
+pub step-named : (k : Kind) (s : State) (c : Call) → kind (s .words) ≡ kindNumber k → anyStep s c ≡ step (tableOf k) s c
 unfolding anyStep
 step-named k s c e = rw (e, number-named k) refl
 
@@ -54,14 +54,14 @@ module _ (s : State) (c : Call) {n : ℕ} (read : n ≡ kind (s .words)) where
 -- Words of another length: 1, whatever the kind word says.
 pub step-length : (s : State) (c : Call) → length (s .words) ≢ WORDS → outcome (Refused DAMAGED) s ≡ anyStep s c
 unfolding anyStep
-step-length s c ne = go (named (kind (s .words)))
+step-length s c ne = go (kindOfNumber (kind (s .words)))
   where
-    go : (o : Option Name) → outcome (Refused DAMAGED) s ≡ stepOf o s c
+    go : (o : Option Kind) → outcome (Refused DAMAGED) s ≡ stepOf o s c
     go none = refl
-    go (some k) = step-damaged (rulesOf k) s c (damaged-head (rulesOf k) s (rw (ne-eqb (length (s .words)) WORDS ne) refl))
+    go (some k) = step-damaged (tableOf k) s c (damaged-head (tableOf k) s (rw (ne-eqb (length (s .words)) WORDS ne) refl))
 
 -- Making a known kind is that kind's own, and making another gets 1.
-pub making-named : (k : Name) (g : Given) (s : State) → anyMaking (number k) g s ≡ making (rulesOf k) g s
+pub making-named : (k : Kind) (g : Given) (s : State) → anyMaking (kindNumber k) g s ≡ making (tableOf k) g s
 unfolding anyMaking
 making-named k g s = rw (number-named k) refl
 
@@ -78,8 +78,8 @@ making-unknown n g s a b = rw (named-none n a b) refl
 -- A refused making leaves words and entries as they were lent, of whatever kind.
 pub any-making-leaves : (k : ℕ) (g : Given) (s : State) (n : ℕ) → anyMaking k g s .reply ≡ Refused n → anyMaking k g s .after ≡ s
 unfolding anyMaking
-any-making-leaves k g s n = go (named k)
+any-making-leaves k g s n = go (kindOfNumber k)
   where
-    go : (o : Option Name) → makingOf o g s .reply ≡ Refused n → makingOf o g s .after ≡ s
+    go : (o : Option Kind) → makingOf o g s .reply ≡ Refused n → makingOf o g s .after ≡ s
     go none e = refl
-    go (some k) e = making-leaves (rulesOf k) g s n e
+    go (some k) e = making-leaves (tableOf k) g s n e

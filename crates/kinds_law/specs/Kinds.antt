@@ -14,46 +14,46 @@ use Rattle.grace_version_law.specs.Steps as new-store
 use Rattle.two_phase_law.specs.Steps as old-store
 
 -- The kinds: the new store (GraceVersion) and the old one (Two-Phase with one publisher).
-pub data Name : Type 0 where
-  new : Name
-  old : Name
+pub data Kind : Type 0 where
+  new : Kind
+  old : Kind
 
 -- The table of each.
-abbrev pub rulesOf : Name → Table
-rulesOf new = new-store.rules
-rulesOf old = old-store.rules
+abbrev pub tableOf : Kind → Table
+tableOf new = new-store.rules
+tableOf old = old-store.rules
 
 -- A kind's number, which its making stores as the kind word.
-abbrev pub number : Name → ℕ
-number new = KIND-NEW
-number old = KIND-OLD
+abbrev pub kindNumber : Kind → ℕ
+kindNumber new = KIND-NEW
+kindNumber old = KIND-OLD
 
 -- The kind that a number names: 1 new, 2 old, every other number none.
-unfoldable pub named : ℕ → Option Name
-named n = pick (eqb n KIND-NEW) (some new) (pick (eqb n KIND-OLD) (some old) none)
+unfoldable pub kindOfNumber : ℕ → Option Kind
+kindOfNumber n = pick (eqb n KIND-NEW) (some new) (pick (eqb n KIND-OLD) (some old) none)
 
--- A call is its kind's own step; words of no kind are spoiled, and every call on them gets 1.
-abbrev pub stepOf : Option Name → State → Call → Outcome
+-- A call is its kind's own step; words of no kind are damaged, and every call on them gets 1.
+abbrev pub stepOf : Option Kind → State → Call → Outcome
 stepOf none s c = outcome (Refused DAMAGED) s
-stepOf (some k) s c = step (rulesOf k) s c
+stepOf (some k) s c = step (tableOf k) s c
 
 -- Each call takes the words, whatever kind they are, and hands them back with a reply.
 unfoldable pub anyStep : State → Call → Outcome
-anyStep s c = stepOf (named (kind (s .words))) s c
+anyStep s c = stepOf (kindOfNumber (kind (s .words))) s c
 
 -- Whether the words' kind lacks a call. Words of no kind lack none: each gets 1.
-abbrev pub lackedBy : Option Name → Call → Bool
+abbrev pub lackedBy : Option Kind → Call → Bool
 lackedBy none c = false
-lackedBy (some k) c = rulesOf k .lacks c
+lackedBy (some k) c = tableOf k .lacks c
 
 -- Making is its kind's own; a number that no kind has gets 1 before all else, and words and entries stay as lent.
-abbrev pub makingOf : Option Name → Given → State → Outcome
+abbrev pub makingOf : Option Kind → Given → State → Outcome
 makingOf none g s = outcome (Refused DAMAGED) s
-makingOf (some k) g s = making (rulesOf k) g s
+makingOf (some k) g s = making (tableOf k) g s
 
 -- Making a store of the kind with this number.
 unfoldable pub anyMaking : ℕ → Given → State → Outcome
-anyMaking n g s = makingOf (named n) g s
+anyMaking n g s = makingOf (kindOfNumber n) g s
 
 -- What an executive has: a store made of the kind with this number, and calls that are told the kind by the kind word alone.
 abbrev pub store : ℕ → Machine

@@ -1,3 +1,3 @@
 pub mod Kinds
 pub mod Calls
-pub mod Answered
+pub mod OutcomeForC

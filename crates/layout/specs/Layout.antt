@@ -7,7 +7,7 @@ use lib.Dec.{ltb}
 use Rattle.base.specs.Base.{pick}
 use Rattle.layout.specs.declared.Reader.{Reader}
 use Rattle.layout.specs.declared.Publisher.{Publisher}
-use Rattle.layout.specs.declared.Walk.{Walk}
+use Rattle.layout.specs.declared.WalkRecord.{WalkRecord}
 use Rattle.calls.specs.Numbers.{READERS-MAX, PUBLISHERS-MAX, TABLE}
 use Rattle.layout.specs.Records.{_published≔_}
 
@@ -113,7 +113,7 @@ noReader = readerOf (λ i. 0)
 abbrev pub noPublisher : Publisher
 noPublisher = publisherOf (λ i. 0)
 
-abbrev pub noWalk : Walk
+abbrev pub noWalk : WalkRecord
 noWalk = noPublisher .walk
 
 -- A reader of which only the published version is not 0.

@@ -3,7 +3,7 @@
 use Prim.Native.Nat.{ℕ}
 use Rattle.layout.specs.declared.Reader.{Reader}
 use Rattle.layout.specs.declared.Publisher.{Publisher}
-use Rattle.layout.specs.declared.Walk.{Walk}
+use Rattle.layout.specs.declared.WalkRecord.{WalkRecord}
 
 -- Readers.
 infixl 20 _place≔_
@@ -36,22 +36,22 @@ abbrev pub _held≔_ : Publisher → ℕ → Publisher
 y held≔ n = record { place = y .place; held = n; walk = y .walk }
 
 infixl 20 _walk≔_
-abbrev pub _walk≔_ : Publisher → Walk → Publisher
+abbrev pub _walk≔_ : Publisher → WalkRecord → Publisher
 y walk≔ k = record { place = y .place; held = y .held; walk = k }
 
 -- Walks.
 infixl 20 _mark≔_
-abbrev pub _mark≔_ : Walk → ℕ → Walk
+abbrev pub _mark≔_ : WalkRecord → ℕ → WalkRecord
 k mark≔ n = record { mark = n; next = k .next; looks = k .looks; waits = k .waits }
 
 infixl 20 _next≔_
-abbrev pub _next≔_ : Walk → ℕ → Walk
+abbrev pub _next≔_ : WalkRecord → ℕ → WalkRecord
 k next≔ n = record { mark = k .mark; next = n; looks = k .looks; waits = k .waits }
 
 infixl 20 _looks≔_
-abbrev pub _looks≔_ : Walk → ℕ → Walk
+abbrev pub _looks≔_ : WalkRecord → ℕ → WalkRecord
 k looks≔ n = record { mark = k .mark; next = k .next; looks = n; waits = k .waits }
 
 infixl 20 _waits≔_
-abbrev pub _waits≔_ : Walk → ℕ → Walk
+abbrev pub _waits≔_ : WalkRecord → ℕ → WalkRecord
 k waits≔ n = record { mark = k .mark; next = k .next; looks = k .looks; waits = n }

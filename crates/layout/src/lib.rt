@@ -68,7 +68,7 @@ pub struct Reader {
 }
 
 // A publisher's walk is four numbers.
-pub struct Walk {
+pub struct WalkRecord {
     pub mark: u64,
     pub next: u64,
     pub looks: u64,
@@ -78,12 +78,12 @@ pub struct Walk {
 pub struct Publisher {
     pub place: u64,
     pub held: u64,
-    pub walk: Walk,
+    pub walk: WalkRecord,
 }
 
 // What a walk came to: its numbers after its looks, and its answer.
 pub struct Progress {
-    pub walk: Walk,
+    pub walk: WalkRecord,
     pub reply: WalkReply,
 }
 
@@ -210,7 +210,7 @@ pub fn publisher_at(words: &[u64], p: usize) -> Publisher
     ensures { λ x. ⌜ x ≡ publisherAt (now (words .entry)) p ⌝ }
 {
     let b = FIRST_PUBLISHER + PUBLISHER_WORDS * p;
-    let walk = Walk {
+    let walk = WalkRecord {
         mark: words[b + MARK],
         next: words[b + NEXT],
         looks: words[b + LOOKS],

@@ -12,7 +12,7 @@ ghost use Rattle.calls.specs.declared.Reply.the-variants.{Made};
 ghost use Rattle.layout.specs.Layout.{version, blankReader};
 ghost use Rattle.statement.specs.Machine.{state, outcome, given};
 ghost use Rattle.publication_law.specs.Steps.{Versions, decide, makingTests, made};
-ghost use Rattle.publication_law.specs.Damage.{Kind, headRows};
+ghost use Rattle.publication_law.specs.Damage.{DamageRules, headRows};
 use calls::BAD_ENTRIES;
 use calls::BAD_PUBLISHERS;
 use calls::BAD_READERS;
@@ -36,9 +36,9 @@ use layout::readers_of;
 use layout::slots_of;
 use layout::version_of;
 
-// Whether the head spoils a store of this kind, with so many entries, whose last version is given.
-pub fn head_damaged(words: &[u64], entries: usize, kind: u64, last: u64) -> bool
-    ensures { λ b. ⌜ ((K : Kind) (es : List ℤ) → K .number ≡ kind → K .versions .tooLarge (version (now (words .entry))) ≡ ltb last (version (now (words .entry))) → length es ≡ entries → b ≡ anyTrue (headRows K (state (now (words .entry)) es))) ⌝ }
+// Whether the head damages a store of this kind, with so many entries, whose last version is given.
+pub fn head_damaged_of_kind(words: &[u64], entries: usize, kind: u64, last: u64) -> bool
+    ensures { λ b. ⌜ ((K : DamageRules) (es : List ℤ) → K .number ≡ kind → K .versions .tooLarge (version (now (words .entry))) ≡ ltb last (version (now (words .entry))) → length es ≡ entries → b ≡ anyTrue (headRows K (state (now (words .entry)) es))) ⌝ }
 {
     if words.len() != WORDS {
         return true;

@@ -10,7 +10,7 @@ ghost use Rattle.calls.specs.Numbers.{MODULUS};
 ghost use Rattle.layout.specs.Layout.{publishers, version, publisherAt};
 ghost use Rattle.statement.specs.Machine.{state, outcome};
 ghost use Rattle.publication_law.specs.Steps.{Versions, decide, syncTests, sync, raise, walk, placeAfter};
-ghost use Rattle.publication_law.specs.Sound.{Sound};
+ghost use Rattle.publication_law.specs.InBounds.{InBounds};
 use calls::NO_SUCH_PUBLISHER;
 use calls::PUBLISHER_TURN;
 use calls::Reply;
@@ -18,7 +18,7 @@ use calls::VERSION_IS_LAST;
 use calls::WalkReply;
 use layout::Progress;
 use layout::Publisher;
-use layout::Walk;
+use layout::WalkRecord;
 use layout::publisher_at;
 use layout::publisher_place;
 use layout::publishers_of;
@@ -28,7 +28,7 @@ use layout::version_of;
 
 // SYNC p: 34 to 35, a walk with a new mark. Up to which version it is allowed is the kind's own.
 pub fn start_sync(words: &mut [u64], p: u16, limit: u64) -> Reply
-    requires { ⌜ Sound (now words) ⌝ }
+    requires { ⌜ InBounds (now words) ⌝ }
     ensures { λ a. ⌜ ((vs : Versions) (es : List ℤ) → vs .isLast (version (now (words .entry))) ≡ ltb limit (version (now (words .entry))) → vs .markAt (version (now (words .entry))) ≡ (version (now (words .entry)) + 1) % MODULUS → let s = state (now (words .entry)) es in outcome a (state (now (words .exit)) es) ≡ decide (syncTests vs s p) (sync vs s p) s) ⌝ }
 {
     if p as u64 >= publishers_of(words) {
@@ -44,7 +44,7 @@ pub fn start_sync(words: &mut [u64], p: u16, limit: u64) -> Reply
             }
             let mark = std::num::wrapping_add_u64(version, 1);
             let mut y = publisher_at(words, at);
-            let walk = Walk {
+            let walk = WalkRecord {
                 mark: mark,
                 next: 0,
                 looks: 0,
@@ -61,7 +61,7 @@ pub fn start_sync(words: &mut [u64], p: u16, limit: u64) -> Reply
 
 // The raise of publisher p, whose record is y; one before its mark is the kind's own.
 pub fn raise_version(words: &mut [u64], p: usize, y: Publisher, before: u64) -> Reply
-    requires { ⌜ Sound (now words) × (p < publishers (now words)) × (y ≡ publisherAt (now words) p) ⌝ }
+    requires { ⌜ InBounds (now words) × (p < publishers (now words)) × (y ≡ publisherAt (now words) p) ⌝ }
     ensures { λ a. ⌜ ((vs : Versions) (es : List ℤ) → before ≡ vs .beforeMark (y .walk .mark) → outcome a (state (now (words .exit)) es) ≡ raise vs (state (now (words .entry)) es) p) ⌝ }
 {
     let version = version_of(words);
@@ -89,7 +89,7 @@ fn place_after(place: u64, reply: WalkReply) -> u64
 
 // The end of a WALK of publisher p, whose record is y: what its looks came to is recorded, and answered.
 pub fn end_walk(words: &mut [u64], p: usize, y: Publisher, k: Progress) -> Reply
-    requires { ⌜ Sound (now words) × (p < publishers (now words)) × (y ≡ publisherAt (now words) p) ⌝ }
+    requires { ⌜ InBounds (now words) × (p < publishers (now words)) × (y ≡ publisherAt (now words) p) ⌝ }
     ensures { λ a. ⌜ ((es : List ℤ) → outcome a (state (now (words .exit)) es) ≡ walk (state (now (words .entry)) es) p k) ⌝ }
 {
     let reply = k.reply;

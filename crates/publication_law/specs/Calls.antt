@@ -26,7 +26,7 @@ use Rattle.layout.specs.Records.{_atPlace_, _held≔_, _walk≔_}
 use Rattle.statement.specs.Machine.{State, state, Outcome, outcome, given}
 use Rattle.publication_law.specs.Steps.{Versions, upTo, decide, reader, publisher, newWalk, anotherBusy, inUse, lookTests, look, claimTests, claim, writeTests, write, swapTests, swap, syncTests, sync, raise, walked, walk, releaseTests, release, makingTests, made}
 use Rattle.publication_law.specs.Damage.{headRows, sharedDamage, readersTest, publishersTest}
-use Rattle.publication_law.specs.DamageLaws.{Fine, fine-of, tests-shared, readers-test-fine, publishers-test-fine}
+use Rattle.publication_law.specs.DamageLaws.{Undamaged, undamaged-of, tests-shared, readers-test-false, publishers-test-false}
 use Rattle.publication_law.specs.Decide.{decide-accepts}
 use Rattle.publication_law.specs.Clear.{claim-rows}
 use Rattle.publication_law.specs.Table.{Table, damaged, step}
@@ -43,17 +43,17 @@ step-undamaged T s c e = ap (λ (b : Bool). decide ((b gives DAMAGED) ∷ T .tes
 
 -- The damage test is that of the head, of the readers, of the publishers, each by itself, and what a kind adds.
 module _ (T : Table) (s : State) where
-  pub undamaged-fine : damaged T s ≡ false → Fine (T .kind) s
+  pub undamaged-facts : damaged T s ≡ false → Undamaged (T .damage) s
   unfolding damaged
-  undamaged-fine e = fine-of (T .kind) s (or-false (sharedDamage (T .kind) s) (T .further s) e .0)
+  undamaged-facts e = undamaged-of (T .damage) s (or-false (sharedDamage (T .damage) s) (T .further s) e .0)
 
   pub undamaged-further : damaged T s ≡ false → T .further s ≡ false
   unfolding damaged
-  undamaged-further e = or-false (sharedDamage (T .kind) s) (T .further s) e .1
+  undamaged-further e = or-false (sharedDamage (T .damage) s) (T .further s) e .1
 
-  pub undamaged : anyTrue (headRows (T .kind) s) ≡ false → readersTest (T .kind) s ≡ false → T .further s ≡ false → publishersTest (T .kind) s ≡ false → damaged T s ≡ false
+  pub undamaged : anyTrue (headRows (T .damage) s) ≡ false → readersTest (T .damage) s ≡ false → T .further s ≡ false → publishersTest (T .damage) s ≡ false → damaged T s ≡ false
   unfolding damaged
-  undamaged h r f p = neither (sharedDamage (T .kind) s) (T .further s) (tests-shared (T .kind) s h r p) f
+  undamaged h r f p = neither (sharedDamage (T .damage) s) (T .further s) (tests-shared (T .damage) s h r p) f
 
   -- A test that no undamaged store fails damages the store that fails it.
   unless : (b : Bool) → (damaged T s ≡ false → b ≡ false) → b ≡ true → damaged T s ≡ true
@@ -63,15 +63,15 @@ module _ (T : Table) (s : State) where
       go true d = d
       go false d = absurd (not-both b e (f d))
 
-  pub damaged-head : anyTrue (headRows (T .kind) s) ≡ true → damaged T s ≡ true
+  pub damaged-head : anyTrue (headRows (T .damage) s) ≡ true → damaged T s ≡ true
   unfolding damaged
   damaged-head e = rw e refl
 
-  pub damaged-readers : readersTest (T .kind) s ≡ true → damaged T s ≡ true
-  damaged-readers = unless (readersTest (T .kind) s) (λ d. readers-test-fine (T .kind) s (undamaged-fine d))
+  pub damaged-readers : readersTest (T .damage) s ≡ true → damaged T s ≡ true
+  damaged-readers = unless (readersTest (T .damage) s) (λ d. readers-test-false (T .damage) s (undamaged-facts d))
 
-  pub damaged-publishers : publishersTest (T .kind) s ≡ true → damaged T s ≡ true
-  damaged-publishers = unless (publishersTest (T .kind) s) (λ d. publishers-test-fine (T .kind) s (undamaged-fine d))
+  pub damaged-publishers : publishersTest (T .damage) s ≡ true → damaged T s ≡ true
+  damaged-publishers = unless (publishersTest (T .damage) s) (λ d. publishers-test-false (T .damage) s (undamaged-facts d))
 
   pub damaged-further : T .further s ≡ true → damaged T s ≡ true
   damaged-further = unless (T .further s) undamaged-further
@@ -86,7 +86,7 @@ module _ (R : Rules) (s : State) (clean : damaged (tableBy R) s ≡ false) (r : 
 
 -- RAISE and WALK, at a place that the kind allows.
 module _ (R : Rules) (s : State) (clean : damaged (tableBy R) s ≡ false) (o : Outcome) (p : ℕ) (y : Publisher) (named : p < publishers (s .words)) (is : y ≡ publisher s p) where
-  pub raise-is : R .raisesAt (y .place) ≡ true → o ≡ raise (R .kind .versions) s p → o ≡ step (tableBy R) s (Raise p)
+  pub raise-is : R .raisesAt (y .place) ≡ true → o ≡ raise (R .damage .versions) s p → o ≡ step (tableBy R) s (Raise p)
   raise-is turn e =
       e ∙ sym (decide-accepts (tableBy R .tests s (Raise p)) (tableBy R .act s (Raise p)) s (lt-leb _ _ named, (negated _ (rw is at turn), tt))) ∙ step-undamaged (tableBy R) s (Raise p) clean
 

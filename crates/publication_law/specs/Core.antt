@@ -20,23 +20,23 @@ pub data Hold (place claimedSlot : ℕ) (formerSlots : ℕ → Bool) (slot : ℕ
   by-swap : formerSlots slot ≡ true → Hold place claimedSlot formerSlots slot
 
 -- A picked slot is the current one, or a former slot of some publisher.
-pub data Safe (current : ℕ) (formerSlots : ℕ → ℕ → Bool) (slot : ℕ) : Type 0 where
-  is-current : slot ≡ current → Safe current formerSlots slot
-  is-former : (p : ℕ) → formerSlots p slot ≡ true → Safe current formerSlots slot
+pub data CurrentOrFormer (current : ℕ) (formerSlots : ℕ → ℕ → Bool) (slot : ℕ) : Type 0 where
+  is-current : slot ≡ current → CurrentOrFormer current formerSlots slot
+  is-former : (p : ℕ) → formerSlots p slot ≡ true → CurrentOrFormer current formerSlots slot
 
 -- Of reader r: its place and its picked slot as stored, its picked slot as told, and its note in the model.
-pub record ReaderOk (readerCount current : ℕ) (formerSlots : ℕ → ℕ → Bool) (entries : ℕ → ℕ → ℤ) (r place pickedSlot : ℕ) (toldPick : Option ℕ) (note : List ℤ) : Type 0 where
+pub record ReaderAgrees (readerCount current : ℕ) (formerSlots : ℕ → ℕ → Bool) (entries : ℕ → ℕ → ℤ) (r place pickedSlot : ℕ) (toldPick : Option ℕ) (note : List ℤ) : Type 0 where
   -- who is not at place 0 is a reader of the store
   pub bound : 0 < place → r < readerCount
   -- at place 5 the slot told picked is the stored one, at every other place none is
   pub picked-is : toldPick ≡ pick (eqb place 5) (some pickedSlot) none
   -- the picked slot is the current one or someone's former one
-  pub safe : place ≡ 5 → Safe current formerSlots pickedSlot
+  pub current-or-former : place ≡ 5 → CurrentOrFormer current formerSlots pickedSlot
   -- the picked slot's entries are the note
   pub noted : place ≡ 5 → (k : ℕ) → k < TABLE → entry note k ≡ some (entries pickedSlot k)
 
 -- Of publisher p: its place, claimed slot and former slots as stored; the slots that it writes, its last claim and its former slots as told; and its draft in the model.
-pub record PublisherOk (publisherCount current : ℕ) (entries : ℕ → ℕ → ℤ) (p place claimedSlot : ℕ) (formerSlots : ℕ → Bool)
+pub record PublisherAgrees (publisherCount current : ℕ) (entries : ℕ → ℕ → ℤ) (p place claimedSlot : ℕ) (formerSlots : ℕ → Bool)
     (toldWriting : ℕ → Bool) (toldClaim : Option ℕ) (toldFormer : ℕ → Bool) (draft : List ℤ) : Type 0 where
   -- who holds a slot is a publisher of the store
   pub bound : (slot : ℕ) → Hold place claimedSlot formerSlots slot → p < publisherCount
@@ -58,9 +58,9 @@ pub record PublisherOk (publisherCount current : ℕ) (entries : ℕ → ℕ →
 -- Of the store: each reader and publisher as above, and the current slot beside the model's table.
 pub record Core (model : Model) (told : Told) (readerCount publisherCount current : ℕ) (readerPlace readerPick publisherPlace claimedSlot : ℕ → ℕ)
     (formerSlots : ℕ → ℕ → Bool) (entries : ℕ → ℕ → ℤ) : Type 0 where
-  pub readers : (r : ℕ) → ReaderOk readerCount current formerSlots entries r (readerPlace r) (readerPick r) (told .picked r) (model .note r)
+  pub readers : (r : ℕ) → ReaderAgrees readerCount current formerSlots entries r (readerPlace r) (readerPick r) (told .picked r) (model .note r)
   pub publishers : (p : ℕ)
-      → PublisherOk publisherCount current entries p (publisherPlace p) (claimedSlot p) (formerSlots p) (told .writing p) (told .claim p) (told .former p) (model .draft p)
+      → PublisherAgrees publisherCount current entries p (publisherPlace p) (claimedSlot p) (formerSlots p) (told .writing p) (told .claim p) (told .former p) (model .draft p)
   -- two publishers never hold one slot
   pub distinct : (p q slot : ℕ) → Hold (publisherPlace p) (claimedSlot p) (formerSlots p) slot → Hold (publisherPlace q) (claimedSlot q) (formerSlots q) slot → p ≡ q
   -- told and stored agree on the current slot

@@ -19,20 +19,20 @@ use Rattle.calls.specs.declared.Call.the-variants.{Enter, Leave, Claim, Write, 
 use Rattle.calls.specs.declared.Reply.{Reply}
 use Rattle.calls.specs.declared.Reply.the-variants.{At}
 use Rattle.calls.specs.Numbers.{TABLE}
-use Rattle.calls.specs.Model.{Model, model₀, shelve, entry}
+use Rattle.calls.specs.Model.{Model, model₀, modelStep, entry}
 use Rattle.calls.specs.ModelLaws.{entry-old, entry-new}
 use Rattle.calls.specs.Told.{Told, told₀, tell, holds, Role, Has}
 use Rattle.calls.specs.Told.Role.{current, heldBy, free}
-use Rattle.publication_law.specs.Core.{Hold, Safe, ReaderOk, PublisherOk, Core}
+use Rattle.publication_law.specs.Core.{Hold, CurrentOrFormer, ReaderAgrees, PublisherAgrees, Core}
 use Rattle.publication_law.specs.Core.Hold.{by-claim, by-swap}
-use Rattle.publication_law.specs.Core.Safe.{is-current, is-former}
+use Rattle.publication_law.specs.Core.CurrentOrFormer.{is-current, is-former}
 use Rattle.publication_law.specs.Onward.{Onward}
 use Rattle.publication_law.specs.Onward.Onward.{stays-out, opens, picks}
 
-safe-map : (cur cur′ : ℕ) (F F′ : ℕ → ℕ → Bool) (slot : ℕ) → Safe cur F slot → (slot ≡ cur → Safe cur′ F′ slot)
-    → ((q : ℕ) → F q slot ≡ true → Safe cur′ F′ slot) → Safe cur′ F′ slot
-safe-map cur cur′ F F′ slot (is-current e) f g = f e
-safe-map cur cur′ F F′ slot (is-former q e) f g = g q e
+current-or-former-map : (cur cur′ : ℕ) (F F′ : ℕ → ℕ → Bool) (slot : ℕ) → CurrentOrFormer cur F slot → (slot ≡ cur → CurrentOrFormer cur′ F′ slot)
+    → ((q : ℕ) → F q slot ≡ true → CurrentOrFormer cur′ F′ slot) → CurrentOrFormer cur′ F′ slot
+current-or-former-map cur cur′ F F′ slot (is-current e) f g = f e
+current-or-former-map cur cur′ F F′ slot (is-former q e) f g = g q e
 
 pub hold-map : {A : Type 0} (pl c : ℕ) (F : ℕ → Bool) (x : ℕ) → Hold pl c F x → (1 ≤ pl → pl ≤ 33 → c ≡ x → A) → (F x ≡ true → A) → A
 hold-map pl c F x (by-claim a b e) f g = f a b e
@@ -68,40 +68,40 @@ writing-not pl f = go (leb 1 pl) refl (leb pl 33) refl
 
 module _ (h : Model) (t : Told) (n m cur : ℕ) (rpl rpk ppl pcl : ℕ → ℕ) (F : ℕ → ℕ → Bool) (E : ℕ → ℕ → ℤ) (i : Core h t n m cur rpl rpk ppl pcl F E) where
   -- A reader moves, with what is told of the readers and their notes.
-  reader-core : (r pl pk : ℕ) (inside : ℕ → Bool) (picked : ℕ → Option ℕ) (note : ℕ → List ℤ) → ((j : ℕ) → ReaderOk n cur F E j (upd rpl r pl j) (upd rpk r pk j) (picked j) (note j))
+  reader-core : (r pl pk : ℕ) (inside : ℕ → Bool) (picked : ℕ → Option ℕ) (note : ℕ → List ℤ) → ((j : ℕ) → ReaderAgrees n cur F E j (upd rpl r pl j) (upd rpk r pk j) (picked j) (note j))
       → Core (record { table = h .table; note = note; draft = h .draft }) (record { inside = inside; picked = picked; current = t .current; claim = t .claim; writing = t .writing; former = t .former })
       n m cur (upd rpl r pl) (upd rpk r pk) ppl pcl F E
   reader-core r pl pk inside picked note ok = record { readers = ok; publishers = i .publishers; distinct = i .distinct; current-is = i .current-is; table = i .table; whole = i .whole }
 
   -- ENTER to a place below 4, to 4, and to 5.
   enter-below-4 : (r pl : ℕ) → r < n → rpl r ≤ 3 → pl ≤ 3
-      → Core (shelve h (Enter r) (At pl)) (tell t (Enter r) (At pl)) n m cur (upd rpl r pl) (upd rpk r (rpk r)) ppl pcl F E
+      → Core (modelStep h (Enter r) (At pl)) (tell t (Enter r) (At pl)) n m cur (upd rpl r pl) (upd rpk r (rpk r)) ppl pcl F E
   enter-below-4 r pl rn old new = rw (ne-eqb pl 4 (λ z. omega arith), ne-eqb pl 5 (λ z. omega arith)) (reader-core r pl _ _ _ _ (at-or r (rw (same r) (let o = i .readers r in record {
     bound = λ _. rn;
     picked-is = o .picked-is ∙ rw (ne-eqb (rpl r) 5 (λ z. omega arith), ne-eqb pl 5 (λ z. omega arith)) refl;
-    safe = λ q. absurd (omega arith);
+    current-or-former = λ q. absurd (omega arith);
     noted = λ q. absurd (omega arith);
   })) (λ j e. rw e (i .readers j))))
 
   enter-at-4 : (r : ℕ) → r < n
-      → Core (shelve h (Enter r) (At 4)) (tell t (Enter r) (At 4)) n m cur (upd rpl r 4) (upd rpk r (rpk r)) ppl pcl F E
+      → Core (modelStep h (Enter r) (At 4)) (tell t (Enter r) (At 4)) n m cur (upd rpl r 4) (upd rpk r (rpk r)) ppl pcl F E
   enter-at-4 r rn = reader-core r 4 _ _ _ _ (at-or r (rw (same r) (record {
     bound = λ _. rn;
     picked-is = refl;
-    safe = λ q. absurd (omega arith);
+    current-or-former = λ q. absurd (omega arith);
     noted = λ q. absurd (omega arith);
   })) (λ j e. rw e (i .readers j)))
 
   enter-at-5 : (r : ℕ) → r < n
-      → Core (shelve h (Enter r) (At 5)) (tell t (Enter r) (At 5)) n m cur (upd rpl r 5) (upd rpk r cur) ppl pcl F E
+      → Core (modelStep h (Enter r) (At 5)) (tell t (Enter r) (At 5)) n m cur (upd rpl r 5) (upd rpk r cur) ppl pcl F E
   enter-at-5 r rn = reader-core r 5 _ _ _ _ (at-or r (rw (same r, i .current-is) (record {
     bound = λ _. rn;
     picked-is = refl;
-    safe = λ q. is-current refl;
+    current-or-former = λ q. is-current refl;
     noted = λ q. i .table;
   })) (λ j e. rw e (i .readers j)))
 
-  pub enter-core : (r pl pk : ℕ) → r < n → Onward cur (rpl r) (rpk r) pl pk → Core (shelve h (Enter r) (At pl)) (tell t (Enter r) (At pl)) n m cur (upd rpl r pl) (upd rpk r pk) ppl pcl F E
+  pub enter-core : (r pl pk : ℕ) → r < n → Onward cur (rpl r) (rpk r) pl pk → Core (modelStep h (Enter r) (At pl)) (tell t (Enter r) (At pl)) n m cur (upd rpl r pl) (upd rpk r pk) ppl pcl F E
   enter-core r pl pk rn (stays-out a b e) = rw e (enter-below-4 r pl rn a b)
   enter-core r pl pk rn (opens a b e) = rw (b, e) (enter-at-4 r rn)
   enter-core r pl pk rn (picks a b e) = rw (b, e) (enter-at-5 r rn)
@@ -110,7 +110,7 @@ module _ (h : Model) (t : Told) (n m cur : ℕ) (rpl rpk ppl pcl : ℕ → ℕ) 
   leave-core r pk a = reader-core r 0 pk _ _ _ (at-or r (rw (same r) (record {
     bound = λ q. absurd (omega arith);
     picked-is = refl;
-    safe = λ q. absurd (omega arith);
+    current-or-former = λ q. absurd (omega arith);
     noted = λ q. absurd (omega arith);
   })) (λ j e. rw e (i .readers j)))
 
@@ -126,18 +126,18 @@ module _ (h : Model) (t : Told) (n m cur : ℕ) (rpl rpk ppl pcl : ℕ → ℕ) 
       other q e x u (inr f) = f q u
 
   readers-moved : (p : ℕ) (G : ℕ → Bool) → ((r : ℕ) → rpl r ≡ 5 → F p (rpk r) ≡ true → G (rpk r) ≡ true)
-      → (r : ℕ) → ReaderOk n cur (upd F p G) E r (rpl r) (rpk r) (t .picked r) (h .note r)
+      → (r : ℕ) → ReaderAgrees n cur (upd F p G) E r (rpl r) (rpk r) (t .picked r) (h .note r)
   readers-moved p G b r = let o = i .readers r in record {
     bound = o .bound;
     picked-is = o .picked-is;
-    safe = λ five. safe-map cur cur F (upd F p G) _ (o .safe five) is-current
+    current-or-former = λ five. current-or-former-map cur cur F (upd F p G) _ (o .current-or-former five) is-current
         (at-or p (λ e. is-former p (rw (same p) (b r five e))) (λ q d e. is-former q (rw d e)));
     noted = o .noted;
   }
 
   -- CLAIM, of a slot that nobody holds, by a publisher that is not writing; its former slots stay.
   pub claim-core : (p x : ℕ) (a : Reply) (G : ℕ → Bool) → p < m → (1 ≤ ppl p → ppl p ≤ 33 → ⊥) → cur ≢ x → ((q : ℕ) → Hold (ppl q) (pcl q) (F q) x → ⊥) → ((y : ℕ) → G y ≡ F p y)
-      → Core (shelve h (Claim p x) a) (tell t (Claim p x) a) n m cur rpl rpk (upd ppl p 1) (upd pcl p x) (upd F p G) E
+      → Core (modelStep h (Claim p x) a) (tell t (Claim p x) a) n m cur rpl rpk (upd ppl p 1) (upd pcl p x) (upd F p G) E
   claim-core p x a G pm late nc nh g = record {
     readers = readers-moved p G (λ r five e. g _ ∙ e);
     publishers = at-or p (rw (same p) (let u = i .publishers p in record {
@@ -184,12 +184,12 @@ module _ (h : Model) (t : Told) (n m cur : ℕ) (rpl rpk ppl pcl : ℕ → ℕ) 
 
   -- SWAP: the claimed slot becomes current, the one that was current is one of the former slots.
   pub swap-core : (p c : ℕ) (a : Reply) (G : ℕ → Bool) → ppl p ≡ 33 → ((y : ℕ) → G y ≡ eqb cur y || F p y)
-      → Core (shelve h (Swap p) a) (tell t (Swap p) a) n m (pcl p) rpl rpk (upd ppl p 34) (upd pcl p c) (upd F p G) E
+      → Core (modelStep h (Swap p) a) (tell t (Swap p) a) n m (pcl p) rpl rpk (upd ppl p 34) (upd pcl p c) (upd F p G) E
   swap-core p c a G at33 g = record {
     readers = λ r. let o = i .readers r in record {
       bound = o .bound;
       picked-is = o .picked-is;
-      safe = λ five. safe-map cur (pcl p) F (upd F p G) _ (o .safe five)
+      current-or-former = λ five. current-or-former-map cur (pcl p) F (upd F p G) _ (o .current-or-former five)
           (λ e. is-former p (rw (same p) (g (rpk r) ∙ or-left (eqb cur (rpk r)) (F p (rpk r)) (eq-eqb cur (rpk r) (sym e)))))
           (at-or p (λ e. is-former p (rw (same p) (g (rpk r) ∙ or-right (eqb cur (rpk r)) (F p (rpk r)) e))) (λ q d e. is-former q (rw d e)));
       noted = o .noted;
@@ -221,7 +221,7 @@ module _ (h : Model) (t : Told) (n m cur : ℕ) (rpl rpk ppl pcl : ℕ → ℕ) 
     whole = omega (arith, u .drafted (omega arith) (omega arith));
   }
     where
-      u : PublisherOk m cur E p (ppl p) (pcl p) (F p) (t .writing p) (t .claim p) (t .former p) (h .draft p)
+      u : PublisherAgrees m cur E p (ppl p) (pcl p) (F p) (t .writing p) (t .claim p) (t .former p) (h .draft p)
       u = i .publishers p
 
       mine : Hold (ppl p) (pcl p) (F p) (pcl p)
@@ -262,13 +262,13 @@ module _ (h : Model) (t : Told) (n m cur : ℕ) (rpl rpk ppl pcl : ℕ → ℕ) 
 
   -- WRITE of the next entry into the claimed slot.
   pub write-core : (p : ℕ) (v : ℤ) (a : Reply) (G : ℕ → Bool) → 1 ≤ ppl p → ppl p ≤ 32 → ((y : ℕ) → G y ≡ F p y)
-      → Core (shelve h (Write p v) a) t n m cur rpl rpk (upd ppl p (ppl p + 1)) (upd pcl p (pcl p)) (upd F p G) (upd E (pcl p) (upd (E (pcl p)) (ppl p - 1) v))
+      → Core (modelStep h (Write p v) a) t n m cur rpl rpk (upd ppl p (ppl p + 1)) (upd pcl p (pcl p)) (upd F p G) (upd E (pcl p) (upd (E (pcl p)) (ppl p - 1) v))
   write-core p v a G low high g = record {
     readers = λ r. let o = readers-moved p G (λ r five e. g _ ∙ e) r in record {
       bound = o .bound;
       picked-is = o .picked-is;
-      safe = o .safe;
-      noted = λ five k l. rw (ne-eqb (rpk r) (pcl p) (unpicked r (i .readers r .safe five))) (o .noted five k l);
+      current-or-former = o .current-or-former;
+      noted = λ five k l. rw (ne-eqb (rpk r) (pcl p) (unpicked r (i .readers r .current-or-former five))) (o .noted five k l);
     };
     publishers = at-or p
         (rw (same p) (record {
@@ -297,7 +297,7 @@ module _ (h : Model) (t : Told) (n m cur : ℕ) (rpl rpk ppl pcl : ℕ → ℕ) 
     whole = i .whole;
   }
     where
-      u : PublisherOk m cur E p (ppl p) (pcl p) (F p) (t .writing p) (t .claim p) (t .former p) (h .draft p)
+      u : PublisherAgrees m cur E p (ppl p) (pcl p) (F p) (t .writing p) (t .claim p) (t .former p) (h .draft p)
       u = i .publishers p
 
       mine : Hold (ppl p) (pcl p) (F p) (pcl p)
@@ -306,7 +306,7 @@ module _ (h : Model) (t : Told) (n m cur : ℕ) (rpl rpk ppl pcl : ℕ → ℕ) 
       before : (x : ℕ) → Hold (ppl p + 1) (pcl p) G x → Hold (ppl p) (pcl p) (F p) x
       before x o = hold-map _ _ _ _ o (λ _ _ e. by-claim low (omega arith) e) (λ e. by-swap (sym (g x) ∙ e))
 
-      unpicked : (r : ℕ) → Safe cur F (rpk r) → rpk r ≡ pcl p → ⊥
+      unpicked : (r : ℕ) → CurrentOrFormer cur F (rpk r) → rpk r ≡ pcl p → ⊥
       unpicked r (is-current e) z = u .apart (pcl p) mine (sym z ∙ e)
       unpicked r (is-former q e) z =
           let f : F q (pcl p) ≡ true = rw (← z) e in
@@ -376,10 +376,10 @@ module _ (h : Model) (t : Told) (n m cur : ℕ) (rpl rpk ppl pcl : ℕ → ℕ) 
       go false e (inr q) = (free, (told-current x ∙ e, nobody-holds q), was-free e (nobody-holds q))
 
   -- A picked slot is not free.
-  pub safe-core : (r x : ℕ) → t .picked r ≡ some x → ¬ Has t x free
-  safe-core r x e f = let a = picked-some r x e in not-free (a .1) (i .readers r .safe (a .0))
+  pub current-or-former-core : (r x : ℕ) → t .picked r ≡ some x → ¬ Has t x free
+  current-or-former-core r x e f = let a = picked-some r x e in not-free (a .1) (i .readers r .current-or-former (a .0))
     where
-      not-free : rpk r ≡ x → Safe cur F (rpk r) → ⊥
+      not-free : rpk r ≡ x → CurrentOrFormer cur F (rpk r) → ⊥
       not-free e (is-current d) = not-both _ (told-current x ∙ eq-eqb cur x (sym d ∙ e)) (f .0)
       not-free e (is-former q d) = not-both (holds t q x) (or-right (t .writing q x) (t .former q x) (i .publishers q .former-is x ∙ rw (← e) d)) (f .1 q)
 
@@ -395,7 +395,7 @@ module _ (h : Model) (t : Told) (n m cur : ℕ) (rpl rpk ppl pcl : ℕ → ℕ) 
 pub fresh-core : (first : List ℤ) (n m : ℕ) (E : ℕ → ℕ → ℤ) → length first ≡ TABLE → ((k : ℕ) → k < TABLE → entry first k ≡ some (E 0 k))
     → Core (model₀ first) told₀ n m 0 (λ r. 0) (λ r. 0) (λ p. 0) (λ p. 0) (λ p x. false) E
 fresh-core first n m E len table = record {
-  readers = λ r. record { bound = λ q. absurd (omega arith); picked-is = refl; safe = λ q. absurd (omega arith); noted = λ q. absurd (omega arith) };
+  readers = λ r. record { bound = λ q. absurd (omega arith); picked-is = refl; current-or-former = λ q. absurd (omega arith); noted = λ q. absurd (omega arith) };
   publishers = λ p. record {
     bound = λ x o. absurd (none-held x o);
     writing-is = λ x. refl;

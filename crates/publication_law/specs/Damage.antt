@@ -12,15 +12,15 @@ use Rattle.layout.specs.Layout.{WORDS, kind, readers, publishers, slots, curren
 use Rattle.statement.specs.Machine.{State}
 use Rattle.publication_law.specs.Steps.{Versions, reader, publisher}
 
--- What a kind adds: its number, its versions, and what spoils a reader and a publisher (given readers and slots).
-pub record Kind : Type 0 where
+-- What a kind adds: its number, its versions, and what damages a reader and a publisher (given readers and slots).
+pub record DamageRules : Type 0 where
   pub number : ℕ
   pub versions : Versions
   pub readerDamaged : ℕ → ℕ → Reader → Bool
   pub publisherDamaged : ℕ → ℕ → Publisher → Bool
 
 -- Another length of the words, another kind; a size outside the making rules or a wrong entries' length; current slot or version too large.
-abbrev pub headRows : Kind → State → List Bool
+abbrev pub headRows : DamageRules → State → List Bool
 headRows K s =
     not (eqb (length (s .words)) WORDS)
     ∷ not (eqb (kind (s .words)) (K .number))
@@ -45,18 +45,18 @@ publisherRows vs slots y =
     ∷ []
 
 -- Numbers of readers and publishers beyond the sizes are not tested.
-abbrev pub readersDamaged : Kind → State → Bool
+abbrev pub readersDamaged : DamageRules → State → Bool
 readersDamaged K s = anyBelow (λ r. K .readerDamaged (readers (s .words)) (slots (s .words)) (reader s r)) (readers (s .words))
 
-abbrev pub publishersDamaged : Kind → State → Bool
+abbrev pub publishersDamaged : DamageRules → State → Bool
 publishersDamaged K s = anyBelow (λ p. K .publisherDamaged (readers (s .words)) (slots (s .words)) (publisher s p)) (publishers (s .words))
 
-abbrev pub sharedDamage : Kind → State → Bool
+abbrev pub sharedDamage : DamageRules → State → Bool
 sharedDamage K s = anyTrue (headRows K s) || readersDamaged K s || publishersDamaged K s
 
--- The same of the readers alone and of the publishers alone, of any words: another length and a count outside the making rules spoil here too.
-abbrev pub readersTest : Kind → State → Bool
+-- The same of the readers alone and of the publishers alone, of any words: another length and a count outside the making rules damage here too.
+abbrev pub readersTest : DamageRules → State → Bool
 readersTest K s = not (eqb (length (s .words)) WORDS) || outside 1 READERS-MAX (readers (s .words)) || readersDamaged K s
 
-abbrev pub publishersTest : Kind → State → Bool
+abbrev pub publishersTest : DamageRules → State → Bool
 publishersTest K s = not (eqb (length (s .words)) WORDS) || outside 1 PUBLISHERS-MAX (publishers (s .words)) || publishersDamaged K s

@@ -16,9 +16,9 @@ use Rattle.layout.specs.Layout.{WORDS, kind, readers, publishers, slots, curren
 use Rattle.statement.specs.Machine.{State, state}
 use Rattle.publication_law.specs.Steps.{Versions, reader, publisher}
 use Rattle.publication_law.specs.Table.{Table, damaged}
-use Rattle.publication_law.specs.Damage.{Kind, headRows, publisherRows, readersDamaged, publishersDamaged, sharedDamage, readersTest, publishersTest}
+use Rattle.publication_law.specs.Damage.{DamageRules, headRows, publisherRows, readersDamaged, publishersDamaged, sharedDamage, readersTest, publishersTest}
 
-pub record HeadFine (K : Kind) (s : State) : Type 0 where
+pub record UndamagedHead (K : DamageRules) (s : State) : Type 0 where
   pub long : length (s .words) ≡ WORDS
   pub kind-is : kind (s .words) ≡ K .number
   pub readers-low : 1 ≤ readers (s .words)
@@ -31,19 +31,19 @@ pub record HeadFine (K : Kind) (s : State) : Type 0 where
   pub current-below : current (s .words) < slots (s .words)
   pub version-fits : K .versions .tooLarge (version (s .words)) ≡ false
 
-pub record Fine (K : Kind) (s : State) : Type 0 where
-  pub head : HeadFine K s
-  pub readers-fine : (r : ℕ) → r < readers (s .words) → K .readerDamaged (readers (s .words)) (slots (s .words)) (reader s r) ≡ false
-  pub publishers-fine : (p : ℕ) → p < publishers (s .words) → K .publisherDamaged (readers (s .words)) (slots (s .words)) (publisher s p) ≡ false
+pub record Undamaged (K : DamageRules) (s : State) : Type 0 where
+  pub head : UndamagedHead K s
+  pub readers-undamaged : (r : ℕ) → r < readers (s .words) → K .readerDamaged (readers (s .words)) (slots (s .words)) (reader s r) ≡ false
+  pub publishers-undamaged : (p : ℕ) → p < publishers (s .words) → K .publisherDamaged (readers (s .words)) (slots (s .words)) (publisher s p) ≡ false
 
 -- Readers and publishers of the store have records.
-pub reader-below : (K : Kind) (s : State) → Fine K s → (r : ℕ) → r < readers (s .words) → r < READERS-MAX
+pub reader-below : (K : DamageRules) (s : State) → Undamaged K s → (r : ℕ) → r < readers (s .words) → r < READERS-MAX
 reader-below K s f r l = omega (arith, f .head .readers-high)
 
-pub publisher-below : (K : Kind) (s : State) → Fine K s → (p : ℕ) → p < publishers (s .words) → p < PUBLISHERS-MAX
+pub publisher-below : (K : DamageRules) (s : State) → Undamaged K s → (p : ℕ) → p < publishers (s .words) → p < PUBLISHERS-MAX
 publisher-below K s f p l = omega (arith, f .head .publishers-high)
 
-pub head-of : (K : Kind) (s : State) → anyTrue (headRows K s) ≡ false → HeadFine K s
+pub head-of : (K : DamageRules) (s : State) → anyTrue (headRows K s) ≡ false → UndamagedHead K s
 head-of K s e =
     let f = all-false (headRows K s) e in
     let rs = within 1 READERS-MAX (readers (s .words)) (f .1 .1 .0) in
@@ -63,18 +63,18 @@ head-of K s e =
       version-fits = f .1 .1 .1 .1 .1 .1 .1 .0;
     }
 
-pub fine-of : (K : Kind) (s : State) → sharedDamage K s ≡ false → Fine K s
-fine-of K s e =
+pub undamaged-of : (K : DamageRules) (s : State) → sharedDamage K s ≡ false → Undamaged K s
+undamaged-of K s e =
     let a = or-false (anyTrue (headRows K s) || readersDamaged K s) (publishersDamaged K s) e in
     let b = or-false (anyTrue (headRows K s)) (readersDamaged K s) (a .0) in
     record {
       head = head-of K s (b .0);
-      readers-fine = λ r l. none-below (λ r. K .readerDamaged (readers (s .words)) (slots (s .words)) (reader s r)) (readers (s .words)) r (b .1) l;
-      publishers-fine = λ p l. none-below (λ p. K .publisherDamaged (readers (s .words)) (slots (s .words)) (publisher s p)) (publishers (s .words)) p (a .1) l;
+      readers-undamaged = λ r l. none-below (λ r. K .readerDamaged (readers (s .words)) (slots (s .words)) (reader s r)) (readers (s .words)) r (b .1) l;
+      publishers-undamaged = λ p l. none-below (λ p. K .publisherDamaged (readers (s .words)) (slots (s .words)) (publisher s p)) (publishers (s .words)) p (a .1) l;
     }
 
-pub fine-to : (K : Kind) (s : State) → Fine K s → sharedDamage K s ≡ false
-fine-to K s f = let h = f .head in
+pub undamaged-to : (K : DamageRules) (s : State) → Undamaged K s → sharedDamage K s ≡ false
+undamaged-to K s f = let h = f .head in
     neither (anyTrue (headRows K s) || readersDamaged K s) (publishersDamaged K s)
     (neither (anyTrue (headRows K s)) (readersDamaged K s)
     (none-true (headRows K s) (
@@ -96,20 +96,20 @@ fine-to K s f = let h = f .head in
         ),
       ),
     ))
-    (no-below (λ r. K .readerDamaged (readers (s .words)) (slots (s .words)) (reader s r)) (readers (s .words)) (f .readers-fine)))
-    (no-below (λ p. K .publisherDamaged (readers (s .words)) (slots (s .words)) (publisher s p)) (publishers (s .words)) (f .publishers-fine))
+    (no-below (λ r. K .readerDamaged (readers (s .words)) (slots (s .words)) (reader s r)) (readers (s .words)) (f .readers-undamaged)))
+    (no-below (λ p. K .publisherDamaged (readers (s .words)) (slots (s .words)) (publisher s p)) (publishers (s .words)) (f .publishers-undamaged))
 
 -- The damage test is that of the head, of the readers and of the publishers, each by itself.
-module _ (K : Kind) (s : State) where
-  pub readers-test-fine : Fine K s → readersTest K s ≡ false
-  readers-test-fine f = let h = f .head in neither (not (eqb (length (s .words)) WORDS) || outside 1 READERS-MAX (readers (s .words))) (readersDamaged K s)
+module _ (K : DamageRules) (s : State) where
+  pub readers-test-false : Undamaged K s → readersTest K s ≡ false
+  readers-test-false f = let h = f .head in neither (not (eqb (length (s .words)) WORDS) || outside 1 READERS-MAX (readers (s .words))) (readersDamaged K s)
       (neither (not (eqb (length (s .words)) WORDS)) (outside 1 READERS-MAX (readers (s .words))) (negated _ (eq-eqb _ _ (h .long))) (not-outside 1 READERS-MAX _ (h .readers-low) (h .readers-high)))
-      (no-below (λ r. K .readerDamaged (readers (s .words)) (slots (s .words)) (reader s r)) (readers (s .words)) (f .readers-fine))
+      (no-below (λ r. K .readerDamaged (readers (s .words)) (slots (s .words)) (reader s r)) (readers (s .words)) (f .readers-undamaged))
 
-  pub publishers-test-fine : Fine K s → publishersTest K s ≡ false
-  publishers-test-fine f = let h = f .head in neither (not (eqb (length (s .words)) WORDS) || outside 1 PUBLISHERS-MAX (publishers (s .words))) (publishersDamaged K s)
+  pub publishers-test-false : Undamaged K s → publishersTest K s ≡ false
+  publishers-test-false f = let h = f .head in neither (not (eqb (length (s .words)) WORDS) || outside 1 PUBLISHERS-MAX (publishers (s .words))) (publishersDamaged K s)
       (neither (not (eqb (length (s .words)) WORDS)) (outside 1 PUBLISHERS-MAX (publishers (s .words))) (negated _ (eq-eqb _ _ (h .long))) (not-outside 1 PUBLISHERS-MAX _ (h .publishers-low) (h .publishers-high)))
-      (no-below (λ p. K .publisherDamaged (readers (s .words)) (slots (s .words)) (publisher s p)) (publishers (s .words)) (f .publishers-fine))
+      (no-below (λ p. K .publisherDamaged (readers (s .words)) (slots (s .words)) (publisher s p)) (publishers (s .words)) (f .publishers-undamaged))
 
   pub tests-shared : anyTrue (headRows K s) ≡ false → readersTest K s ≡ false → publishersTest K s ≡ false → sharedDamage K s ≡ false
   tests-shared h r p = neither (anyTrue (headRows K s) || readersDamaged K s) (publishersDamaged K s)
@@ -117,19 +117,19 @@ module _ (K : Kind) (s : State) where
       (or-false (not (eqb (length (s .words)) WORDS) || outside 1 PUBLISHERS-MAX (publishers (s .words))) (publishersDamaged K s) p .1)
 
 -- The rows of a publisher that the kinds share.
-pub record PublisherFine (vs : Versions) (slots : ℕ) (y : Publisher) : Type 0 where
+pub record UndamagedPublisher (vs : Versions) (slots : ℕ) (y : Publisher) : Type 0 where
   pub held-below : 1 ≤ y .place → y .held < slots
   pub mark-fits : 35 ≤ y .place → vs .wrongMark (y .walk .mark) ≡ false
   pub waits-low : 35 ≤ y .place → y .walk .waits ≤ y .walk .looks
 
-pub publisher-of : (vs : Versions) (slots : ℕ) (y : Publisher) → anyTrue (publisherRows vs slots y) ≡ false → PublisherFine vs slots y
+pub publisher-of : (vs : Versions) (slots : ℕ) (y : Publisher) → anyTrue (publisherRows vs slots y) ≡ false → UndamagedPublisher vs slots y
 publisher-of vs slots y e = let f = all-false (publisherRows vs slots y) e in record {
   held-below = λ l. leb-false _ _ (and-false (not (eqb (y .place) 0)) (leb slots (y .held)) (f .0) (rw (ne-eqb (y .place) 0 (λ z. omega arith)) refl));
   mark-fits = λ l. and-false (leb 35 (y .place)) (vs .wrongMark (y .walk .mark)) (f .1 .0) (le-leb _ _ l);
   waits-low = λ l. ltb-false _ _ (and-false (leb 35 (y .place)) (ltb (y .walk .looks) (y .walk .waits)) (f .1 .1 .0) (le-leb _ _ l));
 }
 
-pub publisher-to : (vs : Versions) (slots : ℕ) (y : Publisher) → PublisherFine vs slots y → anyTrue (publisherRows vs slots y) ≡ false
+pub publisher-to : (vs : Versions) (slots : ℕ) (y : Publisher) → UndamagedPublisher vs slots y → anyTrue (publisherRows vs slots y) ≡ false
 publisher-to vs slots y f = none-true (publisherRows vs slots y) (
   and-not (not (eqb (y .place) 0)) (leb slots (y .held)) (λ e. lt-leb slots (y .held) (f .held-below (some-place (y .place) e))),
   (
@@ -144,6 +144,6 @@ publisher-to vs slots y f = none-true (publisherRows vs slots y) (
 -- A store with every number 0 is damaged.
 pub zero-damaged : (T : Table) (es : List ℤ) → damaged T (state (replicate WORDS 0) es) ≡ true
 unfolding damaged
-zero-damaged T es = or-left (sharedDamage (T .kind) (state (replicate WORDS 0) es)) (T .further (state (replicate WORDS 0) es))
-    (or-left (anyTrue (headRows (T .kind) (state (replicate WORDS 0) es)) || readersDamaged (T .kind) (state (replicate WORDS 0) es)) (publishersDamaged (T .kind) (state (replicate WORDS 0) es))
-    (or-left (anyTrue (headRows (T .kind) (state (replicate WORDS 0) es))) (readersDamaged (T .kind) (state (replicate WORDS 0) es)) (or-right (not (eqb 0 (T .kind .number))) true refl)))
+zero-damaged T es = or-left (sharedDamage (T .damage) (state (replicate WORDS 0) es)) (T .further (state (replicate WORDS 0) es))
+    (or-left (anyTrue (headRows (T .damage) (state (replicate WORDS 0) es)) || readersDamaged (T .damage) (state (replicate WORDS 0) es)) (publishersDamaged (T .damage) (state (replicate WORDS 0) es))
+    (or-left (anyTrue (headRows (T .damage) (state (replicate WORDS 0) es))) (readersDamaged (T .damage) (state (replicate WORDS 0) es)) (or-right (not (eqb 0 (T .damage .number))) true refl)))

@@ -22,15 +22,15 @@ use Rattle.layout.specs.Records.{_atPlace_, _walk≔_}
 use Rattle.layout.specs.Laws.{fresh-publisher}
 use Rattle.statement.specs.Machine.{State, state, Outcome, Given}
 use Rattle.statement.specs.Companions.{GraceTraits}
-use Rattle.statement.specs.Kept.{Pend, Ghost, ghost₀, advance, Back}
+use Rattle.statement.specs.KeptInvariant.{Pend, Ghost, ghost₀, advance, Back}
 use Rattle.publication_law.specs.Steps.{reader, publisher, syncTests, sync, newWalk, raise, placeAfter, walked, walk, made}
-use Rattle.publication_law.specs.Damage.{Kind}
+use Rattle.publication_law.specs.Damage.{DamageRules}
 use Rattle.publication_law.specs.KindLaw.{KindLaw}
 use Rattle.publication_law.specs.Onward.{Onward}
 use Rattle.publication_law.specs.Decide.{raise-split}
 use Rattle.publication_law.specs.Moves.{MovesPublisher, MovesReader, publisher-moves, publisher-moves-head}
 use Rattle.publication_law.specs.GraceKeeps.{waitsAfter, enter-keeps, leave-keeps, sync-keeps, raise-keeps, walk-keeps, raised-in-order}
-use Rattle.publication_law.specs.Lawful.{Good}
+use Rattle.publication_law.specs.KindShows.{WholeInvariant}
 
 pub record Detector : Type 1 where
   -- what holds of reader r of n, here x, while a synchronise of publisher y waits for it; below 35 that is of the walk's numbers alone
@@ -84,47 +84,47 @@ module _ (D : Detector) where
   early-own g g′ s w′ es′ p y cur rel o same-pend m e low = moved-own g g′ s w′ es′ p y cur _ rel o m (λ q r d. rw same-pend refl)
       (λ r. rw same-pend (λ q. D .early _ _ (publisher s p) y r e low (o .behind p r q))) (λ l. absurd (omega arith)) (o .readers-are)
 
-  module _ (K : Kind) (law : KindLaw K) (z : Given) (g : Ghost) (s : State) (i : Good K (OwnOf D) z g s) where
+  module _ (K : DamageRules) (law : KindLaw K) (z : Given) (g : Ghost) (s : State) (i : WholeInvariant K (OwnOf D) z g s) where
     -- ENTER: what holds of a reader in a section stays; LEAVE: it is waited for no more.
     module _ (w′ : List ℕ) (r : ℕ) (x : Reader) (m : MovesReader (s .words) w′ r x) (ok : K .readerDamaged (readers (s .words)) (slots (s .words)) x ≡ false)
         (f : D .Readers (version (s .words)) (readers (s .words)) (indicator w′) (upd (readerAt (s .words)) r x)) where
-      pub enter-good : r < readers (s .words) → Onward (current (s .words)) (reader s r .place) (reader s r .picked) (x .place) (x .picked)
+      pub enter-invariant : r < readers (s .words) → Onward (current (s .words)) (reader s r .place) (reader s r .picked) (x .place) (x .picked)
           → (4 ≤ reader s r .place → (y : Publisher) → D .Behind (readers (s .words)) (reader s r) y r → D .Behind (readers (s .words)) x y r)
-          → Good K (OwnOf D) z (advance g (Enter r) (At (x .place))) (state w′ (s .entries))
-      enter-good rn on stays = record {
+          → WholeInvariant K (OwnOf D) z (advance g (Enter r) (At (x .place))) (state w′ (s .entries))
+      enter-invariant rn on stays = record {
         shared = enter-keeps K z g s (i .shared) w′ r x m ok rn on;
         own = reader-own g (advance g (Enter r) (At (x .place))) s w′ r x (i .own) m (λ p q e. e) (λ p e. stays (i .shared .grace .awaited p r e .opened) (publisher s p)) f;
       }
 
-      pub leave-good : x .place ≡ 0 → Good K (OwnOf D) z (advance g (Leave r) Left) (state w′ (s .entries))
-      leave-good out = record {
+      pub leave-invariant : x .place ≡ 0 → WholeInvariant K (OwnOf D) z (advance g (Leave r) Left) (state w′ (s .entries))
+      leave-invariant out = record {
         shared = leave-keeps K z g s (i .shared) w′ r x m ok out;
         own = reader-own g (advance g (Leave r) Left) s w′ r x (i .own) m
             (λ p q. pick-split (λ (b : Bool). b ≡ true → g .pend p q ≡ true) (eqb q r) (λ _ e. clash (sym e)) (λ _ e. e)) (λ p. rw (same r) (λ e. clash (sym e))) f;
       }
 
-    pub sync-good : (p : ℕ) → AllClear (syncTests (K .versions) s p)
+    pub sync-invariant : (p : ℕ) → AllClear (syncTests (K .versions) s p)
         → (let y : Publisher = publisher s p atPlace 35 walk≔ newWalk (publisher s p .walk) (K .versions .markAt (version (s .words))) in
-        law .own (readers (s .words)) y ≡ false → D .passed y ≡ 0 → ((r : ℕ) → 4 ≤ reader s r .place → D .Behind (readers (s .words)) (reader s r) y r)
-        → Good K (OwnOf D) z (advance g (Sync p) (Synced (K .versions .markAt (version (s .words))))) (sync (K .versions) s p .after))
-    sync-good p f clear none open-behind =
+        law .extraDamage (readers (s .words)) y ≡ false → D .passed y ≡ 0 → ((r : ℕ) → 4 ≤ reader s r .place → D .Behind (readers (s .words)) (reader s r) y r)
+        → WholeInvariant K (OwnOf D) z (advance g (Sync p) (Synced (K .versions .markAt (version (s .words))))) (sync (K .versions) s p .after))
+    sync-invariant p f clear none open-behind =
         let y : Publisher = publisher s p atPlace 35 walk≔ newWalk (publisher s p .walk) (K .versions .markAt (version (s .words))) in record {
           shared = sync-keeps K law z g s (i .shared) p f clear;
-          own = moved-own g (advance g (Sync p) (Synced (K .versions .markAt (version (s .words))))) s _ (s .entries) p y _ _ _ (i .own) (publisher-moves (i .shared .every .fine) p y (leb-false _ _ (f .0))) (λ q r e. rw e refl)
+          own = moved-own g (advance g (Sync p) (Synced (K .versions .markAt (version (s .words))))) s _ (s .entries) p y _ _ _ (i .own) (publisher-moves (i .shared .every .no-damage) p y (leb-false _ _ (f .0))) (λ q r e. rw e refl)
               (λ r. rw (same p) (λ e. open-behind r (leb-true 4 (reader s r .place) (sym (i .shared .grace .inside-is r) ∙ e)))) (λ l. rw none refl) (i .own .readers-are);
         }
 
     -- RAISE, at 35 or 36; the raised version is the mark.
-    pub raise-good : (p : ℕ) → p < publishers (s .words) → 35 ≤ publisher s p .place → publisher s p .place ≤ 36 → law .own (readers (s .words)) (publisher s p atPlace 37) ≡ false
+    pub raise-invariant : (p : ℕ) → p < publishers (s .words) → 35 ≤ publisher s p .place → publisher s p .place ≤ 36 → law .extraDamage (readers (s .words)) (publisher s p atPlace 37) ≡ false
         → D .passed (publisher s p atPlace 37) ≡ D .passed (publisher s p)
         → ((r : ℕ) → D .Behind (readers (s .words)) (reader s r) (publisher s p) r → D .Behind (readers (s .words)) (reader s r) (publisher s p atPlace 37) r)
         → (version (s .words) ≡ K .versions .beforeMark (publisher s p .walk .mark) → D .Readers (publisher s p .walk .mark) (readers (s .words)) (indicator (s .words)) (readerAt (s .words)))
-        → Good K (OwnOf D) z (advance g (Raise p) (raise (K .versions) s p .reply)) (raise (K .versions) s p .after)
-    raise-good p lt low high clear passes still-behind raised = record {
+        → WholeInvariant K (OwnOf D) z (advance g (Raise p) (raise (K .versions) s p .reply)) (raise (K .versions) s p .after)
+    raise-invariant p lt low high clear passes still-behind raised = record {
       shared = raise-keeps K law z g s (i .shared) p lt low high clear;
       own = raise-split (λ (o : Outcome). OwnOf D g (o .after)) (K .versions) s p
-          (λ e. to _ _ (publisher-moves-head (i .shared .every .fine) p (publisher s p atPlace 37) lt VERSION-AT (publisher s p .walk .mark) (omega arith) (omega arith)) (raised e))
-          (to _ _ (publisher-moves (i .shared .every .fine) p (publisher s p atPlace 37) lt) (i .own .readers-are));
+          (λ e. to _ _ (publisher-moves-head (i .shared .every .no-damage) p (publisher s p atPlace 37) lt VERSION-AT (publisher s p .walk .mark) (omega arith) (omega arith)) (raised e))
+          (to _ _ (publisher-moves (i .shared .every .no-damage) p (publisher s p atPlace 37) lt) (i .own .readers-are));
     }
       where
         to : (w′ : List ℕ) (ver : ℕ) → MovesPublisher (s .words) w′ p (publisher s p atPlace 37) (current (s .words)) ver (releases (s .words))
@@ -134,16 +134,16 @@ module _ (D : Detector) where
     -- WALK, at 35 to 37: what its looks came to keeps the mark, counts them, and returns only where nobody is waited for.
     module _ (p b : ℕ) (lt : p < publishers (s .words)) (low : 35 ≤ publisher s p .place) (high : publisher s p .place ≤ 37) (k : Progress)
         (waits-are : k .walk .waits ≡ waitsAfter (publisher s p .walk .waits) (k .reply)) (counted : k .walk .looks ≡ D .passed (walked (publisher s p) k) + k .walk .waits) where
-      pub walk-good : (placeAfter (publisher s p .place) (k .reply) ≡ 38 → (r : ℕ) → g .pend p r ≡ false) → k .walk .mark ≡ publisher s p .walk .mark → law .own (readers (s .words)) (walked (publisher s p) k) ≡ false
+      pub walk-invariant : (placeAfter (publisher s p .place) (k .reply) ≡ 38 → (r : ℕ) → g .pend p r ≡ false) → k .walk .mark ≡ publisher s p .walk .mark → law .extraDamage (readers (s .words)) (walked (publisher s p) k) ≡ false
           → ((r : ℕ) → g .pend p r ≡ true → D .Behind (readers (s .words)) (reader s r) (walked (publisher s p) k) r)
-          → Good K (OwnOf D) z (advance g (Walk p b) (Walked (k .reply))) (walk s p k .after)
-      walk-good done same-mark clear still-behind = record {
+          → WholeInvariant K (OwnOf D) z (advance g (Walk p b) (Walked (k .reply))) (walk s p k .after)
+      walk-invariant done same-mark clear still-behind = record {
         shared = walk-keeps K law z g s (i .shared) p b lt low high k done waits-are same-mark (omega arith) clear;
-        own = moved-own g (advance g (Walk p b) (Walked (k .reply))) s _ (s .entries) p _ _ _ _ (i .own) (publisher-moves (i .shared .every .fine) p (walked (publisher s p) k) lt) (λ q r e. refl) still-behind (λ _. counted) (i .own .readers-are);
+        own = moved-own g (advance g (Walk p b) (Walked (k .reply))) s _ (s .entries) p _ _ _ _ (i .own) (publisher-moves (i .shared .every .no-damage) p (walked (publisher s p) k) lt) (λ q r e. refl) still-behind (λ _. counted) (i .own .readers-are);
       }
 
-      pub return-good : (T : GraceTraits) (l w : ℕ) → publisher s p .place ≡ 37 → k .reply ≡ Returned l w → ((r : ℕ) → g .pend p r ≡ false) → l ≡ k .walk .looks → w ≡ k .walk .waits → D .passed (walked (publisher s p) k) ≡ T .passes z → Back T z g p l w
-      return-good T l w at37 q none-pending looks waits passes =
+      pub return-from-invariant : (T : GraceTraits) (l w : ℕ) → publisher s p .place ≡ 37 → k .reply ≡ Returned l w → ((r : ℕ) → g .pend p r ≡ false) → l ≡ k .walk .looks → w ≡ k .walk .waits → D .passed (walked (publisher s p) k) ≡ T .passes z → Back T z g p l w
+      return-from-invariant T l w at37 q none-pending looks waits passes =
           let same-waits : k .walk .waits ≡ publisher s p .walk .waits = waits-are ∙ rw q refl in record {
             none-pending = none-pending;
             in-order = raised-in-order K z g s (i .shared) p at37;

@@ -24,8 +24,8 @@ use Rattle.statement.specs.Machine.{State, Outcome}
 use Rattle.statement.specs.Frame.{readerNamed, publisherNamed, headNamed, One, PlaceAndOne, HeldAndWalkStay, OwnStays, Framed}
 use Rattle.publication_law.specs.Clear.{ClaimClear}
 use Rattle.publication_law.specs.Steps.{Versions, publisher, claim, write, writeTests, swap, swapTests, sync, syncTests, raise, walk, walked, release, releaseTests, oneMore}
-use Rattle.publication_law.specs.Damage.{Kind}
-use Rattle.publication_law.specs.DamageLaws.{Fine}
+use Rattle.publication_law.specs.Damage.{DamageRules}
+use Rattle.publication_law.specs.DamageLaws.{Undamaged}
 use Rattle.publication_law.specs.Decide.{raise-split}
 use Rattle.publication_law.specs.Moves.{MovesPublisher, MovesReader, none-moved, one-moved, publisher-written, reader-written, publisher-moves, publisher-moves-head}
 
@@ -42,7 +42,7 @@ same-own b (Walk p n) w = (refl, refl)
 same-own b (Release p) w = record { held = refl; walk = refl }
 
 pub same-framed : (b : Bool) (c : Call) (w : List ℕ) → Framed b c w w
-same-framed b c w = record { long = refl; readers = λ r ne. refl; publishers = λ p ne. refl; own = same-own b c w; head = λ k l e. refl; one = none-moved w w (λ k l. refl) }
+same-framed b c w = record { long = refl; readers = λ r ne. refl; publishers = λ p ne. refl; own-stays = same-own b c w; head = λ k l e. refl; one = none-moved w w (λ k l. refl) }
 
 -- A reader of which besides its place only word j is new.
 pub place-and-one : (x x′ : Reader) (j : ℕ) → (1 ≢ j → x′ .first ≡ x .first) → (2 ≢ j → x′ .second ≡ x .second) → (3 ≢ j → x′ .published ≡ x .published) → (4 ≢ j → x′ .picked ≡ x .picked)
@@ -63,7 +63,7 @@ publisher-framed b c w w′ p y cur ver rel m e own stays one = record {
   long = m .long;
   readers = λ r ne. ap (λ (f : ℕ → Reader). f r) (m .readers-stay);
   publishers = λ q ne. ap (λ (f : ℕ → Publisher). f q) (m .publishers-are) ∙ upd-other (publisherAt w) p y q (λ z. ne (e ∙ ap some z));
-  own = own (publisher-written m);
+  own-stays = own (publisher-written m);
   head = stays;
   one = one;
 }
@@ -75,7 +75,7 @@ reader-framed b c w w′ r x m e named stays own = record {
   long = m .long;
   readers = λ q ne. ap (λ (f : ℕ → Reader). f q) (m .readers-are) ∙ upd-other (readerAt w) r x q (λ z. ne (e ∙ ap some z));
   publishers = λ p ne. ap (λ (f : ℕ → Publisher). f p) (m .publishers-stay);
-  own = own (reader-written m);
+  own-stays = own (reader-written m);
   head = λ k l n. at-head b refl k l (sym (ap (λ (f : ℕ → Bool). f k) named) ∙ n);
   one = m .one;
 }
@@ -88,7 +88,7 @@ reader-framed b c w w′ r x m e named stays own = record {
 place-only : (y y′ : Publisher) (n : ℕ) → y′ ≡ y atPlace n → HeldAndWalkStay y y′
 place-only y y′ n e = record { held = ap (λ (u : Publisher). u .held) e; walk = ap (λ (u : Publisher). u .walk) e }
 
-module _ (b : Bool) (K : Kind) (s : State) (f : Fine K s) where
+module _ (b : Bool) (K : DamageRules) (s : State) (f : Undamaged K s) where
   -- A call that moves its publisher's record alone.
   record-framed : (c : Call) (p : ℕ) (y : Publisher) → p < publishers (s .words) → publisherNamed c ≡ some p
       → (publisherAt (withPublisher (s .words) p y) p ≡ y → OwnStays b c (s .words) (withPublisher (s .words) p y)) → Framed b c (s .words) (withPublisher (s .words) p y)
@@ -125,5 +125,5 @@ module _ (b : Bool) (K : Kind) (s : State) (f : Fine K s) where
   release-framed p c = head-framed (Release p) p _ RELEASES-AT (oneMore s) (leb-false _ _ (c .0)) (omega arith) (omega arith) refl refl (place-only _ _ _)
 
 -- A WALK leaves its publisher's record with what its looks came to.
-pub walk-record : (K : Kind) (s : State) → Fine K s → (p : ℕ) → p < publishers (s .words) → (k : Progress) → publisher (walk s p k .after) p ≡ walked (publisher s p) k
+pub walk-record : (K : DamageRules) (s : State) → Undamaged K s → (p : ℕ) → p < publishers (s .words) → (k : Progress) → publisher (walk s p k .after) p ≡ walked (publisher s p) k
 walk-record K s f p lt k = publisher-written (publisher-moves f p (walked (publisher s p) k) lt)

@@ -15,15 +15,15 @@ use Rattle.layout.specs.Layout.{publishers, slots, current}
 use Rattle.statement.specs.Machine.{State, Given, events, heldSlot}
 use Rattle.statement.specs.Companions.{GraceTraits}
 use Rattle.statement.specs.FreeSlot.{FindsFreeSlot}
-use Rattle.statement.specs.Kept.{Ghost, ghost₀, all-told, all-tally}
+use Rattle.statement.specs.KeptInvariant.{Ghost, ghost₀, all-told, all-tally}
 use Rattle.publication_law.specs.Steps.{publisher, inUse}
 use Rattle.publication_law.specs.Table.{machine}
 use Rattle.publication_law.specs.Rules.{Rules, tableBy}
-use Rattle.publication_law.specs.Damage.{Kind}
+use Rattle.publication_law.specs.Damage.{DamageRules}
 use Rattle.publication_law.specs.CoreLaws.{held-bound}
 use Rattle.publication_law.specs.Invariant.{Invariant}
 use Rattle.publication_law.specs.Keeps.{slots-right, placed}
-use Rattle.publication_law.specs.Lawful.{Good, Lawful, reached, companions-of}
+use Rattle.publication_law.specs.KindShows.{WholeInvariant, KindShows, reached, companions-of}
 
 -- For every state. The slot that each publisher takes: its own, and for p, which is at place 0, the current one.
 module _ (s : State) (p : ℕ) (at-0 : publisher s p .place ≡ 0) where
@@ -41,20 +41,20 @@ module _ (s : State) (p : ℕ) (at-0 : publisher s p .place ≡ 0) where
   spare-slot lt room = let z = missed taken (publishers (s .words)) (slots (s .words)) room in (z .0, z .1, untaken (z .0) lt (z .2))
 
 -- A slot that is not in use is told free.
-unused-told : (K : Kind) (z : Given) (g : Ghost) (s : State) → Invariant K z g s → (x : ℕ) → inUse s x ≡ false → Has (g .told) x free
+unused-told : (K : DamageRules) (z : Given) (g : Ghost) (s : State) → Invariant K z g s → (x : ℕ) → inUse s x ≡ false → Has (g .told) x free
 unused-told K z g s i x e =
     let recorded = slots-right K z g s i in
     let parts = or-false (eqb (current (s .words)) x) _ e in
     let unheld : (q : ℕ) → q < publishers (s .words) → holds (g .told) q x ≡ false = λ q l. sym (recorded .held q x) ∙ none-below (λ q. heldSlot s q x) (publishers (s .words)) q (parts .1) l in
     (rw (recorded .current) (parts .0), λ q. by-test (holds (g .told) q x) (λ h. not-both _ h (unheld q (held-bound _ _ _ _ _ _ _ _ _ _ _ (i .core) q x h))))
 
-module _ (R : Rules) (T : GraceTraits) (L : Lawful R T) where
-  told-free : (z : Given) (g : Ghost) (s : State) → Good (R .kind) (L .Own) z g s → z .publishers < z .slots → (p : ℕ) → p < z .publishers → g .tally .phase p ≡ idle
+module _ (R : Rules) (T : GraceTraits) (L : KindShows R T) where
+  told-free : (z : Given) (g : Ghost) (s : State) → WholeInvariant (R .damage) (L .Own) z g s → z .publishers < z .slots → (p : ℕ) → p < z .publishers → g .tally .phase p ≡ idle
       → (x : ℕ) × (x < z .slots) × Has (g .told) x free
   told-free z g s i room p pn idle-now =
       let n = i .shared .every .sized in
-      let y = spare-slot s p (placed (R .kind) z g s (i .shared .every) p idle idle-now) (omega (arith, n .publishers-are)) (omega (arith, n .publishers-are, n .slots-are)) in
-      (y .0, omega (arith, n .slots-are, y .1), unused-told (R .kind) z g s (i .shared .every) (y .0) (y .2))
+      let y = spare-slot s p (placed (R .damage) z g s (i .shared .every) p idle idle-now) (omega (arith, n .publishers-are)) (omega (arith, n .publishers-are, n .slots-are)) in
+      (y .0, omega (arith, n .slots-are, y .1), unused-told (R .damage) z g s (i .shared .every) (y .0) (y .2))
 
   -- Of a kind whose claims are not exclusive.
   pub finds-free-slot-of : T .every .exclusive ≡ false → FindsFreeSlot (machine (tableBy R))

@@ -3,7 +3,7 @@ use Prim.Native.Nat.{ℕ, _≤_}
 use mathlib.Core.Path.{_≡_}
 use mathlib.Core.Bool.{Bool, true}
 use lib.Dec.{leb}
-use Rattle.statement.specs.Kept.{Pend}
+use Rattle.statement.specs.KeptInvariant.{Pend}
 
 -- Where a reader and a publisher are whose synchronise has still to wait for that reader: the reader inside, the publisher at 35 to 37.
 pub record Awaited (readerPlace publisherPlace : ℕ) : Type 0 where

@@ -8,9 +8,9 @@ use Rattle.layout.specs.declared.Reader.{Reader}
 use Rattle.layout.specs.declared.Publisher.{Publisher}
 use Rattle.layout.specs.Layout.{RELEASES-AT, releases}
 use Rattle.statement.specs.Machine.{State, state, Given}
-use Rattle.statement.specs.Kept.{Ghost}
+use Rattle.statement.specs.KeptInvariant.{Ghost}
 use Rattle.publication_law.specs.Steps.{reader, publisher}
-use Rattle.publication_law.specs.Damage.{Kind}
+use Rattle.publication_law.specs.Damage.{DamageRules}
 use Rattle.publication_law.specs.Grace.{Grace}
 use Rattle.publication_law.specs.Tallied.{Tallied}
 use Rattle.publication_law.specs.Moves.{MovesPublisher, publisher-field, MovesReader, reader-field}
@@ -18,7 +18,7 @@ use Rattle.publication_law.specs.Invariant.{formers, Invariant}
 use Rattle.publication_law.specs.GraceInvariant.{GraceInvariant}
 
 -- A reader moves.
-pub reader-moved-grace : (K : Kind) (z : Given) (s : State) (g′ : Ghost) (w′ : List ℕ) (r : ℕ) (x : Reader) → MovesReader (s .words) w′ r x → Invariant K z g′ (state w′ (s .entries))
+pub reader-moved-grace : (K : DamageRules) (z : Given) (s : State) (g′ : Ghost) (w′ : List ℕ) (r : ℕ) (x : Reader) → MovesReader (s .words) w′ r x → Invariant K z g′ (state w′ (s .entries))
     → Grace (g′ .told .inside) (g′ .pend) (upd (λ j. reader s j .place) r (x .place)) (upd (λ j. reader s j .picked) r (x .picked)) (λ p. publisher s p .place) (λ p. formers (publisher s p))
     → Tallied (g′ .tally .waits) (g′ .tally .releases) (λ p. publisher s p .place) (λ p. publisher s p .walk .waits) (releases (s .words))
     → GraceInvariant K z g′ (state w′ (s .entries))
@@ -29,7 +29,7 @@ reader-moved-grace K z s g′ w′ r x m i d e = record {
 }
 
 -- A publisher moves.
-pub publisher-moved-grace : (K : Kind) (z : Given) (s : State) (g′ : Ghost) (w′ : List ℕ) (es′ : List ℤ) (p : ℕ) (y : Publisher) (cur ver rel : ℕ) → MovesPublisher (s .words) w′ p y cur ver rel → Invariant K z g′ (state w′ es′)
+pub publisher-moved-grace : (K : DamageRules) (z : Given) (s : State) (g′ : Ghost) (w′ : List ℕ) (es′ : List ℤ) (p : ℕ) (y : Publisher) (cur ver rel : ℕ) → MovesPublisher (s .words) w′ p y cur ver rel → Invariant K z g′ (state w′ es′)
     → Grace (g′ .told .inside) (g′ .pend) (λ j. reader s j .place) (λ j. reader s j .picked) (upd (λ q. publisher s q .place) p (y .place)) (upd (λ q. formers (publisher s q)) p (formers y))
     → Tallied (g′ .tally .waits) (g′ .tally .releases) (upd (λ q. publisher s q .place) p (y .place)) (upd (λ q. publisher s q .walk .waits) p (y .walk .waits)) rel
     → GraceInvariant K z g′ (state w′ es′)

@@ -23,12 +23,12 @@ use Rattle.layout.specs.Layout.{VERSION-AT, RELEASES-AT, readers, publishers, s
 use Rattle.layout.specs.Records.{_atPlace_, _walk≔_}
 use Rattle.layout.specs.Laws.{fresh-head}
 use Rattle.statement.specs.Machine.{State, state, Outcome, Given}
-use Rattle.statement.specs.Kept.{Ghost, ghost₀, advance}
+use Rattle.statement.specs.KeptInvariant.{Ghost, ghost₀, advance}
 use Rattle.publication_law.specs.Steps.{reader, publisher, syncTests, sync, newWalk, raise, placeAfter, walked, walk, releaseTests, release, oneMore, made}
 use Rattle.publication_law.specs.Clear.{MakingClear}
-use Rattle.publication_law.specs.Damage.{Kind}
-use Rattle.publication_law.specs.DamageLaws.{PublisherFine}
-use Rattle.publication_law.specs.KindLaw.{KindLaw, fine-publisher, publisher-undamaged}
+use Rattle.publication_law.specs.Damage.{DamageRules}
+use Rattle.publication_law.specs.DamageLaws.{UndamagedPublisher}
+use Rattle.publication_law.specs.KindLaw.{KindLaw, undamaged-publisher, publisher-undamaged}
 use Rattle.publication_law.specs.Core.{Core}
 use Rattle.publication_law.specs.CoreLaws.{enter-core, leave-core, late-core, release-core}
 use Rattle.publication_law.specs.Onward.{Onward}
@@ -55,7 +55,7 @@ waitsAfter n Spent = n
 waitsAfter n Quiet = n
 waitsAfter n (Returned l w) = n
 
-module _ (K : Kind) (z : Given) (g : Ghost) (s : State) (i : GraceInvariant K z g s) where
+module _ (K : DamageRules) (z : Given) (g : Ghost) (s : State) (i : GraceInvariant K z g s) where
   -- ENTER and LEAVE, whatever else of the reader and of the head a kind changes.
   module _ (w′ : List ℕ) (r : ℕ) (x : Reader) (m : MovesReader (s .words) w′ r x) (ok : K .readerDamaged (readers (s .words)) (slots (s .words)) x ≡ false) where
     pub enter-keeps : r < readers (s .words) → Onward (current (s .words)) (reader s r .place) (reader s r .picked) (x .place) (x .picked)
@@ -82,9 +82,9 @@ module _ (K : Kind) (z : Given) (g : Ghost) (s : State) (i : GraceInvariant K z 
   release-keeps p f ok =
       let lt = leb-false (publishers (s .words)) p (f .0) in
       let at38 = eqb-true (publisher s p .place) 38 (not-false _ (f .1 .0)) in
-      let m = publisher-moves-head (i .every .fine) p (publisher s p atPlace 0) lt RELEASES-AT (oneMore s) (omega arith) (omega arith) in
+      let m = publisher-moves-head (i .every .no-damage) p (publisher s p atPlace 0) lt RELEASES-AT (oneMore s) (omega arith) (omega arith) in
       publisher-moved-grace K z s _ _ _ p _ _ _ _ m
-      (publisher-moved K z g s (i .every) _ _ _ p _ _ _ _ m refl (i .every .fine .head .current-below) (i .every .fine .head .version-fits) ok
+      (publisher-moved K z g s (i .every) _ _ _ p _ _ _ _ m refl (i .every .no-damage .head .current-below) (i .every .no-damage .head .version-fits) ok
       (release-core _ _ _ _ _ _ _ _ _ _ _ (i .every .core) p _ (Freed (publisher s p .held) (oneMore s)) _ (omega arith) (nobody (g .told) _ _ _ _ _ (i .grace) p at38) (λ y. refl))
       (move-phases _ _ _ _ (i .every .phases) p 0 idle refl))
       (release-grace (g .told) _ _ _ _ _ (i .grace) p _ at38) (release-tallied _ _ _ _ _ (i .tallied) p _)
@@ -101,9 +101,9 @@ module _ (K : Kind) (z : Given) (g : Ghost) (s : State) (i : GraceInvariant K z 
   idle-empty p e x = sym (held-told K z g s (i .every) p x) ∙ rw (eq-eqb (publisher s p .place) 0 (placed K z g s (i .every) p idle e)) refl
 
 -- SYNC, RAISE and WALK, from what the shared steps need of a kind.
-module _ (K : Kind) (law : KindLaw K) (z : Given) (g : Ghost) (s : State) (i : GraceInvariant K z g s) where
-  pub publisher-fine : (p : ℕ) → p < publishers (s .words) → PublisherFine (K .versions) (slots (s .words)) (publisher s p)
-  publisher-fine p l = fine-publisher law (readers (s .words)) (slots (s .words)) (publisher s p) (i .every .fine .publishers-fine p l)
+module _ (K : DamageRules) (law : KindLaw K) (z : Given) (g : Ghost) (s : State) (i : GraceInvariant K z g s) where
+  pub moved-publisher-undamaged : (p : ℕ) → p < publishers (s .words) → UndamagedPublisher (K .versions) (slots (s .words)) (publisher s p)
+  moved-publisher-undamaged p l = undamaged-publisher law (readers (s .words)) (slots (s .words)) (publisher s p) (i .every .no-damage .publishers-undamaged p l)
 
   -- A publisher that holds its former slot before and after.
   late-slots : (p pl : ℕ) → 34 ≤ publisher s p .place → 34 ≤ pl
@@ -112,38 +112,38 @@ module _ (K : Kind) (law : KindLaw K) (z : Given) (g : Ghost) (s : State) (i : G
   late-slots p pl low new = late-core _ _ _ _ _ _ _ _ _ _ _ (i .every .core) p pl _ _ (λ a b. omega arith) (λ a b. omega arith) (λ y. former-same (publisher s p .place) pl (publisher s p .held) y low new)
 
   pub sync-keeps : (p : ℕ) → AllClear (syncTests (K .versions) s p)
-      → law .own (readers (s .words)) (publisher s p atPlace 35 walk≔ newWalk (publisher s p .walk) (K .versions .markAt (version (s .words)))) ≡ false
+      → law .extraDamage (readers (s .words)) (publisher s p atPlace 35 walk≔ newWalk (publisher s p .walk) (K .versions .markAt (version (s .words)))) ≡ false
       → GraceInvariant K z (advance g (Sync p) (Synced (K .versions .markAt (version (s .words))))) (sync (K .versions) s p .after)
   sync-keeps p f clear =
       let lt = leb-false (publishers (s .words)) p (f .0) in
       let at34 = eqb-true (publisher s p .place) 34 (not-false _ (f .1 .0)) in
       let y : Publisher = publisher s p atPlace 35 walk≔ newWalk (publisher s p .walk) (K .versions .markAt (version (s .words))) in
       let ok = publisher-undamaged law (readers (s .words)) (slots (s .words)) y clear (record {
-        held-below = λ _. publisher-fine p lt .held-below (omega arith);
-        mark-fits = λ _. law .versions-law .mark-fits (version (s .words)) (i .every .fine .head .version-fits) (f .1 .1 .0);
+        held-below = λ _. moved-publisher-undamaged p lt .held-below (omega arith);
+        mark-fits = λ _. law .versions-law .mark-fits (version (s .words)) (i .every .no-damage .head .version-fits) (f .1 .1 .0);
         waits-low = λ _. omega arith;
       }) in
-      let m = publisher-moves (i .every .fine) p y lt in
+      let m = publisher-moves (i .every .no-damage) p y lt in
       publisher-moved-grace K z s _ _ _ p _ _ _ _ m
-      (publisher-moved K z g s (i .every) _ _ _ p _ _ _ _ m refl (i .every .fine .head .current-below) (i .every .fine .head .version-fits) ok
+      (publisher-moved K z g s (i .every) _ _ _ p _ _ _ _ m refl (i .every .no-damage .head .current-below) (i .every .no-damage .head .version-fits) ok
       (late-slots p 35 (omega arith) (omega arith)) (move-phases _ _ _ _ (i .every .phases) p 35 synchronising refl))
       (sync-grace (g .told) _ _ _ _ _ (i .grace) p _) (sync-tallied _ _ _ _ _ (i .tallied) p)
 
   -- RAISE, at 35 or 36.
   module _ (p : ℕ) (lt : p < publishers (s .words)) (low : 35 ≤ publisher s p .place) (high : publisher s p .place ≤ 36) where
-    pub raise-keeps : law .own (readers (s .words)) (publisher s p atPlace 37) ≡ false
+    pub raise-keeps : law .extraDamage (readers (s .words)) (publisher s p atPlace 37) ≡ false
         → GraceInvariant K z (advance g (Raise p) (raise (K .versions) s p .reply)) (raise (K .versions) s p .after)
     raise-keeps clear =
-        let pf = publisher-fine p lt in
+        let pf = moved-publisher-undamaged p lt in
         let ok = publisher-undamaged law (readers (s .words)) (slots (s .words)) (publisher s p atPlace 37) clear (record { held-below = λ _. pf .held-below (omega arith); mark-fits = λ _. pf .mark-fits low; waits-low = λ _. pf .waits-low low }) in
         raise-split (λ (o : Outcome). GraceInvariant K z (advance g (Raise p) (o .reply)) (o .after)) (K .versions) s p
-        (λ e. to _ _ (publisher-moves-head (i .every .fine) p _ lt VERSION-AT (publisher s p .walk .mark) (omega arith) (omega arith)) (law .versions-law .raised-fits _ (pf .mark-fits low)) ok)
-        (to _ _ (publisher-moves (i .every .fine) p _ lt) (i .every .fine .head .version-fits) ok)
+        (λ e. to _ _ (publisher-moves-head (i .every .no-damage) p _ lt VERSION-AT (publisher s p .walk .mark) (omega arith) (omega arith)) (law .versions-law .raised-fits _ (pf .mark-fits low)) ok)
+        (to _ _ (publisher-moves (i .every .no-damage) p _ lt) (i .every .no-damage .head .version-fits) ok)
       where
         to : (w′ : List ℕ) (ver : ℕ) → MovesPublisher (s .words) w′ p (publisher s p atPlace 37) (current (s .words)) ver (releases (s .words)) → K .versions .tooLarge ver ≡ false
             → K .publisherDamaged (readers (s .words)) (slots (s .words)) (publisher s p atPlace 37) ≡ false → GraceInvariant K z (record { model = g .model; told = g .told; pend = g .pend; tally = withPhase (g .tally) p raised }) (state w′ (s .entries))
         to w′ ver m fits ok = publisher-moved-grace K z s _ w′ _ p _ _ ver _ m
-            (publisher-moved K z g s (i .every) _ w′ _ p _ _ ver _ m refl (i .every .fine .head .current-below) fits ok (late-slots p 37 (omega arith) (omega arith)) (move-phases _ _ _ _ (i .every .phases) p 37 raised refl))
+            (publisher-moved K z g s (i .every) _ w′ _ p _ _ ver _ m refl (i .every .no-damage .head .current-below) fits ok (late-slots p 37 (omega arith) (omega arith)) (move-phases _ _ _ _ (i .every .phases) p 37 raised refl))
             (wait-grace (g .told) _ _ _ _ _ (i .grace) p 37 _ low (omega arith) (omega arith) (λ e. absurd (omega arith)) (λ y. former-same (publisher s p .place) 37 (publisher s p .held) y (omega arith) (omega arith)))
             (late-tallied _ _ _ _ _ (i .tallied) p 37 _ low refl)
 
@@ -176,23 +176,23 @@ module _ (K : Kind) (law : KindLaw K) (z : Given) (g : Ghost) (s : State) (i : G
     after-high (Returned l w) = omega arith
 
     pub walk-keeps : (k : Progress) → (placeAfter (publisher s p .place) (k .reply) ≡ 38 → (r : ℕ) → g .pend p r ≡ false) → k .walk .waits ≡ waitsAfter (publisher s p .walk .waits) (k .reply)
-        → k .walk .mark ≡ publisher s p .walk .mark → k .walk .waits ≤ k .walk .looks → law .own (readers (s .words)) (walked (publisher s p) k) ≡ false
+        → k .walk .mark ≡ publisher s p .walk .mark → k .walk .waits ≤ k .walk .looks → law .extraDamage (readers (s .words)) (walked (publisher s p) k) ≡ false
         → GraceInvariant K z (advance g (Walk p b) (Walked (k .reply))) (walk s p k .after)
     walk-keeps k done ws same-mark enough clear =
-        let pf = publisher-fine p lt in
+        let pf = moved-publisher-undamaged p lt in
         let ok = publisher-undamaged law (readers (s .words)) (slots (s .words)) (walked (publisher s p) k) clear (record { held-below = λ _. pf .held-below (omega (arith, low)); mark-fits = λ _. rw same-mark (pf .mark-fits low); waits-low = λ _. enough }) in
         let l : 35 ≤ placeAfter (publisher s p .place) (k .reply) = after-low (k .reply) in
-        let m = publisher-moves (i .every .fine) p (walked (publisher s p) k) lt in
+        let m = publisher-moves (i .every .no-damage) p (walked (publisher s p) k) lt in
         publisher-moved-grace K z s _ _ _ p _ _ _ _ m
-        (publisher-moved K z g s (i .every) _ _ _ p _ _ _ _ m refl (i .every .fine .head .current-below) (i .every .fine .head .version-fits) ok
+        (publisher-moved K z g s (i .every) _ _ _ p _ _ _ _ m refl (i .every .no-damage .head .current-below) (i .every .no-damage .head .version-fits) ok
         (late-slots p (placeAfter (publisher s p .place) (k .reply)) (omega arith) (omega arith)) (walk-phases (k .reply)))
         (wait-grace (g .told) _ _ _ _ _ (i .grace) p _ _ low l (after-high (k .reply)) done (λ y. former-same (publisher s p .place) (placeAfter (publisher s p .place) (k .reply)) (publisher s p .held) y (omega arith) (omega arith)))
         (walk-tallied (k .reply) _ ws)
 
 -- A fresh store.
-pub made-invariant : (K : Kind) (x : Reader) (z : Given) (s : State) → MakingClear (K .versions) z s → x .place ≡ 0 → x .picked ≡ 0
+pub made-grace-invariant : (K : DamageRules) (x : Reader) (z : Given) (s : State) → MakingClear (K .versions) z s → x .place ≡ 0 → x .picked ≡ 0
     → K .readerDamaged (z .readers) (z .slots) x ≡ false → K .publisherDamaged (z .readers) (z .slots) noPublisher ≡ false → GraceInvariant K z (ghost₀ firstTable) (made (K .number) x z s)
-made-invariant K x z s f a b reader-ok publisher-ok = record {
+made-grace-invariant K x z s f a b reader-ok publisher-ok = record {
   every = every.made-invariant K x z s f a b reader-ok publisher-ok;
   grace = rw (
     readers-fresh (K .number) x z s (λ (y : Reader). y .place) a refl,

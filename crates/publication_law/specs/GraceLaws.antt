@@ -12,7 +12,7 @@ use Rattle.calls.specs.declared.Call.the-variants.{Enter, Leave, Sync}
 use Rattle.calls.specs.declared.Reply.{Reply}
 use Rattle.calls.specs.declared.Reply.the-variants.{At}
 use Rattle.calls.specs.Told.{Told, told₀, tell}
-use Rattle.statement.specs.Kept.{Pend, pending}
+use Rattle.statement.specs.KeptInvariant.{Pend, pending}
 use Rattle.publication_law.specs.Onward.{Onward}
 use Rattle.publication_law.specs.Onward.Onward.{stays-out, opens, picks}
 use Rattle.publication_law.specs.Grace.{Awaited, Grace}

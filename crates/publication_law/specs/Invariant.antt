@@ -7,10 +7,10 @@ use lib.Dec.{leb, eqb}
 use Rattle.layout.specs.declared.Publisher.{Publisher}
 use Rattle.layout.specs.Layout.{readers, publishers, slots, current, slotEntry}
 use Rattle.statement.specs.Machine.{State, Given}
-use Rattle.statement.specs.Kept.{Ghost}
+use Rattle.statement.specs.KeptInvariant.{Ghost}
 use Rattle.publication_law.specs.Steps.{reader, publisher}
-use Rattle.publication_law.specs.Damage.{Kind}
-use Rattle.publication_law.specs.DamageLaws.{Fine}
+use Rattle.publication_law.specs.Damage.{DamageRules}
+use Rattle.publication_law.specs.DamageLaws.{Undamaged}
 use Rattle.publication_law.specs.Core.{Core}
 use Rattle.publication_law.specs.Phases.{Phases}
 
@@ -36,9 +36,9 @@ abbrev pub PhasesOf : Ghost → State → Type 0
 PhasesOf g s = Phases (g .tally .place) (g .tally .phase) (λ r. reader s r .place) (λ p. publisher s p .place)
 
 -- Of a store of kind K made with the arguments z, where the calls told g.
-pub record Invariant (K : Kind) (z : Given) (g : Ghost) (s : State) : Type 0 where
+pub record Invariant (K : DamageRules) (z : Given) (g : Ghost) (s : State) : Type 0 where
   -- it is undamaged
-  pub fine : Fine K s
+  pub no-damage : Undamaged K s
   -- it has the sizes that it was made with
   pub sized : Sized z s
   -- its slots, readers and publishers are as Core says

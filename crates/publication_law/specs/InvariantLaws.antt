@@ -12,19 +12,19 @@ use Rattle.layout.specs.declared.Reader.{Reader}
 use Rattle.layout.specs.declared.Publisher.{Publisher}
 use Rattle.layout.specs.Layout.{KIND-AT, READERS-AT, PUBLISHERS-AT, SLOTS-AT, CURRENT-AT, VERSION-AT, readers, publishers, slots, current, version, slotEntry}
 use Rattle.statement.specs.Machine.{State, state, Given}
-use Rattle.statement.specs.Kept.{Ghost}
+use Rattle.statement.specs.KeptInvariant.{Ghost}
 use Rattle.publication_law.specs.Steps.{reader, publisher}
-use Rattle.publication_law.specs.Damage.{Kind}
-use Rattle.publication_law.specs.DamageLaws.{HeadFine, Fine}
+use Rattle.publication_law.specs.Damage.{DamageRules}
+use Rattle.publication_law.specs.DamageLaws.{UndamagedHead, Undamaged}
 use Rattle.publication_law.specs.Core.{Core}
 use Rattle.publication_law.specs.Phases.{Phases}
 use Rattle.publication_law.specs.Moves.{MovesPublisher, publisher-field, MovesReader, reader-field}
 use Rattle.publication_law.specs.Invariant.{formers, Sized, Invariant}
 
 -- Words and entries of the same lengths, with the same numbers of the head below the current slot, and a current slot and a version that fit.
-module _ (K : Kind) (s : State) (w′ : List ℕ) (es′ : List ℤ) (long : length w′ ≡ length (s .words)) (head : (k : ℕ) → k < CURRENT-AT → getD w′ k 0 ≡ getD (s .words) k 0) where
-  head-fine : length es′ ≡ length (s .entries) → current w′ < slots (s .words) → K .versions .tooLarge (version w′) ≡ false → HeadFine K s → HeadFine K (state w′ es′)
-  head-fine len low fits h = record {
+module _ (K : DamageRules) (s : State) (w′ : List ℕ) (es′ : List ℤ) (long : length w′ ≡ length (s .words)) (head : (k : ℕ) → k < CURRENT-AT → getD w′ k 0 ≡ getD (s .words) k 0) where
+  head-undamaged : length es′ ≡ length (s .entries) → current w′ < slots (s .words) → K .versions .tooLarge (version w′) ≡ false → UndamagedHead K s → UndamagedHead K (state w′ es′)
+  head-undamaged len low fits h = record {
     long = long ∙ h .long;
     kind-is = head KIND-AT (omega arith) ∙ h .kind-is;
     readers-low = rw (head READERS-AT (omega arith)) (h .readers-low);
@@ -42,12 +42,12 @@ module _ (K : Kind) (s : State) (w′ : List ℕ) (es′ : List ℤ) (long : len
   sized z u = record { readers-are = head READERS-AT (omega arith) ∙ u .readers-are; publishers-are = head PUBLISHERS-AT (omega arith) ∙ u .publishers-are; slots-are = head SLOTS-AT (omega arith) ∙ u .slots-are }
 
 -- A reader moves.
-module _ (K : Kind) (z : Given) (g : Ghost) (s : State) (i : Invariant K z g s) (g′ : Ghost) (w′ : List ℕ) (r : ℕ) (x : Reader) (m : MovesReader (s .words) w′ r x) where
-  fine-reader : K .readerDamaged (readers (s .words)) (slots (s .words)) x ≡ false → Fine K (state w′ (s .entries))
-  fine-reader ok = let f = i .fine in let h = f .head in record {
-    head = head-fine K s w′ (s .entries) (m .long) (λ k l. m .head k (omega arith)) refl (rw (m .head CURRENT-AT (omega arith)) (h .current-below)) (rw (m .head VERSION-AT (omega arith)) (h .version-fits)) h;
-    readers-fine = rw (m .head READERS-AT (omega arith), m .head SLOTS-AT (omega arith), m .readers-are) (at-or r (λ l. rw (same r) ok) (λ j e l. rw e (f .readers-fine j l)));
-    publishers-fine = rw (m .head READERS-AT (omega arith), m .head PUBLISHERS-AT (omega arith), m .head SLOTS-AT (omega arith), m .publishers-stay) (f .publishers-fine);
+module _ (K : DamageRules) (z : Given) (g : Ghost) (s : State) (i : Invariant K z g s) (g′ : Ghost) (w′ : List ℕ) (r : ℕ) (x : Reader) (m : MovesReader (s .words) w′ r x) where
+  undamaged-reader : K .readerDamaged (readers (s .words)) (slots (s .words)) x ≡ false → Undamaged K (state w′ (s .entries))
+  undamaged-reader ok = let f = i .no-damage in let h = f .head in record {
+    head = head-undamaged K s w′ (s .entries) (m .long) (λ k l. m .head k (omega arith)) refl (rw (m .head CURRENT-AT (omega arith)) (h .current-below)) (rw (m .head VERSION-AT (omega arith)) (h .version-fits)) h;
+    readers-undamaged = rw (m .head READERS-AT (omega arith), m .head SLOTS-AT (omega arith), m .readers-are) (at-or r (λ l. rw (same r) ok) (λ j e l. rw e (f .readers-undamaged j l)));
+    publishers-undamaged = rw (m .head READERS-AT (omega arith), m .head PUBLISHERS-AT (omega arith), m .head SLOTS-AT (omega arith), m .publishers-stay) (f .publishers-undamaged);
   }
 
   pub reader-moved : K .readerDamaged (readers (s .words)) (slots (s .words)) x ≡ false
@@ -56,7 +56,7 @@ module _ (K : Kind) (z : Given) (g : Ghost) (s : State) (i : Invariant K z g s) 
       → Phases (g′ .tally .place) (g′ .tally .phase) (upd (λ j. reader s j .place) r (x .place)) (λ p. publisher s p .place)
       → Invariant K z g′ (state w′ (s .entries))
   reader-moved ok c d = record {
-    fine = fine-reader ok;
+    no-damage = undamaged-reader ok;
     sized = sized K s w′ (s .entries) (m .long) (λ k l. m .head k (omega arith)) z (i .sized);
     core = rw (
       m .head READERS-AT (omega arith),
@@ -70,13 +70,13 @@ module _ (K : Kind) (z : Given) (g : Ghost) (s : State) (i : Invariant K z g s) 
   }
 
 -- A publisher moves.
-module _ (K : Kind) (z : Given) (g : Ghost) (s : State) (i : Invariant K z g s) (g′ : Ghost) (w′ : List ℕ) (es′ : List ℤ) (p : ℕ) (y : Publisher) (cur ver rel : ℕ)
+module _ (K : DamageRules) (z : Given) (g : Ghost) (s : State) (i : Invariant K z g s) (g′ : Ghost) (w′ : List ℕ) (es′ : List ℤ) (p : ℕ) (y : Publisher) (cur ver rel : ℕ)
     (m : MovesPublisher (s .words) w′ p y cur ver rel) (len : length es′ ≡ length (s .entries)) where
-  fine-publisher : cur < slots (s .words) → K .versions .tooLarge ver ≡ false → K .publisherDamaged (readers (s .words)) (slots (s .words)) y ≡ false → Fine K (state w′ es′)
-  fine-publisher low fits ok = let f = i .fine in record {
-    head = head-fine K s w′ es′ (m .long) (m .head) len (rw (m .current-is) low) (rw (m .version-is) fits) (f .head);
-    readers-fine = rw (m .head READERS-AT (omega arith), m .head SLOTS-AT (omega arith), m .readers-stay) (f .readers-fine);
-    publishers-fine = rw (m .head READERS-AT (omega arith), m .head PUBLISHERS-AT (omega arith), m .head SLOTS-AT (omega arith), m .publishers-are) (at-or p (λ l. rw (same p) ok) (λ j e l. rw e (f .publishers-fine j l)));
+  undamaged-publisher : cur < slots (s .words) → K .versions .tooLarge ver ≡ false → K .publisherDamaged (readers (s .words)) (slots (s .words)) y ≡ false → Undamaged K (state w′ es′)
+  undamaged-publisher low fits ok = let f = i .no-damage in record {
+    head = head-undamaged K s w′ es′ (m .long) (m .head) len (rw (m .current-is) low) (rw (m .version-is) fits) (f .head);
+    readers-undamaged = rw (m .head READERS-AT (omega arith), m .head SLOTS-AT (omega arith), m .readers-stay) (f .readers-undamaged);
+    publishers-undamaged = rw (m .head READERS-AT (omega arith), m .head PUBLISHERS-AT (omega arith), m .head SLOTS-AT (omega arith), m .publishers-are) (at-or p (λ l. rw (same p) ok) (λ j e l. rw e (f .publishers-undamaged j l)));
   }
 
   pub publisher-moved : cur < slots (s .words) → K .versions .tooLarge ver ≡ false → K .publisherDamaged (readers (s .words)) (slots (s .words)) y ≡ false
@@ -85,7 +85,7 @@ module _ (K : Kind) (z : Given) (g : Ghost) (s : State) (i : Invariant K z g s) 
       → Phases (g′ .tally .place) (g′ .tally .phase) (λ j. reader s j .place) (upd (λ q. publisher s q .place) p (y .place))
       → Invariant K z g′ (state w′ es′)
   publisher-moved low fits ok c d = record {
-    fine = fine-publisher low fits ok;
+    no-damage = undamaged-publisher low fits ok;
     sized = sized K s w′ es′ (m .long) (m .head) z (i .sized);
     core = rw (
       m .head READERS-AT (omega arith),

@@ -29,20 +29,20 @@ use Rattle.layout.specs.Records.{_atPlace_, _held≔_}
 use Rattle.layout.specs.Laws.{fresh-long, fresh-head, fresh-reader, fresh-publisher}
 use Rattle.statement.specs.Machine.{State, Given, heldSlot}
 use Rattle.statement.specs.Demand3.{Slots, Picks}
-use Rattle.statement.specs.Kept.{Ghost, ghost₀, advance}
+use Rattle.statement.specs.KeptInvariant.{Ghost, ghost₀, advance}
 use Rattle.publication_law.specs.Steps.{reader, publisher, lookTests, claim, inUse, writeTests, write, swapTests, swap, made}
 use Rattle.publication_law.specs.Clear.{MakingClear, ClaimClear}
-use Rattle.publication_law.specs.Damage.{Kind}
-use Rattle.publication_law.specs.DamageLaws.{Fine}
+use Rattle.publication_law.specs.Damage.{DamageRules}
+use Rattle.publication_law.specs.DamageLaws.{Undamaged}
 use Rattle.publication_law.specs.Core.{Hold}
-use Rattle.publication_law.specs.CoreLaws.{claim-core, swap-core, write-core, held-is, held-bound, role-core, safe-core, free-core, fresh-core}
+use Rattle.publication_law.specs.CoreLaws.{claim-core, swap-core, write-core, held-is, held-bound, role-core, current-or-former-core, free-core, fresh-core}
 use Rattle.publication_law.specs.Single.{former-early, former-swap, single, single-free}
 use Rattle.publication_law.specs.PhaseLaws.{phase-writing, InPhase, in-phase, move-phases, stay-phases, fresh-phases}
 use Rattle.publication_law.specs.Moves.{publisher-moves, publisher-moves-head}
 use Rattle.publication_law.specs.Invariant.{formers, Invariant}
 use Rattle.publication_law.specs.InvariantLaws.{publisher-moved}
 
-module _ (K : Kind) (z : Given) (g : Ghost) (s : State) (i : Invariant K z g s) where
+module _ (K : DamageRules) (z : Given) (g : Ghost) (s : State) (i : Invariant K z g s) where
   -- A slot that is not in use is held by nobody.
   unheld : (x : ℕ) → inUse s x ≡ false → (q : ℕ) → Hold (publisher s q .place) (publisher s q .held) (formers (publisher s q)) x → ⊥
   unheld x e q o = single-free _ _ x
@@ -56,9 +56,9 @@ module _ (K : Kind) (z : Given) (g : Ghost) (s : State) (i : Invariant K z g s) 
       → Invariant K z (advance g (Claim p x) (Claimed x)) (claim s p x .after)
   claim-keeps e p x f ok =
       let lt = f .publisher-named in
-      let idle-now = f .in-turn in
+      let at-place-0 = f .in-turn in
       let free-slot = f .unused in
-      publisher-moved K z g s i _ _ _ p _ _ _ _ (publisher-moves (i .fine) p _ lt) refl (i .fine .head .current-below) (i .fine .head .version-fits) ok
+      publisher-moved K z g s i _ _ _ p _ _ _ _ (publisher-moves (i .no-damage) p _ lt) refl (i .no-damage .head .current-below) (i .no-damage .head .version-fits) ok
       (claim-core _ _ _ _ _ _ _ _ _ _ _ (i .core) p x (Claimed x) _ lt (λ a b. omega arith) (not-current x free-slot) (unheld x free-slot)
       (λ y. sym (former-early (publisher s p .place) (publisher s p .held) y (omega arith))))
       (move-phases _ _ _ _ (i .phases) p 1 writing refl)
@@ -66,7 +66,7 @@ module _ (K : Kind) (z : Given) (g : Ghost) (s : State) (i : Invariant K z g s) 
   -- No accepted CLAIM is of a picked slot.
   pub claim-unpicked : (e : Bool) (p x : ℕ) → ClaimClear e s p x → (r : ℕ) → ¬ (g .told .picked r ≡ some x)
   claim-unpicked e p x f r d = let free-slot = f .unused in
-      safe-core _ _ _ _ _ _ _ _ _ _ _ (i .core) r x d (free-core _ _ _ _ _ _ _ _ _ _ _ (i .core) x (not-current x free-slot) (unheld x free-slot))
+      current-or-former-core _ _ _ _ _ _ _ _ _ _ _ (i .core) r x d (free-core _ _ _ _ _ _ _ _ _ _ _ (i .core) x (not-current x free-slot) (unheld x free-slot))
 
   pub write-keeps : (p : ℕ) (v : ℤ) → AllClear (writeTests s p v) → publisher s p .held < slots (s .words)
       → K .publisherDamaged (readers (s .words)) (slots (s .words)) (publisher s p atPlace (publisher s p .place + 1)) ≡ false
@@ -76,9 +76,9 @@ module _ (K : Kind) (z : Given) (g : Ghost) (s : State) (i : Invariant K z g s) 
       let range = within 1 32 (publisher s p .place) (f .1 .1 .0) in
       let low : 1 ≤ publisher s p .place = range .0 in
       let high : publisher s p .place ≤ 32 = range .1 in
-      let room : entryAt (publisher s p .held) (publisher s p .place - 1) < length (s .entries) = omega (arith, i .fine .head .entries-are) in
-      publisher-moved K z g s i _ _ (set (s .entries) (entryAt (publisher s p .held) (publisher s p .place - 1)) v) p _ _ _ _ (publisher-moves (i .fine) p _ lt) (length-set (s .entries) _ v)
-      (i .fine .head .current-below) (i .fine .head .version-fits) ok
+      let room : entryAt (publisher s p .held) (publisher s p .place - 1) < length (s .entries) = omega (arith, i .no-damage .head .entries-are) in
+      publisher-moved K z g s i _ _ (set (s .entries) (entryAt (publisher s p .held) (publisher s p .place - 1)) v) p _ _ _ _ (publisher-moves (i .no-damage) p _ lt) (length-set (s .entries) _ v)
+      (i .no-damage .head .current-below) (i .no-damage .head .version-fits) ok
       (rw (set-entry (s .entries) (publisher s p .held) (publisher s p .place - 1) v (omega arith) room)
       (write-core _ _ _ _ _ _ _ _ _ _ _ (i .core) p v (Written (publisher s p .place)) _ low high
       (λ y. former-early (publisher s p .place + 1) (publisher s p .held) y (omega arith) ∙ sym (former-early (publisher s p .place) (publisher s p .held) y (omega arith)))))
@@ -91,7 +91,7 @@ module _ (K : Kind) (z : Given) (g : Ghost) (s : State) (i : Invariant K z g s) 
       let lt = leb-false (publishers (s .words)) p (f .0) in
       let at33 = eqb-true (publisher s p .place) 33 (not-false _ (f .1 .0)) in
       publisher-moved K z g s i _ _ _ p _ _ _ _
-      (publisher-moves-head (i .fine) p _ lt CURRENT-AT (publisher s p .held) (omega arith) (omega arith)) refl held-below (i .fine .head .version-fits) ok
+      (publisher-moves-head (i .no-damage) p _ lt CURRENT-AT (publisher s p .held) (omega arith) (omega arith)) refl held-below (i .no-damage .head .version-fits) ok
       (swap-core _ _ _ _ _ _ _ _ _ _ _ (i .core) p _ (Swapped (current (s .words))) _ at33 (λ y. former-swap (publisher s p .place) (publisher s p .held) (current (s .words)) y (omega arith)))
       (move-phases _ _ _ _ (i .phases) p 34 swapped refl)
 
@@ -113,7 +113,7 @@ module _ (K : Kind) (z : Given) (g : Ghost) (s : State) (i : Invariant K z g s) 
   }
 
   pub picks-right : Picks (g .told)
-  picks-right r x e = safe-core _ _ _ _ _ _ _ _ _ _ _ (i .core) r x e
+  picks-right r x e = current-or-former-core _ _ _ _ _ _ _ _ _ _ _ (i .core) r x e
 
   pub table-right : length (g .model .table) ≡ TABLE
   table-right = i .core .whole
@@ -164,7 +164,7 @@ module _ (k : ℕ) (x : Reader) (z : Given) (s : State) where
   publishers-fresh h = fun-ext (λ p. ap h (fresh-publisher k (z .readers) (z .publishers) (z .slots) (z .version) x p))
 
 -- .. and that it has the invariant.
-module _ (K : Kind) (x : Reader) (z : Given) (s : State) (f : MakingClear (K .versions) z s) where
+module _ (K : DamageRules) (x : Reader) (z : Given) (s : State) (f : MakingClear (K .versions) z s) where
   w : List ℕ
   w = fresh (K .number) (z .readers) (z .publishers) (z .slots) (z .version) x
 
@@ -175,9 +175,9 @@ module _ (K : Kind) (x : Reader) (z : Given) (s : State) (f : MakingClear (K .ve
   entries-long : length (replicate (length (s .entries)) FEATHERED) ≡ z .slots * TABLE
   entries-long = length-replicate (length (s .entries)) FEATHERED ∙ f .entries-are
 
-  made-fine : K .readerDamaged (z .readers) (z .slots) x ≡ false → K .publisherDamaged (z .readers) (z .slots) noPublisher ≡ false → Fine K (made (K .number) x z s)
+  made-undamaged : K .readerDamaged (z .readers) (z .slots) x ≡ false → K .publisherDamaged (z .readers) (z .slots) noPublisher ≡ false → Undamaged K (made (K .number) x z s)
   unfolding w
-  made-fine reader-ok publisher-ok = record {
+  made-undamaged reader-ok publisher-ok = record {
     head = record {
       long = fresh-long (K .number) (z .readers) (z .publishers) (z .slots) (z .version) x;
       kind-is = head KIND-AT (omega arith);
@@ -191,9 +191,9 @@ module _ (K : Kind) (x : Reader) (z : Given) (s : State) (f : MakingClear (K .ve
       current-below = rw (head SLOTS-AT (omega arith), head CURRENT-AT (omega arith)) (omega (arith, f .slots-low));
       version-fits = rw (head VERSION-AT (omega arith)) (f .version-fits);
     };
-    readers-fine = rw (head READERS-AT (omega arith), head SLOTS-AT (omega arith))
+    readers-undamaged = rw (head READERS-AT (omega arith), head SLOTS-AT (omega arith))
         (λ r l. rw (fresh-reader (K .number) (z .readers) (z .publishers) (z .slots) (z .version) x r, lt-ltb r READERS-MAX (omega (arith, f .readers-high))) reader-ok);
-    publishers-fine = rw (head READERS-AT (omega arith), head PUBLISHERS-AT (omega arith), head SLOTS-AT (omega arith))
+    publishers-undamaged = rw (head READERS-AT (omega arith), head PUBLISHERS-AT (omega arith), head SLOTS-AT (omega arith))
         (λ p l. rw (fresh-publisher (K .number) (z .readers) (z .publishers) (z .slots) (z .version) x p) publisher-ok);
   }
 
@@ -201,7 +201,7 @@ module _ (K : Kind) (x : Reader) (z : Given) (s : State) (f : MakingClear (K .ve
       → Invariant K z (ghost₀ firstTable) (made (K .number) x z s)
   unfolding w
   made-invariant a b reader-ok publisher-ok = record {
-    fine = made-fine reader-ok publisher-ok;
+    no-damage = made-undamaged reader-ok publisher-ok;
     sized = record { readers-are = head READERS-AT (omega arith); publishers-are = head PUBLISHERS-AT (omega arith); slots-are = head SLOTS-AT (omega arith) };
     core = rw (
       head READERS-AT (omega arith),

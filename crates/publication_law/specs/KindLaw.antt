@@ -1,4 +1,4 @@
--- What the shared steps and the shared code need of a kind, and from it what spoils a publisher, by its place. Assumes nothing.
+-- What the shared steps and the shared code need of a kind, and from it what damages a publisher, by its place. Assumes nothing.
 use Prim.Native.Nat.{ℕ, _<_, _≤_}
 use native.Mathlib.Omega.{arith}
 use mathlib.Core.Path.{_≡_, refl, sym, _∙_}
@@ -11,8 +11,8 @@ use Rattle.base.specs.RowLaws.{or-false, or-left, or-right, or-none, neither}
 use Rattle.layout.specs.declared.Reader.{Reader}
 use Rattle.layout.specs.declared.Publisher.{Publisher}
 use Rattle.publication_law.specs.Steps.{Versions, upTo}
-use Rattle.publication_law.specs.Damage.{Kind, publisherRows}
-use Rattle.publication_law.specs.DamageLaws.{PublisherFine, publisher-of, publisher-to}
+use Rattle.publication_law.specs.Damage.{DamageRules, publisherRows}
+use Rattle.publication_law.specs.DamageLaws.{UndamagedPublisher, publisher-of, publisher-to}
 
 -- Of its versions: one before a mark is the version that it was made at, and a mark that fits is the one made there; a SYNC that is not refused gives a mark that fits,
 -- and such a mark is not 0 and is a version that fits.
@@ -33,30 +33,30 @@ up-to-law last = record {
   raised-fits = λ m e. or-false (eqb m 0) (ltb last m) e .1;
 }
 
--- Of its damage test: an undamaged reader at 5 has picked a slot of the store; a publisher is spoiled by the shared rows and by what the kind adds,
+-- Of its damage test: an undamaged reader at 5 has picked a slot of the store; a publisher is damaged by the shared rows and by what the kind adds,
 -- which is nothing below 35 and every place above 38.
-pub record KindLaw (K : Kind) : Type 0 where
+pub record KindLaw (K : DamageRules) : Type 0 where
   pub versions-law : VersionsLaw (K .versions)
   pub reader-picked : (rs ss : ℕ) (x : Reader) → x .place ≡ 5 → K .readerDamaged rs ss x ≡ false → x .picked < ss
-  pub own : ℕ → Publisher → Bool
-  pub own-rows : (rs ss : ℕ) (y : Publisher) → K .publisherDamaged rs ss y ≡ (own rs y || anyTrue (publisherRows (K .versions) ss y))
-  pub own-early : (rs : ℕ) (y : Publisher) → y .place < 35 → own rs y ≡ false
-  pub own-beyond : (rs : ℕ) (y : Publisher) → own rs y ≡ false → y .place ≤ 38
+  pub extraDamage : ℕ → Publisher → Bool
+  pub extra-rows : (rs ss : ℕ) (y : Publisher) → K .publisherDamaged rs ss y ≡ (extraDamage rs y || anyTrue (publisherRows (K .versions) ss y))
+  pub extra-early : (rs : ℕ) (y : Publisher) → y .place < 35 → extraDamage rs y ≡ false
+  pub extra-beyond : (rs : ℕ) (y : Publisher) → extraDamage rs y ≡ false → y .place ≤ 38
 
-module _ {K : Kind} (law : KindLaw K) (rs ss : ℕ) (y : Publisher) where
+module _ {K : DamageRules} (law : KindLaw K) (rs ss : ℕ) (y : Publisher) where
   -- An undamaged publisher ..
   pub places : K .publisherDamaged rs ss y ≡ false → y .place ≤ 38
-  places e = law .own-beyond rs y (or-false (law .own rs y) (anyTrue (publisherRows (K .versions) ss y)) (sym (law .own-rows rs ss y) ∙ e) .0)
+  places e = law .extra-beyond rs y (or-false (law .extraDamage rs y) (anyTrue (publisherRows (K .versions) ss y)) (sym (law .extra-rows rs ss y) ∙ e) .0)
 
-  pub fine-publisher : K .publisherDamaged rs ss y ≡ false → PublisherFine (K .versions) ss y
-  fine-publisher e = publisher-of (K .versions) ss y (or-false (law .own rs y) (anyTrue (publisherRows (K .versions) ss y)) (sym (law .own-rows rs ss y) ∙ e) .1)
+  pub undamaged-publisher : K .publisherDamaged rs ss y ≡ false → UndamagedPublisher (K .versions) ss y
+  undamaged-publisher e = publisher-of (K .versions) ss y (or-false (law .extraDamage rs y) (anyTrue (publisherRows (K .versions) ss y)) (sym (law .extra-rows rs ss y) ∙ e) .1)
 
-  pub publisher-undamaged : law .own rs y ≡ false → PublisherFine (K .versions) ss y → K .publisherDamaged rs ss y ≡ false
-  publisher-undamaged clear f = law .own-rows rs ss y ∙ neither (law .own rs y) (anyTrue (publisherRows (K .versions) ss y)) clear (publisher-to (K .versions) ss y f)
+  pub publisher-undamaged : law .extraDamage rs y ≡ false → UndamagedPublisher (K .versions) ss y → K .publisherDamaged rs ss y ≡ false
+  publisher-undamaged clear f = law .extra-rows rs ss y ∙ neither (law .extraDamage rs y) (anyTrue (publisherRows (K .versions) ss y)) clear (publisher-to (K .versions) ss y f)
 
   -- .. below 35, where only the held slot is tested ..
   pub early-fits : y .place ≤ 34 → (1 ≤ y .place → y .held < ss) → K .publisherDamaged rs ss y ≡ false
-  early-fits high held = publisher-undamaged (law .own-early rs y (omega arith)) (record { held-below = held; mark-fits = λ l. absurd (omega arith); waits-low = λ l. absurd (omega arith) })
+  early-fits high held = publisher-undamaged (law .extra-early rs y (omega arith)) (record { held-below = held; mark-fits = λ l. absurd (omega arith); waits-low = λ l. absurd (omega arith) })
 
   pub publisher-idle : y .place ≡ 0 → K .publisherDamaged rs ss y ≡ false
   publisher-idle e = early-fits (omega arith) (λ l. absurd (omega arith))
@@ -64,30 +64,30 @@ module _ {K : Kind} (law : KindLaw K) (rs ss : ℕ) (y : Publisher) where
   pub publisher-early : y .held < ss → y .place < 35 → K .publisherDamaged rs ss y ≡ false
   publisher-early held e = early-fits (omega arith) (λ _. held)
 
-  -- .. and spoiled by what the kind adds, by its held slot, by its mark, by its waits.
-  pub own-spoils : law .own rs y ≡ true → K .publisherDamaged rs ss y ≡ true
-  own-spoils e = law .own-rows rs ss y ∙ or-left (law .own rs y) (anyTrue (publisherRows (K .versions) ss y)) e
+  -- .. and damaged by what the kind adds, by its held slot, by its mark, by its waits.
+  pub extra-damages : law .extraDamage rs y ≡ true → K .publisherDamaged rs ss y ≡ true
+  extra-damages e = law .extra-rows rs ss y ∙ or-left (law .extraDamage rs y) (anyTrue (publisherRows (K .versions) ss y)) e
 
-  spoils : anyTrue (publisherRows (K .versions) ss y) ≡ true → K .publisherDamaged rs ss y ≡ true
-  spoils e = law .own-rows rs ss y ∙ or-right (law .own rs y) (anyTrue (publisherRows (K .versions) ss y)) e
+  row-damages : anyTrue (publisherRows (K .versions) ss y) ≡ true → K .publisherDamaged rs ss y ≡ true
+  row-damages e = law .extra-rows rs ss y ∙ or-right (law .extraDamage rs y) (anyTrue (publisherRows (K .versions) ss y)) e
 
   pub held-large : y .place ≢ 0 → ss ≤ y .held → K .publisherDamaged rs ss y ≡ true
-  held-large ne l = spoils (rw (ne-eqb (y .place) 0 ne, le-leb ss (y .held) l) refl)
+  held-large ne l = row-damages (rw (ne-eqb (y .place) 0 ne, le-leb ss (y .held) l) refl)
 
   pub wrong-mark : 35 ≤ y .place → K .versions .wrongMark (y .walk .mark) ≡ true → K .publisherDamaged rs ss y ≡ true
-  wrong-mark late e = spoils (or-right (not (eqb (y .place) 0) && leb ss (y .held)) _ (rw (le-leb 35 (y .place) late, e) refl))
+  wrong-mark late e = row-damages (or-right (not (eqb (y .place) 0) && leb ss (y .held)) _ (rw (le-leb 35 (y .place) late, e) refl))
 
   pub more-waits : 35 ≤ y .place → y .walk .looks < y .walk .waits → K .publisherDamaged rs ss y ≡ true
-  more-waits late e = spoils (or-right (not (eqb (y .place) 0) && leb ss (y .held)) _ (or-right (leb 35 (y .place) && K .versions .wrongMark (y .walk .mark)) _ (rw (le-leb 35 (y .place) late, lt-ltb _ _ e) refl)))
+  more-waits late e = row-damages (or-right (not (eqb (y .place) 0) && leb ss (y .held)) _ (or-right (leb 35 (y .place) && K .versions .wrongMark (y .walk .mark)) _ (rw (le-leb 35 (y .place) late, lt-ltb _ _ e) refl)))
 
   -- With a held slot of the store and a mark that fits the rest decides: the waits where the kind adds nothing, what it adds where the waits are in order.
   module _ (held : y .held < ss) (late : 35 ≤ y .place) (mark : K .versions .wrongMark (y .walk .mark) ≡ false) where
-    pub own-decides : y .walk .waits ≤ y .walk .looks → K .publisherDamaged rs ss y ≡ law .own rs y
-    own-decides waits = law .own-rows rs ss y ∙ rw (publisher-to (K .versions) ss y (record { held-below = λ _. held; mark-fits = λ _. mark; waits-low = λ _. waits })) (or-none (law .own rs y))
+    pub extra-decides : y .walk .waits ≤ y .walk .looks → K .publisherDamaged rs ss y ≡ law .extraDamage rs y
+    extra-decides waits = law .extra-rows rs ss y ∙ rw (publisher-to (K .versions) ss y (record { held-below = λ _. held; mark-fits = λ _. mark; waits-low = λ _. waits })) (or-none (law .extraDamage rs y))
 
-    pub waits-decide : law .own rs y ≡ false → K .publisherDamaged rs ss y ≡ ltb (y .walk .looks) (y .walk .waits)
+    pub waits-decide : law .extraDamage rs y ≡ false → K .publisherDamaged rs ss y ≡ ltb (y .walk .looks) (y .walk .waits)
     waits-decide clear = go (ltb (y .walk .looks) (y .walk .waits)) refl
       where
         go : (b : Bool) → ltb (y .walk .looks) (y .walk .waits) ≡ b → K .publisherDamaged rs ss y ≡ b
         go true e = more-waits late (ltb-true _ _ e)
-        go false e = own-decides (ltb-false _ _ e) ∙ clear
+        go false e = extra-decides (ltb-false _ _ e) ∙ clear

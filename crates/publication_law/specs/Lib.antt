@@ -26,7 +26,7 @@ pub mod Served
 pub mod GraceKeeps
 -- Laws of table and damage test, for the code and for the proofs above.
 pub mod DamageLaws
-pub mod Sound
+pub mod InBounds
 pub mod Clear
 pub mod Decide
 pub mod Calls
@@ -35,7 +35,7 @@ pub mod Frames
 pub mod TableLaws
 -- What a kind must show, and what is promised of every kind that does.
 pub mod Detector
-pub mod Lawful
+pub mod KindShows
 pub mod Varied
 pub mod Promises
 pub mod FreeSlot

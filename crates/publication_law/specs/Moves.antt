@@ -17,8 +17,8 @@ use Rattle.layout.specs.Layout.{HEAD, indicator, CURRENT-AT, VERSION-AT, RELEAS
 use Rattle.layout.specs.Laws.{length-reader, length-publisher, head-reader, head-publisher, reader-head, publisher-head, reader-publisher, publisher-reader, reader-put, publisher-put, indicator-by}
 use Rattle.statement.specs.Machine.{State}
 use Rattle.statement.specs.Frame.{One}
-use Rattle.publication_law.specs.Damage.{Kind}
-use Rattle.publication_law.specs.DamageLaws.{Fine, reader-below, publisher-below}
+use Rattle.publication_law.specs.Damage.{DamageRules}
+use Rattle.publication_law.specs.DamageLaws.{Undamaged, reader-below, publisher-below}
 
 -- Where the whole head stays, and where number j of it is stored besides: at most one number of the head moved.
 pub none-moved : (w w′ : List ℕ) → ((k : ℕ) → k < HEAD → getD w′ k 0 ≡ getD w k 0) → One w w′
@@ -122,7 +122,7 @@ moves-indicator w r x m k v low high = record {
 }
 
 -- Of a store that is fine: each of its publishers and readers has a record.
-module _ {K : Kind} {s : State} (f : Fine K s) where
+module _ {K : DamageRules} {s : State} (f : Undamaged K s) where
   pub publisher-moves : (p : ℕ) (y : Publisher) → p < publishers (s .words) → MovesPublisher (s .words) (withPublisher (s .words) p y) p y (current (s .words)) (version (s .words)) (releases (s .words))
   publisher-moves p y lt = moves-publisher (s .words) p y (f .head .long) (publisher-below K s f p lt)
 

@@ -14,7 +14,7 @@ use Rattle.calls.specs.declared.Call.{Call}
 use Rattle.calls.specs.declared.Call.the-variants.{Sync, Raise, Walk}
 use Rattle.calls.specs.declared.Reply.the-variants.{Synced, Raised, Shared, Walked}
 use Rattle.calls.specs.declared.WalkReply.the-variants.{Spent}
-use Rattle.calls.specs.AnswerLaws.{NarrowPitch, Proper}
+use Rattle.calls.specs.ReplyNumbersLaws.{NarrowPitch, Representable}
 use Rattle.calls.specs.Events.{accepted}
 use Rattle.layout.specs.declared.Progress.{Progress}
 use Rattle.layout.specs.Layout.{VERSION-AT, publishers, version}
@@ -26,14 +26,14 @@ use Rattle.statement.specs.Companions.{GraceTraits, MakingAccepts, MakesFresh, 
 use Rattle.publication_law.specs.Steps.{publisher, raise, walked}
 use Rattle.publication_law.specs.Table.{Table, damaged, rows, step, making, machine}
 use Rattle.publication_law.specs.Rules.{Rules, tableBy}
-use Rattle.publication_law.specs.DamageLaws.{Fine}
-use Rattle.publication_law.specs.Calls.{undamaged-fine}
-use Rattle.publication_law.specs.KindLaw.{fine-publisher}
+use Rattle.publication_law.specs.DamageLaws.{Undamaged}
+use Rattle.publication_law.specs.Calls.{undamaged-facts}
+use Rattle.publication_law.specs.KindLaw.{undamaged-publisher}
 use Rattle.publication_law.specs.Moves.{publisher-moves, publisher-moves-head, publisher-written}
 use Rattle.publication_law.specs.Frames.{walk-record}
 use Rattle.publication_law.specs.Decide.{decided}
-use Rattle.publication_law.specs.TableLaws.{refused-leaves-of-acts, frame-of-table, proper-of-table, proper-making-of-table}
-use Rattle.publication_law.specs.Lawful.{Lawful, demand3-of, companions-of, never-damaged-of, act-laws-of, making-accepts-of, makes-fresh-of, walk-zero-of}
+use Rattle.publication_law.specs.TableLaws.{refused-leaves-of-acts, frame-of-table, representable-of-table, representable-making-of-table}
+use Rattle.publication_law.specs.KindShows.{KindShows, demand3-of, companions-of, never-damaged-of, act-laws-of, making-accepts-of, makes-fresh-of, walk-zero-of}
 
 -- SYNC: the reply is the mark that it stores, the version's successor; next, looks and waits are 0.
 pub record SyncFacts (successor : ℕ → ℕ) (s : State) (p : ℕ) (o : Outcome) : Type 0 where
@@ -59,31 +59,31 @@ pub record Promises (R : Table) (T : GraceTraits) : Type 0 where
   -- what an accepted SYNC and an accepted RAISE reply and store, for every state
   pub sync-facts : (s : State) (p : ℕ) → accepted (step R s (Sync p) .reply) ≡ true → SyncFacts (T .successor) s p (step R s (Sync p))
   pub raise-facts : (s : State) (p : ℕ) → accepted (step R s (Raise p) .reply) ≡ true → RaiseFacts (T .successor) s p (step R s (Raise p))
-  -- every reply of a store whose entries are pitches of 64 bits has an answer that no other proper reply has
-  pub proper : (s : State) (c : Call) → ((j : ℕ) → NarrowPitch (getD (s .entries) j (pos 0))) → Proper (step R s c .reply)
-  pub proper-making : (g : Given) (s : State) → Proper (making R g s .reply)
+  -- every reply of a store whose entries are pitches of 64 bits has an answer that no other representable reply has
+  pub representable : (s : State) (c : Call) → ((j : ℕ) → NarrowPitch (getD (s .entries) j (pos 0))) → Representable (step R s c .reply)
+  pub representable-making : (g : Given) (s : State) → Representable (making R g s .reply)
   -- a WALK with no looks that replies spent leaves the whole state as it was
   pub walk-zero : (s : State) (p : ℕ) → step R s (Walk p 0) .reply ≡ Walked Spent → step R s (Walk p 0) .after ≡ s
 
-module _ (R : Rules) (T : GraceTraits) (L : Lawful R T) where
+module _ (R : Rules) (T : GraceTraits) (L : KindShows R T) where
   sync-facts-of : (s : State) (p : ℕ) → accepted (step (tableBy R) s (Sync p) .reply) ≡ true → SyncFacts (T .successor) s p (step (tableBy R) s (Sync p))
   unfolding step
   sync-facts-of s p = decided (λ (o : Outcome). accepted (o .reply) ≡ true → SyncFacts (T .successor) s p o) (rows (tableBy R) s (Sync p)) (tableBy R .act s (Sync p)) s refl
-      (λ f _. rw (L .successor-is) (record { reply-is = refl; record-is = publisher-written (publisher-moves (undamaged-fine (tableBy R) s (f .0)) p _ (leb-false _ _ (f .1 .0))) }))
+      (λ f _. rw (L .successor-is) (record { reply-is = refl; record-is = publisher-written (publisher-moves (undamaged-facts (tableBy R) s (f .0)) p _ (leb-false _ _ (f .1 .0))) }))
       (λ ok. clash (sym ok))
 
   -- A RAISE of a publisher whose mark fits.
-  raise-acts : (s : State) (p : ℕ) → Fine (R .kind) s → p < publishers (s .words) → R .kind .versions .wrongMark (publisher s p .walk .mark) ≡ false → RaiseFacts (T .successor) s p (raise (R .kind .versions) s p)
-  raise-acts s p fine lt fits = rw (L .successor-is) (pick-split (λ (o : Outcome). RaiseFacts (R .kind .versions .markAt) s p o) (eqb (version (s .words)) (R .kind .versions .beforeMark (publisher s p .walk .mark)))
-      (λ e. let m = publisher-moves-head fine p (publisher s p atPlace 37) lt VERSION-AT (publisher s p .walk .mark) (omega arith) (omega arith) in
+  raise-acts : (s : State) (p : ℕ) → Undamaged (R .damage) s → p < publishers (s .words) → R .damage .versions .wrongMark (publisher s p .walk .mark) ≡ false → RaiseFacts (T .successor) s p (raise (R .damage .versions) s p)
+  raise-acts s p no-damage lt fits = rw (L .successor-is) (pick-split (λ (o : Outcome). RaiseFacts (R .damage .versions .markAt) s p o) (eqb (version (s .words)) (R .damage .versions .beforeMark (publisher s p .walk .mark)))
+      (λ e. let m = publisher-moves-head no-damage p (publisher s p atPlace 37) lt VERSION-AT (publisher s p .walk .mark) (omega arith) (omega arith) in
       record {
         raised = λ _. (refl, m .version-is);
-        shared = λ ne. absurd (ne (ap (R .kind .versions .markAt) (eqb-true _ _ e) ∙ L .kind-law .versions-law .mark-after _ fits));
+        shared = λ ne. absurd (ne (ap (R .damage .versions .markAt) (eqb-true _ _ e) ∙ L .kind-law .versions-law .mark-after _ fits));
         record-is = publisher-written m;
       })
-      (λ e. let m = publisher-moves fine p (publisher s p atPlace 37) lt in
+      (λ e. let m = publisher-moves no-damage p (publisher s p atPlace 37) lt in
       record {
-        raised = λ q. absurd (eqb-false _ _ e (sym (L .kind-law .versions-law .before-mark (version (s .words))) ∙ ap (R .kind .versions .beforeMark) q));
+        raised = λ q. absurd (eqb-false _ _ e (sym (L .kind-law .versions-law .before-mark (version (s .words))) ∙ ap (R .damage .versions .beforeMark) q));
         shared = λ ne. (refl, m .version-is);
         record-is = publisher-written m;
       }))
@@ -92,9 +92,9 @@ module _ (R : Rules) (T : GraceTraits) (L : Lawful R T) where
   unfolding step
   raise-facts-of s p = decided (λ (o : Outcome). accepted (o .reply) ≡ true → RaiseFacts (T .successor) s p o) (rows (tableBy R) s (Raise p)) (tableBy R .act s (Raise p)) s refl
       (λ f _.
-      let fine = undamaged-fine (tableBy R) s (f .0) in
+      let no-damage = undamaged-facts (tableBy R) s (f .0) in
       let lt = leb-false (publishers (s .words)) p (f .1 .0) in
-      raise-acts s p fine lt (fine-publisher (L .kind-law) _ _ (publisher s p) (fine .publishers-fine p lt) .mark-fits (late-turn (publisher s p .place) (not-false _ (f .1 .1 .0)))))
+      raise-acts s p no-damage lt (undamaged-publisher (L .kind-law) _ _ (publisher s p) (no-damage .publishers-undamaged p lt) .mark-fits (late-turn (publisher s p .place) (not-false _ (f .1 .1 .0)))))
       (λ ok. clash (sym ok))
     where
       late-turn : (pl : ℕ) → R .raisesAt pl ≡ true → 35 ≤ pl
@@ -104,7 +104,7 @@ module _ (R : Rules) (T : GraceTraits) (L : Lawful R T) where
           go true d = leb-true 35 pl d
           go false d = absurd (not-both _ e (L .raises-late pl (let q = leb-false 35 pl d in omega arith)))
 
-pub promises-of : (R : Rules) (T : GraceTraits) → Lawful R T → Promises (tableBy R) T
+pub promises-of : (R : Rules) (T : GraceTraits) → KindShows R T → Promises (tableBy R) T
 promises-of R T L = record {
   demand3 = demand3-of R T L;
   companions = companions-of R T L;
@@ -115,8 +115,8 @@ promises-of R T L = record {
   makes-fresh = makes-fresh-of R T L;
   sync-facts = sync-facts-of R T L;
   raise-facts = raise-facts-of R T L;
-  proper = proper-of-table (λ s. T .publishes) (tableBy R) (act-laws-of R T L);
-  proper-making = proper-making-of-table (λ s. T .publishes) (tableBy R) (act-laws-of R T L);
+  representable = representable-of-table (λ s. T .publishes) (tableBy R) (act-laws-of R T L);
+  representable-making = representable-making-of-table (λ s. T .publishes) (tableBy R) (act-laws-of R T L);
   walk-zero = walk-zero-of R T L;
 }
 
@@ -126,12 +126,12 @@ pub record WalkFacts (s : State) (p : ℕ) (k : Progress) (L : Type 0) (o : Outc
   pub record-is : publisher (o .after) p ≡ walked (publisher s p) k
   pub looks-are : L
 
-pub walk-facts : (R : Rules) (s : State) (p b : ℕ) (L : Type 0) → (Fine (R .kind) s → p < publishers (s .words) → R .walksAt (publisher s p .place) ≡ true → L)
+pub walk-facts : (R : Rules) (s : State) (p b : ℕ) (L : Type 0) → (Undamaged (R .damage) s → p < publishers (s .words) → R .walksAt (publisher s p .place) ≡ true → L)
     → accepted (step (tableBy R) s (Walk p b) .reply) ≡ true → WalkFacts s p (R .looks s p b) L (step (tableBy R) s (Walk p b))
 unfolding step
 walk-facts R s p b L looks = decided (λ (o : Outcome). accepted (o .reply) ≡ true → WalkFacts s p (R .looks s p b) L o) (rows (tableBy R) s (Walk p b)) (tableBy R .act s (Walk p b)) s refl
     (λ f _.
-    let fine = undamaged-fine (tableBy R) s (f .0) in
+    let no-damage = undamaged-facts (tableBy R) s (f .0) in
     let lt = leb-false (publishers (s .words)) p (f .1 .0) in
-    record { reply-is = refl; record-is = walk-record (R .kind) s fine p lt (R .looks s p b); looks-are = looks fine lt (not-false _ (f .1 .1 .0)) })
+    record { reply-is = refl; record-is = walk-record (R .damage) s no-damage p lt (R .looks s p b); looks-are = looks no-damage lt (not-false _ (f .1 .1 .0)) })
     (λ ok. clash (sym ok))

@@ -10,13 +10,13 @@ use Rattle.layout.specs.declared.Reader.{Reader}
 use Rattle.layout.specs.declared.Progress.{Progress}
 use Rattle.statement.specs.Machine.{State, state, Outcome, outcome}
 use Rattle.publication_law.specs.Steps.{enterTests, lookTests, look, leaveTests, claimTests, claim, writeTests, write, swapTests, swap, syncTests, sync, raiseTests, raise, walkTests, walk, releaseTests, release, makingTests, made}
-use Rattle.publication_law.specs.Damage.{Kind}
+use Rattle.publication_law.specs.Damage.{DamageRules}
 use Rattle.publication_law.specs.Table.{Table}
 
 pub record Rules : Type 0 where
-  -- its number, its versions, and what spoils a reader and a publisher
-  pub kind : Kind
-  -- what spoils it besides
+  -- its number, its versions, and what damages a reader and a publisher
+  pub damage : DamageRules
+  -- what damages it besides
   pub further : State → Bool
   -- a reader of a fresh store
   pub freshReader : Reader
@@ -42,7 +42,7 @@ module _ (R : Rules) where
   testsBy s (Claim p x) = claimTests (R .exclusive) s p x
   testsBy s (Write p v) = writeTests s p v
   testsBy s (Swap p) = swapTests s p
-  testsBy s (Sync p) = syncTests (R .kind .versions) s p
+  testsBy s (Sync p) = syncTests (R .damage .versions) s p
   testsBy s (Raise p) = raiseTests (R .raisesAt) s p
   testsBy s (Walk p b) = walkTests (R .walksAt) s p b
   testsBy s (Release p) = releaseTests s p
@@ -55,19 +55,19 @@ module _ (R : Rules) where
   actBy s (Claim p x) = claim s p x
   actBy s (Write p v) = write s p v
   actBy s (Swap p) = swap s p
-  actBy s (Sync p) = sync (R .kind .versions) s p
-  actBy s (Raise p) = raise (R .kind .versions) s p
+  actBy s (Sync p) = sync (R .damage .versions) s p
+  actBy s (Raise p) = raise (R .damage .versions) s p
   actBy s (Walk p b) = walk s p (R .looks s p b)
   actBy s (Release p) = release s p
 
 -- It lacks no call.
 abbrev pub tableBy : Rules → Table
 tableBy R = record {
-  kind = R .kind;
+  damage = R .damage;
   further = R .further;
   lacks = λ c. false;
   tests = testsBy R;
   act = actBy R;
-  makingRows = λ g s. makingTests (R .kind .versions) g s;
-  fresh = λ g s. made (R .kind .number) (R .freshReader) g s;
+  makingRows = λ g s. makingTests (R .damage .versions) g s;
+  fresh = λ g s. made (R .damage .number) (R .freshReader) g s;
 }

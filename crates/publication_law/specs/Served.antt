@@ -21,10 +21,10 @@ use Rattle.calls.specs.Told.Role.{free}
 use Rattle.calls.specs.Tally.Phase.{idle, writing}
 use Rattle.layout.specs.Layout.{readers, publishers, slots, current}
 use Rattle.statement.specs.Machine.{State, Outcome, Given, Machine}
-use Rattle.statement.specs.Kept.{Ghost}
+use Rattle.statement.specs.KeptInvariant.{Ghost}
 use Rattle.publication_law.specs.Steps.{reader, publisher, decide, anotherBusy, lookTests, look, claimTests, claim, writeTests, write, swapTests, swap}
 use Rattle.publication_law.specs.Clear.{claim-clear, claim-rows}
-use Rattle.publication_law.specs.Damage.{Kind}
+use Rattle.publication_law.specs.Damage.{DamageRules}
 use Rattle.publication_law.specs.Decide.{decided, decide-accepts}
 use Rattle.publication_law.specs.Phases.{phaseAt}
 use Rattle.publication_law.specs.PhaseLaws.{phase-writing}
@@ -38,7 +38,7 @@ pub record SharedCalls (exclusive : Bool) (M : Machine) (s : State) : Type 0 whe
   pub writes : (p : ℕ) (v : ℤ) → M .step s (Write p v) ≡ decide (writeTests s p v) (write s p v) s
   pub swaps : (p : ℕ) → M .step s (Swap p) ≡ decide (swapTests s p) (swap s p) s
 
-module _ (K : Kind) (z : Given) (g : Ghost) (s : State) (i : Invariant K z g s) where
+module _ (K : DamageRules) (z : Given) (g : Ghost) (s : State) (i : Invariant K z g s) where
   -- Readers, publishers and slots as made are those of the store.
   pub named-reader : (r : ℕ) → r < z .readers → leb (readers (s .words)) r ≡ false
   named-reader r l = lt-leb (readers (s .words)) r (omega (arith, i .sized .readers-are))
@@ -78,8 +78,8 @@ module _ (K : Kind) (z : Given) (g : Ghost) (s : State) (i : Invariant K z g s) 
     look-shelf r k = rw (c .looks r k) (decided (λ (o : Outcome). accepted (o .reply) ≡ true → (v : ℤ) × (o .reply ≡ Pitch v) × (entry (g .model .note r) k ≡ some v)) (lookTests s r k) (look s r k) s refl
         (λ f ok. (_, refl, look-right K z g s i r k f)) (λ ok. clash (sym ok)))
 
-    pub claim-safe : (p x r : ℕ) → accepted (M .step s (Claim p x) .reply) ≡ true → ¬ (g .told .picked r ≡ some x)
-    claim-safe p x r = rw (c .claims p x) (decided (λ (o : Outcome). accepted (o .reply) ≡ true → ¬ (g .told .picked r ≡ some x)) (claimTests exclusive s p x) (claim s p x) s refl
+    pub claim-not-picked : (p x r : ℕ) → accepted (M .step s (Claim p x) .reply) ≡ true → ¬ (g .told .picked r ≡ some x)
+    claim-not-picked p x r = rw (c .claims p x) (decided (λ (o : Outcome). accepted (o .reply) ≡ true → ¬ (g .told .picked r ≡ some x)) (claimTests exclusive s p x) (claim s p x) s refl
         (λ f ok. claim-unpicked K z g s i exclusive p x (claim-clear exclusive s p x f) r) (λ ok. clash (sym ok)))
 
     -- The companions.

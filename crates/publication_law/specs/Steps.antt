@@ -15,7 +15,7 @@ use Rattle.calls.specs.declared.WalkReply.the-variants.{Waiting, Spent, Quiet, 
 use Rattle.calls.specs.Numbers.{READERS-MAX, PUBLISHERS-MAX, SLOTS-MIN, SLOTS-MAX, TABLE, PITCH-LOW, PITCH-HIGH, FEATHERED, MODULUS, NUMBER-MAX, DAMAGED, BAD-READERS, BAD-PUBLISHERS, BAD-SLOTS, BAD-ENTRIES, BAD-VERSION, NO-SUCH-READER, NO-SUCH-PUBLISHER, NO-SUCH-SLOT, NO-SUCH-ENTRY, BAD-PITCH, READER-TURN, PUBLISHER-TURN, SLOT-IN-USE, BUSY, VERSION-IS-LAST, TOO-MANY-LOOKS}
 use Rattle.layout.specs.declared.Reader.{Reader}
 use Rattle.layout.specs.declared.Publisher.{Publisher}
-use Rattle.layout.specs.declared.Walk.{Walk}
+use Rattle.layout.specs.declared.WalkRecord.{WalkRecord}
 use Rattle.layout.specs.declared.Progress.{Progress}
 use Rattle.layout.specs.Layout.{WORDS, readers, publishers, slots, current, version, releases, withCurrent, withVersion, withReleases, readerAt, publisherAt, withPublisher, fresh, entryAt}
 use Rattle.layout.specs.Records.{_atPlace_, _held≔_, _walk≔_, _mark≔_, _next≔_, _looks≔_, _waits≔_}
@@ -132,7 +132,7 @@ abbrev pub syncTests : Versions → State → ℕ → List Test
 syncTests vs s p =
     noSuchPublisher s p ∷ publisherTurn (not (eqb (publisher s p .place) 34)) ∷ (vs .isLast (version (s .words)) gives VERSION-IS-LAST) ∷ []
 
-abbrev pub newWalk : Walk → ℕ → Walk
+abbrev pub newWalk : WalkRecord → ℕ → WalkRecord
 newWalk k m = k mark≔ m next≔ 0 looks≔ 0 waits≔ 0
 
 abbrev pub sync : Versions → State → ℕ → Outcome

@@ -1,4 +1,4 @@
--- A kind of store as a table: what spoils a store, the calls that the kind lacks, the rows and the act of each call, the rows of making and the fresh store;
+-- A kind of store as a table: what damages a store, the calls that the kind lacks, the rows and the act of each call, the rows of making and the fresh store;
 -- and from the table its damage test, its steps and its making.
 use mathlib.Core.Bool.{Bool, _||_}
 use mathlib.Core.List.{List, _∷_}
@@ -9,12 +9,12 @@ use Rattle.calls.specs.declared.Reply.the-variants.{Made}
 use Rattle.calls.specs.Numbers.{DAMAGED}
 use Rattle.statement.specs.Machine.{State, Outcome, outcome, Given, Machine}
 use Rattle.publication_law.specs.Steps.{decide}
-use Rattle.publication_law.specs.Damage.{Kind, sharedDamage}
+use Rattle.publication_law.specs.Damage.{DamageRules, sharedDamage}
 
 pub record Table : Type 0 where
-  -- its number, its versions, and what spoils a reader and a publisher
-  pub kind : Kind
-  -- what spoils it besides
+  -- its number, its versions, and what damages a reader and a publisher
+  pub damage : DamageRules
+  -- what damages it besides
   pub further : State → Bool
   -- the calls that it lacks
   pub lacks : Call → Bool
@@ -27,9 +27,9 @@ pub record Table : Type 0 where
 
 module _ (T : Table) where
   unfoldable pub damaged : State → Bool
-  damaged s = sharedDamage (T .kind) s || T .further s
+  damaged s = sharedDamage (T .damage) s || T .further s
 
-  -- Any call but making: 1 a call that the kind lacks or a spoiled store, before all else.
+  -- Any call but making: 1 a call that the kind lacks or a damaged store, before all else.
   abbrev pub rows : State → Call → List Test
   rows s c = ((T .lacks c || damaged s) gives DAMAGED) ∷ T .tests s c
 

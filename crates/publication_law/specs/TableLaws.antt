@@ -1,5 +1,5 @@
 -- What holds of every table: a row that applies refuses and changes nothing, a call that the kind lacks gets 1, a refused making leaves what was lent.
--- And of a table whose acts show it of themselves: refused calls change nothing, only what is named moves, replies are proper. Assumes nothing.
+-- And of a table whose acts show it of themselves: refused calls change nothing, only what is named moves, replies are representable. Assumes nothing.
 use Prim.Native.Nat.{ℕ, _<_}
 use native.Mathlib.Omega.{arith}
 use mathlib.Core.Path.{_≡_, refl, sym, ap}
@@ -17,7 +17,7 @@ use Rattle.calls.specs.declared.Call.{Call}
 use Rattle.calls.specs.declared.Call.the-variants.{Write}
 use Rattle.calls.specs.declared.Reply.the-variants.{Made, Refused}
 use Rattle.calls.specs.Numbers.{DAMAGED}
-use Rattle.calls.specs.AnswerLaws.{NarrowPitch, Proper}
+use Rattle.calls.specs.ReplyNumbersLaws.{NarrowPitch, Representable}
 use Rattle.calls.specs.Events.{accepted}
 use Rattle.statement.specs.Machine.{State, Outcome, outcome, Given}
 use Rattle.statement.specs.Frame.{Framed, Writes, Frame}
@@ -53,10 +53,10 @@ module _ (T : Table) where
   }
 
 -- What a call to which no row applies shows of itself.
-pub record Acted (publishes : Bool) (s : State) (c : Call) (o : Outcome) : Type 0 where
+pub record ActFacts (publishes : Bool) (s : State) (c : Call) (o : Outcome) : Type 0 where
   -- it is accepted, and a pitch that it replies is an entry
   pub accepts : accepted (o .reply) ≡ true
-  pub proper : ((j : ℕ) → NarrowPitch (getD (s .entries) j (pos 0))) → Proper (o .reply)
+  pub representable : ((j : ℕ) → NarrowPitch (getD (s .entries) j (pos 0))) → Representable (o .reply)
   -- it moves what it names and nothing else, and the entries only if it is a WRITE
   pub framed : Framed publishes c (s .words) (o .after .words)
   pub entries-stay : ((p : ℕ) (v : ℤ) → c ≢ Write p v) → o .after .entries ≡ s .entries
@@ -64,14 +64,14 @@ pub record Acted (publishes : Bool) (s : State) (c : Call) (o : Outcome) : Type 
 -- What a kind shows of its rows and acts, each by itself; of a call that it lacks it shows nothing.
 pub record ActLaws (publishes : State → Bool) (T : Table) : Type 0 where
   -- a call's numbers are above 1, and all are below 100
-  pub numbers : (s : State) (c : Call) → T .lacks c ≡ false → allAbove DAMAGED (T .tests s c) ≡ true
+  pub numbers-above-1 : (s : State) (c : Call) → T .lacks c ≡ false → allAbove DAMAGED (T .tests s c) ≡ true
   pub making-numbers : (g : Given) (s : State) → allAbove 0 (T .makingRows g s) ≡ true
-  pub acts : (s : State) (c : Call) → AllClear (rows T s c) → Acted (publishes s) s c (T .act s c)
+  pub acts : (s : State) (c : Call) → AllClear (rows T s c) → ActFacts (publishes s) s c (T .act s c)
   pub writes : (s : State) (p : ℕ) (v : ℤ) → AllClear (rows T s (Write p v)) → Writes s p v (T .act s (Write p v))
 
 module _ (publishes : State → Bool) (T : Table) (L : ActLaws publishes T) where
   pub row-numbers : (s : State) (c : Call) → T .lacks c ≡ false → allAbove 0 (rows T s c) ≡ true
-  row-numbers s c e = all-above DAMAGED 0 (omega arith) (T .tests s c) (L .numbers s c e)
+  row-numbers s c e = all-above DAMAGED 0 (omega arith) (T .tests s c) (L .numbers-above-1 s c e)
 
   -- A call is its act, where no row applies; or it is refused with a number from 1 to 99 and changes nothing.
   by-rows : (Q : Outcome → Type 0) (s : State) (c : Call) → (AllClear (rows T s c) → Q (T .act s c)) → ((n : ℕ) → n ≢ 0 → n < 100 → Q (outcome (Refused n) s)) → Q (step T s c)
@@ -94,7 +94,7 @@ module _ (publishes : State → Bool) (T : Table) (L : ActLaws publishes T) wher
   pub refused-leaves-of-acts : RefusedLeaves (machine T)
   refused-leaves-of-acts = refused-leaves-of-table T acts-accept
 
-  -- A call that the kind has gets 1 from a spoiled store alone.
+  -- A call that the kind has gets 1 from a damaged store alone.
   pub only-damaged : (s : State) (c : Call) → T .lacks c ≡ false → damaged T s ≡ false → step T s c .reply ≢ Refused DAMAGED
   unfolding step
   only-damaged s c has clean = pick-split (λ (o : Outcome). o .reply ≢ Refused DAMAGED) (eqb (firstOf (rows T s c)) 0)
@@ -102,7 +102,7 @@ module _ (publishes : State → Bool) (T : Table) (L : ActLaws publishes T) wher
       (λ z e.
       let is : firstOf (rows T s c) ≡ DAMAGED = cc in
       let own : firstOf (T .tests s c) ≡ DAMAGED = rw (has, clean) at is in
-      omega (arith, first-within DAMAGED (T .tests s c) (L .numbers s c has) (λ y. omega arith) .0))
+      omega (arith, first-within DAMAGED (T .tests s c) (L .numbers-above-1 s c has) (λ y. omega arith) .0))
 
   -- Only what a call names moves.
   pub frame-of-table : Frame publishes (machine T)
@@ -112,11 +112,11 @@ module _ (publishes : State → Bool) (T : Table) (L : ActLaws publishes T) wher
     writes = λ s p v. by-rows (λ (o : Outcome). Writes s p v o) s (Write p v) (L .writes s p v) (λ n _ _. record { stored = λ ok. clash (sym ok); others = λ j ne. refl; long = refl });
   }
 
-  -- A reply of a call or a making has an answer that no other proper reply has: a refusal's number is below 100, a pitch is an entry.
-  pub proper-of-table : (s : State) (c : Call) → ((j : ℕ) → NarrowPitch (getD (s .entries) j (pos 0))) → Proper (step T s c .reply)
-  proper-of-table s c h = by-rows (λ (o : Outcome). Proper (o .reply)) s c (λ f. L .acts s c f .proper h) (λ n _ low. low)
+  -- A reply of a call or a making has an answer that no other representable reply has: a refusal's number is below 100, a pitch is an entry.
+  pub representable-of-table : (s : State) (c : Call) → ((j : ℕ) → NarrowPitch (getD (s .entries) j (pos 0))) → Representable (step T s c .reply)
+  representable-of-table s c h = by-rows (λ (o : Outcome). Representable (o .reply)) s c (λ f. L .acts s c f .representable h) (λ n _ low. low)
 
-  pub proper-making-of-table : (g : Given) (s : State) → Proper (making T g s .reply)
+  pub representable-making-of-table : (g : Given) (s : State) → Representable (making T g s .reply)
   unfolding making
-  proper-making-of-table g s = pick-split (λ (o : Outcome). Proper (o .reply)) (eqb (firstOf (T .makingRows g s)) 0) (λ _. tt)
+  representable-making-of-table g s = pick-split (λ (o : Outcome). Representable (o .reply)) (eqb (firstOf (T .makingRows g s)) 0) (λ _. tt)
       (λ z. first-within 0 (T .makingRows g s) (L .making-numbers g s) (eqb-false (firstOf (T .makingRows g s)) 0 z) .1)

@@ -8,7 +8,7 @@ use Rattle.publication_law.specs.Rules.{Rules}
 -- Other rules that differ from R in number 31 and in the looks of a walk.
 abbrev pub varied : Rules → Bool → (State → ℕ → ℕ → Progress) → Rules
 varied R exclusive looks = record {
-  kind = R .kind;
+  damage = R .damage;
   further = R .further;
   freshReader = R .freshReader;
   entered = R .entered;

@@ -6,14 +6,14 @@ ghost use Rattle.layout.specs.Layout.{noWalk};
 ghost use Rattle.layout.specs.Records.{_mark≔_, _next≔_, _looks≔_, _waits≔_};
 ghost use Rattle.publication_law.specs.Looks.{withLook};
 ghost use Rattle.publication_looks.specs.Fits.{Fits};
-use layout::Walk;
+use layout::WalkRecord;
 
 // The four numbers after one look more, which passed so many readers and waited so often.
-fn moved(mark: u64, next: u64, looks: u64, waits: u64, passed: u64, waited: u64) -> Walk
+fn moved(mark: u64, next: u64, looks: u64, waits: u64, passed: u64, waited: u64) -> WalkRecord
     requires { ⌜ Fits (noWalk mark≔ mark next≔ next looks≔ looks waits≔ waits) passed waited ⌝ }
     ensures { λ k. ⌜ k ≡ withLook (noWalk mark≔ mark next≔ next looks≔ looks waits≔ waits) passed waited ⌝ }
 {
-    Walk {
+    WalkRecord {
         mark: mark,
         next: next + passed,
         looks: looks + 1,
@@ -22,7 +22,7 @@ fn moved(mark: u64, next: u64, looks: u64, waits: u64, passed: u64, waited: u64)
 }
 
 // The walk is lent: it is taken apart, and the moved numbers are stored.
-fn count_look(walk: &mut Walk, passed: u64, waited: u64)
+fn count_look(walk: &mut WalkRecord, passed: u64, waited: u64)
     requires { ⌜ Fits (now walk) passed waited ⌝ }
     ensures { λ _. ⌜ now (walk .exit) ≡ withLook (now (walk .entry)) passed waited ⌝ }
 {
@@ -33,7 +33,7 @@ fn count_look(walk: &mut Walk, passed: u64, waited: u64)
 }
 
 // A walk with one look more, by value: whoever calls this needs no proof by hand.
-pub fn look_counted(walk: Walk, passed: u64, waited: u64) -> Walk
+pub fn look_counted(walk: WalkRecord, passed: u64, waited: u64) -> WalkRecord
     requires { ⌜ Fits walk passed waited ⌝ }
     ensures { λ k. ⌜ k ≡ withLook walk passed waited ⌝ }
 {

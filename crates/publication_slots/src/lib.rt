@@ -7,7 +7,7 @@ ghost use mathlib.Core.List.{List};
 ghost use lib.IntN.{ℤ};
 ghost use Rattle.statement.specs.Machine.{state, outcome};
 ghost use Rattle.publication_law.specs.Steps.{decide, anotherBusy, inUse, claimTests, claim, swapTests, swap, releaseTests, release};
-ghost use Rattle.publication_law.specs.Sound.{Sound};
+ghost use Rattle.publication_law.specs.InBounds.{InBounds};
 use calls::BUSY;
 use calls::NO_SUCH_PUBLISHER;
 use calls::NO_SUCH_SLOT;
@@ -25,7 +25,7 @@ use layout::slots_of;
 
 // Whether a publisher other than p is at a place other than 0.
 fn another_busy(words: &[u64], p: u16) -> bool
-    requires { ⌜ Sound (now words) ⌝ }
+    requires { ⌜ InBounds (now words) ⌝ }
     ensures { λ b. ⌜ ((es : List ℤ) → b ≡ anotherBusy (state (now (words .entry)) es) p) ⌝ }
 {
     let n = publishers_of(words);
@@ -40,7 +40,7 @@ fn another_busy(words: &[u64], p: u16) -> bool
 
 // Whether 31 is given, in a kind that has it or not.
 fn busy(words: &[u64], p: u16, exclusive: bool) -> bool
-    requires { ⌜ Sound (now words) ⌝ }
+    requires { ⌜ InBounds (now words) ⌝ }
     ensures { λ b. ⌜ ((es : List ℤ) → b ≡ (exclusive && anotherBusy (state (now (words .entry)) es) p)) ⌝ }
 {
     if exclusive {
@@ -51,7 +51,7 @@ fn busy(words: &[u64], p: u16, exclusive: bool) -> bool
 
 // Whether a slot is not free.
 fn in_use(words: &[u64], x: u64) -> bool
-    requires { ⌜ Sound (now words) ⌝ }
+    requires { ⌜ InBounds (now words) ⌝ }
     ensures { λ b. ⌜ ((es : List ℤ) → b ≡ inUse (state (now (words .entry)) es) x) ⌝ }
 {
     if current_of(words) == x {
@@ -69,7 +69,7 @@ fn in_use(words: &[u64], x: u64) -> bool
 
 // CLAIM p s: 0 to 1, holds s. Whether 31 is given is the kind's own.
 pub fn claim_slot(words: &mut [u64], p: u16, slot: u16, exclusive: bool) -> Reply
-    requires { ⌜ Sound (now words) ⌝ }
+    requires { ⌜ InBounds (now words) ⌝ }
     ensures { λ a. ⌜ ((es : List ℤ) → let s = state (now (words .entry)) es in outcome a (state (now (words .exit)) es) ≡ decide (claimTests exclusive s p slot) (claim s p slot) s) ⌝ }
 {
     if p as u64 >= publishers_of(words) {
@@ -101,7 +101,7 @@ pub fn claim_slot(words: &mut [u64], p: u16, slot: u16, exclusive: bool) -> Repl
 
 // SWAP p: 33 to 34. Its slot becomes current; it holds the former one, and replies with that.
 pub fn swap_in(words: &mut [u64], p: u16) -> Reply
-    requires { ⌜ Sound (now words) ⌝ }
+    requires { ⌜ InBounds (now words) ⌝ }
     ensures { λ a. ⌜ ((es : List ℤ) → let s = state (now (words .entry)) es in outcome a (state (now (words .exit)) es) ≡ decide (swapTests s p) (swap s p) s) ⌝ }
 {
     if p as u64 >= publishers_of(words) {
@@ -126,7 +126,7 @@ pub fn swap_in(words: &mut [u64], p: u16) -> Reply
 
 // RELEASE p: 38 to 0, which frees the held slot; one more release.
 pub fn release_slot(words: &mut [u64], p: u16) -> Reply
-    requires { ⌜ Sound (now words) ⌝ }
+    requires { ⌜ InBounds (now words) ⌝ }
     ensures { λ a. ⌜ ((es : List ℤ) → let s = state (now (words .entry)) es in outcome a (state (now (words .exit)) es) ≡ decide (releaseTests s p) (release s p) s) ⌝ }
 {
     if p as u64 >= publishers_of(words) {

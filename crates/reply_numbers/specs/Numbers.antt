@@ -5,7 +5,7 @@ use lib.ListN.{getD, length}
 use lib.Dec.{ltb}
 use Rattle.base.specs.Base.{pick}
 use Rattle.calls.specs.Numbers.{READERS-MAX, PUBLISHERS-MAX, SLOTS-MIN, SLOTS-MAX, TABLE, PITCH-LOW, PITCH-HIGH, FEATHERED, NOT-READING, KIND-NEW, KIND-OLD, DAMAGED, BAD-READERS, BAD-PUBLISHERS, BAD-SLOTS, BAD-ENTRIES, BAD-VERSION, NO-SUCH-READER, NO-SUCH-PUBLISHER, NO-SUCH-SLOT, NO-SUCH-ENTRY, BAD-PITCH, READER-TURN, PUBLISHER-TURN, SLOT-IN-USE, BUSY, VERSION-IS-LAST, TOO-MANY-LOOKS, CODE-MADE, CODE-AT, CODE-PITCH, CODE-LEFT, CODE-CLAIMED, CODE-WRITTEN, CODE-SWAPPED, CODE-SYNCED, CODE-RAISED, CODE-SHARED, CODE-WAITING, CODE-SPENT, CODE-QUIET, CODE-RETURNED, CODE-FREED}
-use Rattle.calls.specs.Answer.{pitchNumber}
+use Rattle.calls.specs.ReplyNumbers.{pitchNumber}
 use Rattle.layout.specs.Layout.{WORDS}
 use Rattle.grace_version_law.specs.Steps as new-store
 use Rattle.two_phase_law.specs.Steps as old-store

@@ -4,12 +4,12 @@
 ghost use mathlib.Core.Path.{_≡_};
 ghost use Prim.Native.Nat.{_<_};
 ghost use lib.ListN.{length, getD};
-ghost use Rattle.calls.specs.Answer.{answer, pitchNumber, walkAnswer, answerOf};
+ghost use Rattle.calls.specs.ReplyNumbers.{replyNumbers, pitchNumber, walkNumbers, numbersOf};
 ghost use Rattle.reply_numbers.specs.Numbers.{limits, refusals, codes, numberOf};
-use calls::Answer;
 use calls::NUMBER_MAX;
 use calls::Pitch;
 use calls::Reply;
+use calls::ReplyNumbers;
 use calls::WalkReply;
 
 // A pitch in 64 bits: v, and 2^64 + v where v is negative.
@@ -23,10 +23,10 @@ fn pitch_number(v: Pitch) -> u64
 }
 
 // Three numbers.
-fn numbers(code: u64, first: u64, second: u64) -> Answer
-    ensures { λ a. ⌜ a ≡ answer code first second ⌝ }
+fn reply_numbers(code: u64, first: u64, second: u64) -> ReplyNumbers
+    ensures { λ a. ⌜ a ≡ replyNumbers code first second ⌝ }
 {
-    Answer {
+    ReplyNumbers {
         code: code,
         first: first,
         second: second,
@@ -34,35 +34,35 @@ fn numbers(code: u64, first: u64, second: u64) -> Answer
 }
 
 // The numbers of a walk's answer.
-fn walk_answer(reply: WalkReply) -> Answer
-    ensures { λ a. ⌜ a ≡ walkAnswer reply ⌝ }
+fn walk_numbers(reply: WalkReply) -> ReplyNumbers
+    ensures { λ a. ⌜ a ≡ walkNumbers reply ⌝ }
 {
     match reply {
-        WalkReply::Waiting(w) => numbers(calls::CODE_WAITING, w, 0),
-        WalkReply::Spent => numbers(calls::CODE_SPENT, 0, 0),
-        WalkReply::Quiet => numbers(calls::CODE_QUIET, 0, 0),
-        WalkReply::Returned(l, w) => numbers(calls::CODE_RETURNED, l, w),
+        WalkReply::Waiting(w) => reply_numbers(calls::CODE_WAITING, w, 0),
+        WalkReply::Spent => reply_numbers(calls::CODE_SPENT, 0, 0),
+        WalkReply::Quiet => reply_numbers(calls::CODE_QUIET, 0, 0),
+        WalkReply::Returned(l, w) => reply_numbers(calls::CODE_RETURNED, l, w),
     }
 }
 
 // The numbers of a reply.
-pub fn answer_of(reply: Reply) -> Answer
-    ensures { λ a. ⌜ a ≡ answerOf reply ⌝ }
+pub fn numbers_of(reply: Reply) -> ReplyNumbers
+    ensures { λ a. ⌜ a ≡ numbersOf reply ⌝ }
 {
     match reply {
-        Reply::Made => numbers(calls::CODE_MADE, 0, 0),
-        Reply::At(n) => numbers(calls::CODE_AT, n, 0),
-        Reply::Pitch(v) => numbers(calls::CODE_PITCH, pitch_number(v), 0),
-        Reply::Left => numbers(calls::CODE_LEFT, 0, 0),
-        Reply::Claimed(s) => numbers(calls::CODE_CLAIMED, s, 0),
-        Reply::Written(n) => numbers(calls::CODE_WRITTEN, n, 0),
-        Reply::Swapped(s) => numbers(calls::CODE_SWAPPED, s, 0),
-        Reply::Synced(m) => numbers(calls::CODE_SYNCED, m, 0),
-        Reply::Raised => numbers(calls::CODE_RAISED, 0, 0),
-        Reply::Shared => numbers(calls::CODE_SHARED, 0, 0),
-        Reply::Walked(o) => walk_answer(o),
-        Reply::Freed(s, n) => numbers(calls::CODE_FREED, s, n),
-        Reply::Refused(n) => numbers(n, 0, 0),
+        Reply::Made => reply_numbers(calls::CODE_MADE, 0, 0),
+        Reply::At(n) => reply_numbers(calls::CODE_AT, n, 0),
+        Reply::Pitch(v) => reply_numbers(calls::CODE_PITCH, pitch_number(v), 0),
+        Reply::Left => reply_numbers(calls::CODE_LEFT, 0, 0),
+        Reply::Claimed(s) => reply_numbers(calls::CODE_CLAIMED, s, 0),
+        Reply::Written(n) => reply_numbers(calls::CODE_WRITTEN, n, 0),
+        Reply::Swapped(s) => reply_numbers(calls::CODE_SWAPPED, s, 0),
+        Reply::Synced(m) => reply_numbers(calls::CODE_SYNCED, m, 0),
+        Reply::Raised => reply_numbers(calls::CODE_RAISED, 0, 0),
+        Reply::Shared => reply_numbers(calls::CODE_SHARED, 0, 0),
+        Reply::Walked(o) => walk_numbers(o),
+        Reply::Freed(s, n) => reply_numbers(calls::CODE_FREED, s, n),
+        Reply::Refused(n) => reply_numbers(n, 0, 0),
     }
 }
 

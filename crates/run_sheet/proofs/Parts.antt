@@ -12,7 +12,7 @@ use Rattle.sheet_law.specs.Printing.{PRINTED-MAX}
 use Rattle.sheet_law.specs.Sheet.{SheetState, fed}
 use Rattle.base.specs.RowLaws.{clash}
 use Rattle.sheet.specs.Feeds.{Feeds, within, moves}
-use Rattle.run_sheet.specs.Keeps.{Keeps}
+use Rattle.run_sheet.specs.ReadFed.{ReadFed}
 
 tail-length : (n : ℕ) (l : List ℕ) → length (take (length l - n) (drop n l)) ≡ length l - n
 tail-length n l = ap length (take-all (length l - n) (drop n l) (rw length-drop (omega arith))) ∙ length-drop n l
@@ -38,8 +38,8 @@ unfolding fed
 fed-none d l = refl
 
 -- What is kept where a write failed after a step, and at the end of the read.
-pub stopped : {d e g : SheetState} (l : List ℕ) (from : ℕ) {used : ℕ} {before out : List ℕ} {made : ℕ} → e ≡ fed d (take from l) → from < length l → Feeds e (take (length l - from) (drop from l)) used g before out made → Keeps d l g false
+pub stopped : {d e g : SheetState} (l : List ℕ) (from : ℕ) {used : ℕ} {before out : List ℕ} {made : ℕ} → e ≡ fed d (take from l) → from < length l → Feeds e (take (length l - from) (drop from l)) used g before out made → ReadFed d l g false
 stopped {d} {e} {g} l from {used} p h f = record { bytes = from + used; within = taken-within l from f h; after = fed-further d e g l from used p (f .after); whole = λ w. clash (sym w) }
 
-pub ended : {d e : SheetState} (l : List ℕ) (from : ℕ) → e ≡ fed d (take from l) → from ≤ length l → length l ≤ from → Keeps d l e true
+pub ended : {d e : SheetState} (l : List ℕ) (from : ℕ) → e ≡ fed d (take from l) → from ≤ length l → length l ≤ from → ReadFed d l e true
 ended l from p h k = record { bytes = from; within = h; after = p; whole = λ w. omega arith }

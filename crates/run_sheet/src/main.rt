@@ -8,7 +8,7 @@ ghost use Rattle.statement.specs.Machine.{state};
 ghost use Rattle.sheet_law.specs.Printing.{PRINTED-MAX};
 ghost use Rattle.sheet_law.specs.Sheet.{sheetState};
 ghost use Rattle.sheet_law.specs.Reads.{KEPT};
-ghost use Rattle.run_sheet.specs.Keeps.{Keeps};
+ghost use Rattle.run_sheet.specs.ReadFed.{ReadFed};
 use calls::Pitch;
 use layout::WORDS;
 use libc::STDERR_FILENO;
@@ -41,14 +41,14 @@ fn written(out: &[u8]) -> bool {
 }
 
 // What is kept after a read, and whether all that was printed could be written.
-struct Said {
+struct AfterRead {
     lines: u64,
     count: usize,
     written: bool,
 }
 
 // The bytes of one read: the output is written whenever it is full, and at their end. What is kept is what the bytes fed make of it: the first of the read, and all of them if all could be written.
-fn say(
+fn feed_read(
     words: &mut [u64],
     room: &mut [Pitch],
     kept: &mut [u8],
@@ -56,10 +56,10 @@ fn say(
     count: usize,
     input: &[u8],
     out: &mut [u8],
-) -> Said
+) -> AfterRead
     requires { ⌜ length (now kept) ≡ KEPT ⌝ }
     requires { ⌜ PRINTED-MAX ≤ length (now out) ⌝ }
-    ensures { λ r. ⌜ Keeps (sheetState lines (take count (now (kept .entry))) (state (now (words .entry)) (now (room .entry)))) (now (input .entry)) (sheetState (r .lines) (take (r .count) (now (kept .exit))) (state (now (words .exit)) (now (room .exit)))) (r .written) ⌝ }
+    ensures { λ r. ⌜ ReadFed (sheetState lines (take count (now (kept .entry))) (state (now (words .entry)) (now (room .entry)))) (now (input .entry)) (sheetState (r .lines) (take (r .count) (now (kept .exit))) (state (now (words .exit)) (now (room .exit)))) (r .written) ⌝ }
 {
     let mut read = lines;
     let mut held = count;
@@ -71,14 +71,14 @@ fn say(
         from = from + fed.used;
         let made = fed.made;
         if !written(&out[..made]) {
-            return Said {
+            return AfterRead {
                 lines: read,
                 count: held,
                 written: false,
             };
         }
     }
-    Said {
+    AfterRead {
         lines: read,
         count: held,
         written: true,
@@ -101,7 +101,7 @@ fn main() {
         if n == 0 {
             break;
         }
-        let said = say(
+        let after = feed_read(
             &mut words,
             &mut room,
             &mut kept,
@@ -110,9 +110,9 @@ fn main() {
             &input[..n],
             &mut out,
         );
-        lines = said.lines;
-        count = said.count;
-        if !said.written {
+        lines = after.lines;
+        count = after.count;
+        if !after.written {
             return;
         }
     }

@@ -18,7 +18,7 @@ use Rattle.sheet_law.specs.declared.Line.the-variants.{Read, Unread}
 use Rattle.sheet_law.specs.Text.{text, NEWLINE}
 use Rattle.sheet_law.specs.Reading.{LINE-MAX, lineOf}
 use Rattle.sheet_law.specs.Printing.{replyText, printedLine, PRINTED-MAX}
-use Rattle.sheet_law.specs.Sheet.{played, next, SheetState, sheetState, joined, byte, saidAt, fed, printed, ending}
+use Rattle.sheet_law.specs.Sheet.{played, nextLine, SheetState, sheetState, joined, byte, saidAt, fed, printed, ending}
 use Rattle.sheet_law.specs.SheetLaws.{known-all}
 use Rattle.sheet_law.specs.Reads.{fed-append, printed-append, over-80}
 use Rattle.sheet_printing.specs.Buffer.{Added, behind}
@@ -97,7 +97,7 @@ module _ (d : SheetState) (t : List ℕ) (u n : ℕ) (k : List ℕ) (s : State) 
       (sym (append-nil (take m out)))
       refl
 
-  module _ (nl : getD t u 0 ≡ NEWLINE) (room : m + PRINTED-MAX ≤ length out) (as-long : length out ≡ length before) (new : List ℕ) (l : ℕ) (q : ℕ) (number : q ≡ next n) where
+  module _ (nl : getD t u 0 ≡ NEWLINE) (room : m + PRINTED-MAX ≤ length out) (as-long : length out ≡ length before) (new : List ℕ) (l : ℕ) (q : ℕ) (number : q ≡ nextLine n) where
     goes : stopsAt (length before - m) (getD t u 0) ≡ false
     goes = rw (eq-eqb (getD t u 0) NEWLINE nl) (le-ltb (length before - m) PRINTED-MAX (omega arith))
 

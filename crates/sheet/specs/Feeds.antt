@@ -49,14 +49,14 @@ unfolding taken
 taken-most room d [] = omega arith
 taken-most room d (b ∷ t) = pick-split (λ (n : ℕ). n ≤ suc (length t)) (stopsAt room b) (λ e. omega arith) (λ e. omega (arith, taken-most (room - length (saidAt d b)) (byte d b) t))
 
-and-false : (x : Bool) → (x && false) ≡ false
-and-false true = refl
-and-false false = refl
+and-with-false : (x : Bool) → (x && false) ≡ false
+and-with-false true = refl
+and-with-false false = refl
 
 taken-some : (room : ℕ) (d : SheetState) (t : List ℕ) → PRINTED-MAX ≤ room → 0 < length t → 0 < taken room d t
 unfolding taken
 taken-some room d [] fits some = absurd (omega arith)
-taken-some room d (b ∷ t) fits some = rw (le-ltb room PRINTED-MAX fits, and-false (eqb b NEWLINE)) (omega arith)
+taken-some room d (b ∷ t) fits some = rw (le-ltb room PRINTED-MAX fits, and-with-false (eqb b NEWLINE)) (omega arith)
 
 -- What is known of a step besides.
 module _ {d : SheetState} {input : List ℕ} {used : ℕ} {e : SheetState} {before out : List ℕ} {made : ℕ} (f : Feeds d input used e before out made) where

@@ -38,7 +38,7 @@ pub struct Fed {
     pub made: usize,
 }
 
-fn progress(lines: u64, count: usize, used: usize, made: usize) -> Fed
+fn feed_result(lines: u64, count: usize, used: usize, made: usize) -> Fed
     ensures { λ r. ⌜ r ≡ fedAt lines count used made ⌝ }
 {
     Fed {
@@ -85,7 +85,7 @@ pub fn feed(
     ensures { λ r. ⌜ FeedsIn (length (now (kept .entry))) (sheetState lines (take count (now (kept .entry))) (state (now (words .entry)) (now (room .entry)))) (now (input .entry)) (r .used) (sheetState (r .lines) (take (r .count) (now (kept .exit))) (state (now (words .exit)) (now (room .exit)))) (now (out .entry)) (now (out .exit)) (r .made) ⌝ }
 {
     if kept.len() != KEPT {
-        return progress(lines, count, 0, 0);
+        return feed_result(lines, count, 0, 0);
     }
     let mut used: usize = 0;
     let mut made: usize = 0;
@@ -110,7 +110,7 @@ pub fn feed(
         made = print_reply(out, made, lines, reply);
         count = 0;
     }
-    progress(lines, count, used, made)
+    feed_result(lines, count, used, made)
 }
 
 // The end of the input: the last line may lack its newline.
@@ -125,7 +125,7 @@ pub fn finish(
     ensures { λ r. ⌜ FeedsIn (length (now (kept .entry))) (sheetState lines (take count (now (kept .entry))) (state (now (words .entry)) (now (room .entry)))) (ending (take count (now (kept .entry)))) (r .used) (sheetState (r .lines) (take (r .count) (now (kept .exit))) (state (now (words .exit)) (now (room .exit)))) (now (out .entry)) (now (out .exit)) (r .made) ⌝ }
 {
     if count == 0 {
-        return progress(lines, count, 0, 0);
+        return feed_result(lines, count, 0, 0);
     }
     feed(words, room, kept, lines, count, b"\n", out)
 }

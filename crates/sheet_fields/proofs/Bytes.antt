@@ -13,24 +13,24 @@ use lib.Seq.{drop-cons, take-suc, append-snoc}
 use borrow.Author.Tests.{lt-ltb, le-ltb, eq-eqb, ne-eqb}
 use Rattle.base.specs.Base.{pick}
 use Rattle.calls.specs.Numbers.{PITCH-HALF}
-use Rattle.sheet_law.specs.declared.Number.the-variants.{Fine, Bad}
-use Rattle.sheet_law.specs.declared.Angle.the-variants.{At, Wrong}
+use Rattle.sheet_law.specs.declared.Number.the-variants.{Decimal, NoNumber}
+use Rattle.sheet_law.specs.declared.Angle.the-variants.{Hundredths, NoAngle}
 use Rattle.sheet_law.specs.Text.{same, SPACE, MINUS, DIGIT-0, DIGIT-9}
 use Rattle.sheet_law.specs.Reading.{upToSpace, afterSpace, digits, plain, within, negative, positive, angle}
 
 at-place : (l : List ℕ) (i : ℕ) → i < length l → drop i l ≡ getD l i 0 ∷ drop (i + 1) l
 at-place l i h = drop-cons l i 0 h ∙ ap (λ (n : ℕ). getD l i 0 ∷ drop n l) (sym (add-one i))
 
-and-false : (b : Bool) → (b && false) ≡ false
-and-false true = refl
-and-false false = refl
+and-with-false : (b : Bool) → (b && false) ≡ false
+and-with-false true = refl
+and-with-false false = refl
 
 -- Texts of different lengths differ.
 pub same-lengths : (l k : List ℕ) → (length l ≡ length k → ⊥) → same l k ≡ false
 same-lengths [] [] h = absurd (h refl)
 same-lengths [] (b ∷ k) h = refl
 same-lengths (a ∷ l) [] h = refl
-same-lengths (a ∷ l) (b ∷ k) h = rw (same-lengths l k (λ e. h (ap suc e))) (and-false (eqb a b))
+same-lengths (a ∷ l) (b ∷ k) h = rw (same-lengths l k (λ e. h (ap suc e))) (and-with-false (eqb a b))
 
 module _ (l k : List ℕ) (i : ℕ) (h : i < length l) (g : i < length k) where
   pub same-differ : (getD l i 0 ≡ getD k i 0 → ⊥) → same (drop i l) (drop i k) ≡ false
@@ -76,26 +76,26 @@ module _ (l : List ℕ) (i : ℕ) where
   after-space-end h = rw (drop-of-length-le l h) refl
 
 -- A number that is too wide stays so, whatever digits come after.
-pub too-wide : (most n : ℕ) (l : List ℕ) → most < n → within most (digits n l) ≡ Bad
+pub too-wide : (most n : ℕ) (l : List ℕ) → most < n → within most (digits n l) ≡ NoNumber
 unfolding digits
 too-wide most n [] h = rw (lt-ltb most n h) refl
 too-wide most n (b ∷ l) h = go (ltb b DIGIT-0 || ltb DIGIT-9 b) (too-wide most (n * 10 + (b - DIGIT-0)) l (omega arith))
   where
-    go : (t : Bool) → within most (digits (n * 10 + (b - DIGIT-0)) l) ≡ Bad → within most (pick t Bad (digits (n * 10 + (b - DIGIT-0)) l)) ≡ Bad
+    go : (t : Bool) → within most (digits (n * 10 + (b - DIGIT-0)) l) ≡ NoNumber → within most (pick t NoNumber (digits (n * 10 + (b - DIGIT-0)) l)) ≡ NoNumber
     go true e = refl
     go false e = e
 
 module _ (l : List ℕ) (i n : ℕ) where
-  pub digits-end : length l ≤ i → digits n (drop i l) ≡ Fine n
+  pub digits-end : length l ≤ i → digits n (drop i l) ≡ Decimal n
   unfolding digits
   digits-end h = rw (drop-of-length-le l h) refl
 
   module _ (h : i < length l) where
-    pub digits-low : getD l i 0 < DIGIT-0 → digits n (drop i l) ≡ Bad
+    pub digits-low : getD l i 0 < DIGIT-0 → digits n (drop i l) ≡ NoNumber
     unfolding digits
     digits-low a = rw (at-place l i h, lt-ltb (getD l i 0) DIGIT-0 a) refl
 
-    pub digits-high : DIGIT-0 ≤ getD l i 0 → DIGIT-9 < getD l i 0 → digits n (drop i l) ≡ Bad
+    pub digits-high : DIGIT-0 ≤ getD l i 0 → DIGIT-9 < getD l i 0 → digits n (drop i l) ≡ NoNumber
     unfolding digits
     digits-high a b = rw (at-place l i h, le-ltb (getD l i 0) DIGIT-0 a, lt-ltb DIGIT-9 (getD l i 0) b) refl
 
@@ -109,12 +109,12 @@ one-less zero = refl
 one-less (suc v) = ap negsuc (simp zero-add)
 
 -- A plain decimal has a digit, and no leading zero.
-pub plain-empty : (l : List ℕ) → length l ≡ 0 → plain l ≡ Bad
+pub plain-empty : (l : List ℕ) → length l ≡ 0 → plain l ≡ NoNumber
 unfolding plain
 plain-empty [] e = refl
 plain-empty (b ∷ l) e = absurd (omega arith)
 
-pub plain-zero : (l : List ℕ) → 1 < length l → getD l 0 0 ≡ DIGIT-0 → plain l ≡ Bad
+pub plain-zero : (l : List ℕ) → 1 < length l → getD l 0 0 ≡ DIGIT-0 → plain l ≡ NoNumber
 unfolding plain
 plain-zero [] h e = absurd (omega arith)
 plain-zero (b ∷ []) h e = absurd (omega arith)
@@ -127,14 +127,14 @@ plain-digits (b ∷ []) h e = refl
 plain-digits (b ∷ c ∷ l) h e = rw (ne-eqb b DIGIT-0 (e (omega arith))) refl
 
 -- Pitches.
-pub negative-zero : (n : ℕ) → n ≡ 0 → negative (Fine n) ≡ Wrong
+pub negative-zero : (n : ℕ) → n ≡ 0 → negative (Decimal n) ≡ NoAngle
 negative-zero n e = rw e refl
 
-pub negative-other : (n : ℕ) → (n ≡ 0 → ⊥) → negative (Fine n) ≡ At (negsuc (n - 1))
+pub negative-other : (n : ℕ) → (n ≡ 0 → ⊥) → negative (Decimal n) ≡ Hundredths (negsuc (n - 1))
 negative-other zero h = absurd (h refl)
-negative-other (suc n) h = let e : suc n - 1 ≡ n = omega arith in ap (λ (m : ℕ). At (negsuc m)) (sym e)
+negative-other (suc n) h = let e : suc n - 1 ≡ n = omega arith in ap (λ (m : ℕ). Hundredths (negsuc m)) (sym e)
 
-pub angle-empty : (l : List ℕ) → length l ≡ 0 → angle l ≡ Wrong
+pub angle-empty : (l : List ℕ) → length l ≡ 0 → angle l ≡ NoAngle
 unfolding angle
 angle-empty [] e = refl
 angle-empty (b ∷ l) e = absurd (omega arith)

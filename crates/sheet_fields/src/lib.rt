@@ -48,7 +48,7 @@ pub struct Parts {
     pub next: usize,
 }
 
-pub fn cut(s: &[u8]) -> Parts
+pub fn split_at_space(s: &[u8]) -> Parts
     ensures { λ r. ⌜ (r .end ≤ length (now (s .entry))) × (r .next ≤ length (now (s .entry))) × (take (r .end) (now (s .entry)) ≡ upToSpace (now (s .entry))) × (drop (r .next) (now (s .entry)) ≡ afterSpace (now (s .entry))) ⌝ }
 {
     let mut i: usize = 0;
@@ -78,18 +78,18 @@ fn digits(s: &[u8]) -> Number
     let mut i: usize = 0;
     loop {
         if i >= s.len() {
-            break Number::Fine(n);
+            break Number::Decimal(n);
         }
         let b = s[i];
         if b < DIGIT_0 {
-            break Number::Bad;
+            break Number::NoNumber;
         }
         if b > DIGIT_9 {
-            break Number::Bad;
+            break Number::NoNumber;
         }
         let d = wide(b - DIGIT_0);
         if n > (NUMBER_MAX - d) / 10 {
-            break Number::Bad;
+            break Number::NoNumber;
         }
         n = n * 10 + d;
         i += 1;
@@ -102,20 +102,20 @@ pub fn number(s: &[u8], most: u64) -> Number
 {
     let n = s.len();
     if n == 0 {
-        return Number::Bad;
+        return Number::NoNumber;
     }
     if n > 1 {
         if s[0] == DIGIT_0 {
-            return Number::Bad;
+            return Number::NoNumber;
         }
     }
-    let Number::Fine(v) = digits(s) else {
-        return Number::Bad;
+    let Number::Decimal(v) = digits(s) else {
+        return Number::NoNumber;
     };
     if v > most {
-        return Number::Bad;
+        return Number::NoNumber;
     }
-    Number::Fine(v)
+    Number::Decimal(v)
 }
 
 // A number below PITCH_HALF as a pitch, and the pitch that is one less than its opposite.
@@ -137,22 +137,22 @@ fn below(v: u64) -> Pitch
 fn negative(s: &[u8]) -> Angle
     ensures { λ r. ⌜ r ≡ Reading·negative (within PITCH-HALF (plain (now (s .entry)))) ⌝ }
 {
-    let Number::Fine(v) = number(s, PITCH_HALF) else {
-        return Angle::Wrong;
+    let Number::Decimal(v) = number(s, PITCH_HALF) else {
+        return Angle::NoAngle;
     };
     if v == 0 {
-        return Angle::Wrong;
+        return Angle::NoAngle;
     }
-    Angle::At(below(v - 1))
+    Angle::Hundredths(below(v - 1))
 }
 
 fn positive(s: &[u8]) -> Angle
     ensures { λ r. ⌜ r ≡ Reading·positive (within (PITCH-HALF - 1) (plain (now (s .entry)))) ⌝ }
 {
-    let Number::Fine(v) = number(s, PITCH_MAX) else {
-        return Angle::Wrong;
+    let Number::Decimal(v) = number(s, PITCH_MAX) else {
+        return Angle::NoAngle;
     };
-    Angle::At(above(v))
+    Angle::Hundredths(above(v))
 }
 
 // A pitch: a decimal, or a minus and a decimal that is not 0.
@@ -160,7 +160,7 @@ pub fn angle(s: &[u8]) -> Angle
     ensures { λ r. ⌜ r ≡ Reading·angle (now (s .entry)) ⌝ }
 {
     if s.len() == 0 {
-        return Angle::Wrong;
+        return Angle::NoAngle;
     }
     if s[0] == MINUS {
         return negative(&s[1..]);

@@ -15,13 +15,13 @@ use Rattle.base.specs.RowLaws.{pick-split}
 use Rattle.calls.specs.declared.Call.{Call}
 use Rattle.calls.specs.declared.Call.the-variants as call
 use Rattle.calls.specs.Numbers.{PITCH-BITS, PITCH-HALF, NUMBER-MAX, KIND-NEW, KIND-OLD}
-use Rattle.sheet_law.specs.declared.Number.the-variants.{Fine}
-use Rattle.sheet_law.specs.declared.Angle.the-variants.{At}
+use Rattle.sheet_law.specs.declared.Number.the-variants.{Decimal}
+use Rattle.sheet_law.specs.declared.Angle.the-variants.{Hundredths}
 use Rattle.sheet_law.specs.declared.Command.{Command}
 use Rattle.sheet_law.specs.declared.Command.the-variants.{Make, Run}
 use Rattle.sheet_law.specs.declared.Line.the-variants.{Read}
 use Rattle.sheet_law.specs.Text.{text, SPACE, CLOSE, decimal}
-use Rattle.sheet_law.specs.Reading.{LINE-MAX, NARROW-MAX, upToSpace, afterSpace, within, narrow, wide, angle, named, word, kindNamed, one, two, pitched, making, command, lineOf}
+use Rattle.sheet_law.specs.Reading.{LINE-MAX, NARROW-MAX, upToSpace, afterSpace, within, narrow, wide, angle, namedIn, keyword, kindNamed, one, two, pitched, storeLine, command, lineOf}
 use Rattle.sheet_law.specs.Printing.{withOne, withTwo}
 use Rattle.sheet_law.specs.Decimals.{plain-decimal, decimal-up-to-space, decimal-after-space, signed, signed-decimal, decimal-length}
 
@@ -87,7 +87,7 @@ Fits (Make k rs ps ss v) = ((k ≡ KIND-NEW) ⊎ (k ≡ KIND-OLD)) × FitsNarrow
 Fits (Run c) = FitsCall c
 
 -- A bracketed text is read as what stands between the brackets.
-bracketed-read : (w : List ℕ) → length w + 2 ≤ LINE-MAX → lineOf (inBrackets w) ≡ command (word (upToSpace w)) (afterSpace w)
+bracketed-read : (w : List ℕ) → length w + 2 ≤ LINE-MAX → lineOf (inBrackets w) ≡ command (keyword (upToSpace w)) (afterSpace w)
 unfolding lineOf
 bracketed-read w short =
     let l : List ℕ = inBrackets w in
@@ -100,14 +100,14 @@ bracketed-read w short =
     ) refl
 
 -- Arguments are read back.
-narrow-back : (n : ℕ) → FitsNarrow n → narrow (decimal n) ≡ Fine n
+narrow-back : (n : ℕ) → FitsNarrow n → narrow (decimal n) ≡ Decimal n
 narrow-back n fits = rw (plain-decimal n, le-ltb NARROW-MAX n (omega arith)) refl
 
-wide-back : (n : ℕ) → FitsWide n → wide (decimal n) ≡ Fine n
+wide-back : (n : ℕ) → FitsWide n → wide (decimal n) ≡ Decimal n
 wide-back n fits = rw (plain-decimal n, le-ltb NUMBER-MAX n (omega arith)) refl
 
-kind-back : (k : ℕ) → (k ≡ KIND-NEW) ⊎ (k ≡ KIND-OLD) → (l : List ℕ) → (kindNamed (upToSpace (kindText k ++ (SPACE ∷ l))) ≡ Fine k) × (afterSpace (kindText k ++ (SPACE ∷ l)) ≡ l)
-unfolding upToSpace afterSpace named
+kind-back : (k : ℕ) → (k ≡ KIND-NEW) ⊎ (k ≡ KIND-OLD) → (l : List ℕ) → (kindNamed (upToSpace (kindText k ++ (SPACE ∷ l))) ≡ Decimal k) × (afterSpace (kindText k ++ (SPACE ∷ l)) ≡ l)
+unfolding upToSpace afterSpace namedIn
 kind-back k (inl e) l = rw e (refl, refl)
 kind-back k (inr e) l = rw e (refl, refl)
 
@@ -117,7 +117,7 @@ unfolding angle
 angle-signed [] = refl
 angle-signed (b ∷ l) = refl
 
-angle-back : (v : ℤ) → FitsAngle v → angle (angleText v) ≡ At v
+angle-back : (v : ℤ) → FitsAngle v → angle (angleText v) ≡ Hundredths v
 unfolding angle
 angle-back (pos n) fits = angle-signed (decimal n) ∙ (signed-decimal (within PITCH-HALF) (within (PITCH-HALF - 1)) n ∙ rw (le-ltb (PITCH-HALF - 1) n (omega arith)) refl)
 angle-back (negsuc n) fits = rw (plain-decimal (suc n), le-ltb PITCH-HALF (suc n) (omega arith)) refl
@@ -132,8 +132,8 @@ two-back build n m f g = rw (decimal-up-to-space n (decimal m), decimal-after-sp
 pitched-back : (build : ℕ → ℤ → Call) (n : ℕ) (v : ℤ) → FitsNarrow n → FitsAngle v → pitched (decimal n ++ (SPACE ∷ angleText v)) build ≡ Read (Run (build n v))
 pitched-back build n v f g = rw (decimal-up-to-space n (angleText v), decimal-after-space n (angleText v), narrow-back n f, angle-back v g) refl
 
-call-back : (c : Call) → FitsCall c → command (word (upToSpace (callText c))) (afterSpace (callText c)) ≡ Read (Run c)
-unfolding upToSpace afterSpace named
+call-back : (c : Call) → FitsCall c → command (keyword (upToSpace (callText c))) (afterSpace (callText c)) ≡ Read (Run c)
+unfolding upToSpace afterSpace namedIn
 call-back (call.Enter r) f = one-back call.Enter r f
 call-back (call.Look r k) (f, g) = two-back call.Look r k f g
 call-back (call.Leave r) f = one-back call.Leave r f
@@ -145,7 +145,7 @@ call-back (call.Raise p) f = one-back call.Raise p f
 call-back (call.Walk p b) (f, g) = two-back call.Walk p b f g
 call-back (call.Release p) f = one-back call.Release p f
 
-store-back : (k rs ps ss v : ℕ) → Fits (Make k rs ps ss v) → making (storeText k rs ps ss v) ≡ Read (Make k rs ps ss v)
+store-back : (k rs ps ss v : ℕ) → Fits (Make k rs ps ss v) → storeLine (storeText k rs ps ss v) ≡ Read (Make k rs ps ss v)
 store-back k rs ps ss v (fk, fr, fp, fs, fv) =
     let d : List ℕ = decimal v in
     let c : List ℕ = decimal ss ++ (SPACE ∷ d) in
@@ -166,8 +166,8 @@ store-back k rs ps ss v (fk, fr, fp, fs, fv) =
       wide-back v fv,
     ) refl
 
-inner-back : (c : Command) → Fits c → command (word (upToSpace (innerText c))) (afterSpace (innerText c)) ≡ Read c
-unfolding upToSpace afterSpace named
+inner-back : (c : Command) → Fits c → command (keyword (upToSpace (innerText c))) (afterSpace (innerText c)) ≡ Read c
+unfolding upToSpace afterSpace namedIn
 inner-back (Make k rs ps ss v) f = store-back k rs ps ss v f
 inner-back (Run c) f = call-back c f
 

@@ -12,12 +12,12 @@ use Rattle.base.specs.Base.{pick}
 use Rattle.base.specs.Rows.{outside}
 use Rattle.base.specs.RowLaws.{pick-split, within, not-outside}
 use Rattle.sheet_law.specs.declared.Number.{Number}
-use Rattle.sheet_law.specs.declared.Number.the-variants.{Fine}
+use Rattle.sheet_law.specs.declared.Number.the-variants.{Decimal}
 use Rattle.sheet_law.specs.declared.Angle.{Angle}
-use Rattle.sheet_law.specs.declared.Angle.the-variants.{Wrong}
+use Rattle.sheet_law.specs.declared.Angle.the-variants.{NoAngle}
 use Rattle.sheet_law.specs.Text.{SPACE, MINUS, DIGIT-0, DIGIT-9, lastDigit, digitsBefore, decimal}
 use Rattle.sheet_law.specs.Reading.{upToSpace, afterSpace, digits, plain, negative, positive}
-use Rattle.sheet_law.specs.Widths.{fine-same, bad-fine}
+use Rattle.sheet_law.specs.Widths.{decimal-same, no-decimal}
 
 -- A number below ten is its digit; the digits of another are those of its tenth before its last digit.
 spell-one : (f n : ℕ) (l : List ℕ) → n / 10 ≡ 0 → digitsBefore (suc f) n l ≡ lastDigit n ∷ l
@@ -60,7 +60,7 @@ digits-before (suc f) n l a = one-or-more (λ k. digits 0 k ≡ digits n l) f n 
     (λ e. last-read 0 n l (sym e))
     (λ e. digits-before f (n / 10) (lastDigit n ∷ l) (omega arith) ∙ last-read (n / 10) n l refl)
 
-pub digits-decimal : (n : ℕ) → digits 0 (decimal n) ≡ Fine n
+pub digits-decimal : (n : ℕ) → digits 0 (decimal n) ≡ Decimal n
 unfolding decimal digits
 digits-decimal n = digits-before (suc n) n [] (omega arith)
 
@@ -76,14 +76,14 @@ plain-before (suc f) n l a ne = one-or-more (λ k. plain k ≡ digits 0 k) f n l
     (λ e. plain-digits (lastDigit n) l (λ z. omega arith))
     (λ e. plain-before f (n / 10) (lastDigit n ∷ l) (omega arith) e)
 
-pub plain-decimal : (n : ℕ) → plain (decimal n) ≡ Fine n
+pub plain-decimal : (n : ℕ) → plain (decimal n) ≡ Decimal n
 unfolding decimal digitsBefore plain digits
 plain-decimal zero = refl
 plain-decimal (suc n) = plain-before (suc (suc n)) (suc n) [] (omega arith) (λ z. omega arith) ∙ digits-decimal (suc n)
 
 -- Two different numbers have different decimals.
 pub decimal-injective : (n m : ℕ) → decimal n ≡ decimal m → n ≡ m
-decimal-injective n m e = fine-same n m (sym (plain-decimal n) ∙ (ap plain e ∙ plain-decimal m))
+decimal-injective n m e = decimal-same n m (sym (plain-decimal n) ∙ (ap plain e ∙ plain-decimal m))
 
 -- A decimal is digits.
 abbrev pub AllDigits : List ℕ → Type 0
@@ -121,15 +121,15 @@ decimal-after-space n = after-space-digits (decimal n) (all-digits n)
 
 -- A decimal that may have a minus before it, read with a test of either; no digit is a minus.
 abbrev pub signed : (Number → Number) → (Number → Number) → List ℕ → Angle
-signed below above [] = Wrong
+signed below above [] = NoAngle
 signed below above (b ∷ l) = pick (eqb b MINUS) (negative (below (plain l))) (positive (above (plain (b ∷ l))))
 
-pub signed-decimal : (below above : Number → Number) (n : ℕ) → signed below above (decimal n) ≡ positive (above (Fine n))
+pub signed-decimal : (below above : Number → Number) (n : ℕ) → signed below above (decimal n) ≡ positive (above (Decimal n))
 unfolding plain
 signed-decimal below above n = go (decimal n) (all-digits n) (plain-decimal n)
   where
-    go : (k : List ℕ) → AllDigits k → plain k ≡ Fine n → signed below above k ≡ positive (above (Fine n))
-    go [] a e = absurd (bad-fine n e)
+    go : (k : List ℕ) → AllDigits k → plain k ≡ Decimal n → signed below above k ≡ positive (above (Decimal n))
+    go [] a e = absurd (no-decimal n e)
     go (b ∷ k) a e = rw (ne-eqb b MINUS (λ z. omega arith), e) refl
 
 -- What stands after the digits is left as it is; so one digit more is ten times the number and the digit.
@@ -153,31 +153,31 @@ unfolding decimal
 decimal-one n b low high e = spell-last n [] (omega arith) ∙ ap (λ c. c ∷ []) (omega arith)
 
 -- Only its plain decimal is read as a number: a digit that was read is one.
-digit-is : (m b n : ℕ) (l : List ℕ) → digits m (b ∷ l) ≡ Fine n → (DIGIT-0 ≤ b) × (b ≤ DIGIT-9) × (digits (m * 10 + (b - DIGIT-0)) l ≡ Fine n)
+digit-is : (m b n : ℕ) (l : List ℕ) → digits m (b ∷ l) ≡ Decimal n → (DIGIT-0 ≤ b) × (b ≤ DIGIT-9) × (digits (m * 10 + (b - DIGIT-0)) l ≡ Decimal n)
 unfolding digits
-digit-is m b n l = pick-split (λ x. x ≡ Fine n → (DIGIT-0 ≤ b) × (b ≤ DIGIT-9) × (digits (m * 10 + (b - DIGIT-0)) l ≡ Fine n)) (outside DIGIT-0 DIGIT-9 b)
-    (λ _ e. absurd (bad-fine n e))
+digit-is m b n l = pick-split (λ x. x ≡ Decimal n → (DIGIT-0 ≤ b) × (b ≤ DIGIT-9) × (digits (m * 10 + (b - DIGIT-0)) l ≡ Decimal n)) (outside DIGIT-0 DIGIT-9 b)
+    (λ _ e. absurd (no-decimal n e))
     (λ o e. let w = within DIGIT-0 DIGIT-9 b o in (w .0, w .1, e))
 
-digits-only : (l : List ℕ) (m n : ℕ) → m ≢ 0 → digits m l ≡ Fine n → decimal n ≡ decimal m ++ l
+digits-only : (l : List ℕ) (m n : ℕ) → m ≢ 0 → digits m l ≡ Decimal n → decimal n ≡ decimal m ++ l
 unfolding digits
-digits-only [] m n ne e = rw (append-nil (decimal m), fine-same m n e) refl
+digits-only [] m n ne e = rw (append-nil (decimal m), decimal-same m n e) refl
 digits-only (b ∷ l) m n ne e =
     let d = digit-is m b n l e in
     digits-only l (m * 10 + (b - DIGIT-0)) n (λ z. omega arith) (d .2) ∙ (ap (λ k. k ++ l) (decimal-more m b ne (d .0) (d .1)) ∙ append-assoc (decimal m) (b ∷ []) l)
 
-pub plain-only : (l : List ℕ) (n : ℕ) → plain l ≡ Fine n → decimal n ≡ l
+pub plain-only : (l : List ℕ) (n : ℕ) → plain l ≡ Decimal n → decimal n ≡ l
 unfolding plain digits
-plain-only [] n e = absurd (bad-fine n e)
+plain-only [] n e = absurd (no-decimal n e)
 plain-only (b ∷ []) n e =
     let d = digit-is 0 b n [] e in
-    decimal-one n b (d .0) (d .1) (omega (arith, fine-same (0 * 10 + (b - DIGIT-0)) n (d .2)))
-plain-only (b ∷ c ∷ l) n e = pick-split (λ x. x ≡ Fine n → decimal n ≡ b ∷ c ∷ l) (eqb b DIGIT-0)
-    (λ _ z. absurd (bad-fine n z))
+    decimal-one n b (d .0) (d .1) (omega (arith, decimal-same (0 * 10 + (b - DIGIT-0)) n (d .2)))
+plain-only (b ∷ c ∷ l) n e = pick-split (λ x. x ≡ Decimal n → decimal n ≡ b ∷ c ∷ l) (eqb b DIGIT-0)
+    (λ _ z. absurd (no-decimal n z))
     (λ t z. more (eqb-false b DIGIT-0 t) (digit-is 0 b n (c ∷ l) z))
     e
   where
-    more : b ≢ DIGIT-0 → (DIGIT-0 ≤ b) × (b ≤ DIGIT-9) × (digits (0 * 10 + (b - DIGIT-0)) (c ∷ l) ≡ Fine n) → decimal n ≡ b ∷ c ∷ l
+    more : b ≢ DIGIT-0 → (DIGIT-0 ≤ b) × (b ≤ DIGIT-9) × (digits (0 * 10 + (b - DIGIT-0)) (c ∷ l) ≡ Decimal n) → decimal n ≡ b ∷ c ∷ l
     more ne d = digits-only (c ∷ l) (0 * 10 + (b - DIGIT-0)) n (λ z. omega arith) (d .2) ∙ ap (λ k. k ++ (c ∷ l)) (decimal-one _ b (d .0) (d .1) (omega arith))
 
 -- A number below 10 ^ f has at most f digits.

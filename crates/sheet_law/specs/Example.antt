@@ -6,9 +6,9 @@ use Rattle.base.specs.Rows.{anyBelow}
 use Rattle.layout.specs.Layout.{readerAt, publisherAt, withReader, withPublisher, withReaders, fresh}
 use Rattle.publication_law.specs.Table.{damaged, step, making}
 use Rattle.grace_version_law.specs.Steps.{onward}
-use Rattle.kinds_law.specs.Kinds.{named, anyStep, anyMaking}
+use Rattle.kinds_law.specs.Kinds.{kindOfNumber, anyStep, anyMaking}
 use Rattle.sheet_law.specs.Text.{text, digitsBefore, decimal}
-use Rattle.sheet_law.specs.Reading.{upToSpace, afterSpace, digits, plain, named as wordNamed, lineOf}
+use Rattle.sheet_law.specs.Reading.{upToSpace, afterSpace, digits, plain, namedIn as wordNamed, lineOf}
 use Rattle.sheet_law.specs.Sheet.{played, linesFrom, printedFor, sheet}
 
 abbrev pub P1 : List ℕ
@@ -19,5 +19,5 @@ P1-printed = text "(1 made)\n(2 at 1)\n(3 at 2)\n(4 at 3)\n(5 at 4)\n(6 at 5)\n(
 
 pub p1-bytes : sheet P1 ≡ P1-printed
 unfolding
-    readerAt publisherAt withReader withPublisher withReaders fresh anyBelow damaged onward step making named anyStep anyMaking digitsBefore decimal upToSpace afterSpace digits plain wordNamed lineOf played linesFrom printedFor sheet
+    readerAt publisherAt withReader withPublisher withReaders fresh anyBelow damaged onward step making kindOfNumber anyStep anyMaking digitsBefore decimal upToSpace afterSpace digits plain wordNamed lineOf played linesFrom printedFor sheet
 p1-bytes = refl

@@ -16,17 +16,17 @@ use Rattle.calls.specs.declared.Call.{Call}
 use Rattle.calls.specs.declared.Call.the-variants as call
 use Rattle.calls.specs.Numbers.{PITCH-HALF, NUMBER-MAX, KIND-NEW, KIND-OLD}
 use Rattle.sheet_law.specs.declared.Number.{Number}
-use Rattle.sheet_law.specs.declared.Number.the-variants.{Fine, Bad}
-use Rattle.sheet_law.specs.declared.Word.{Word}
-use Rattle.sheet_law.specs.declared.Word.the-variants.{Unknown}
+use Rattle.sheet_law.specs.declared.Number.the-variants.{Decimal, NoNumber}
+use Rattle.sheet_law.specs.declared.Keyword.{Keyword}
+use Rattle.sheet_law.specs.declared.Keyword.the-variants.{Unknown}
 use Rattle.sheet_law.specs.declared.Command.{Command}
 use Rattle.sheet_law.specs.declared.Command.the-variants.{Make, Run}
 use Rattle.sheet_law.specs.declared.Line.{Line}
 use Rattle.sheet_law.specs.declared.Line.the-variants.{Read, Unread}
 use Rattle.sheet_law.specs.Text.{text, same, SPACE, OPEN, CLOSE, MINUS, decimal}
-use Rattle.sheet_law.specs.Reading.{LINE-MAX, NARROW-MAX, upToSpace, afterSpace, plain, within, narrow, wide, negative, positive, angle, Row, named, words, word, kinds, kindNamed, given, givenAngle, one, two, pitched, making, command, bracketed, inner, lineOf}
+use Rattle.sheet_law.specs.Reading.{LINE-MAX, NARROW-MAX, upToSpace, afterSpace, plain, within, narrow, wide, negative, positive, angle, Row, namedIn, keywords, keyword, kinds, kindNamed, ifNumber, ifAngle, one, two, pitched, storeLine, command, bracketed, inner, lineOf}
 use Rattle.sheet_law.specs.Reading.Row.{_names_}
-use Rattle.sheet_law.specs.Widths.{bad-fine, within-most, within-is}
+use Rattle.sheet_law.specs.Widths.{no-decimal, within-most, within-is}
 use Rattle.sheet_law.specs.Decimals.{plain-decimal, plain-only}
 use Rattle.sheet_law.specs.Canonical.{kindText, angleText, innerText, inBrackets, commandText, FitsNarrow, FitsWide, FitsAngle, Fits, text-length, reads-back}
 
@@ -46,43 +46,43 @@ infixr 10 _else_
 pub _else_ : {A B : Type 0} → A → B → A × B
 a else b = (a, b)
 
-pub named-only : {A : Type 0} (Q : A → Type 0) (none : A) (w : List ℕ) (rows : List (Row A)) → EachRow Q none w rows → Q (named rows none w)
-unfolding named
+pub named-only : {A : Type 0} (Q : A → Type 0) (none : A) (w : List ℕ) (rows : List (Row A)) → EachRow Q none w rows → Q (namedIn rows none w)
+unfolding namedIn
 named-only Q none w [] h = h
 named-only Q none w ((t names x) ∷ rows) h = pick-split Q (same w (text t)) (λ e. h .0 (sym (same-only w (text t) e))) (λ _. named-only Q none w rows (h .1))
 
 -- What a number that is read tells of its text.
-within-only : (most : ℕ) (l : List ℕ) (n : ℕ) → within most (plain l) ≡ Fine n → (decimal n ≡ l) × (n ≤ most)
+within-only : (most : ℕ) (l : List ℕ) (n : ℕ) → within most (plain l) ≡ Decimal n → (decimal n ≡ l) × (n ≤ most)
 within-only most l n e = (plain-only l n (within-is most (plain l) n e), within-most most (plain l) n e)
 
 -- What is read of an argument: nothing, or one whose text it is.
 module _ (Q : Line → Type 0) (bad : Q Unread) where
-  given-only : (x : Number) (f : ℕ → Line) → ((n : ℕ) → x ≡ Fine n → Q (f n)) → Q (given x f)
-  given-only Bad f h = bad
-  given-only (Fine n) f h = h n refl
+  given-only : (x : Number) (f : ℕ → Line) → ((n : ℕ) → x ≡ Decimal n → Q (f n)) → Q (ifNumber x f)
+  given-only NoNumber f h = bad
+  given-only (Decimal n) f h = h n refl
 
-  narrow-only : (l : List ℕ) (f : ℕ → Line) → ((n : ℕ) → decimal n ≡ l → FitsNarrow n → Q (f n)) → Q (given (narrow l) f)
+  narrow-only : (l : List ℕ) (f : ℕ → Line) → ((n : ℕ) → decimal n ≡ l → FitsNarrow n → Q (f n)) → Q (ifNumber (narrow l) f)
   narrow-only l f h = given-only (narrow l) f (λ n e. let q = within-only NARROW-MAX l n e in h n (q .0) (omega arith))
 
-  wide-only : (l : List ℕ) (f : ℕ → Line) → ((n : ℕ) → decimal n ≡ l → FitsWide n → Q (f n)) → Q (given (wide l) f)
+  wide-only : (l : List ℕ) (f : ℕ → Line) → ((n : ℕ) → decimal n ≡ l → FitsWide n → Q (f n)) → Q (ifNumber (wide l) f)
   wide-only l f h = given-only (wide l) f (λ n e. let q = within-only NUMBER-MAX l n e in h n (q .0) (omega arith))
 
-  kind-only : (l : List ℕ) (f : ℕ → Line) → ((k : ℕ) → kindText k ≡ l → (k ≡ KIND-NEW) ⊎ (k ≡ KIND-OLD) → Q (f k)) → Q (given (kindNamed l) f)
-  kind-only l f h = named-only (λ x. Q (given x f)) Bad l kinds ((λ e. h KIND-NEW e (inl refl)) else (λ e. h KIND-OLD e (inr refl)) else bad)
+  kind-only : (l : List ℕ) (f : ℕ → Line) → ((k : ℕ) → kindText k ≡ l → (k ≡ KIND-NEW) ⊎ (k ≡ KIND-OLD) → Q (f k)) → Q (ifNumber (kindNamed l) f)
+  kind-only l f h = named-only (λ x. Q (ifNumber x f)) NoNumber l kinds ((λ e. h KIND-NEW e (inl refl)) else (λ e. h KIND-OLD e (inr refl)) else bad)
 
-  negative-only : (x : Number) (f : ℤ → Line) → ((n : ℕ) → x ≡ Fine (suc n) → Q (f (negsuc n))) → Q (givenAngle (negative x) f)
-  negative-only Bad f h = bad
-  negative-only (Fine zero) f h = bad
-  negative-only (Fine (suc n)) f h = h n refl
+  negative-only : (x : Number) (f : ℤ → Line) → ((n : ℕ) → x ≡ Decimal (suc n) → Q (f (negsuc n))) → Q (ifAngle (negative x) f)
+  negative-only NoNumber f h = bad
+  negative-only (Decimal zero) f h = bad
+  negative-only (Decimal (suc n)) f h = h n refl
 
-  positive-only : (x : Number) (f : ℤ → Line) → ((n : ℕ) → x ≡ Fine n → Q (f (pos n))) → Q (givenAngle (positive x) f)
-  positive-only Bad f h = bad
-  positive-only (Fine n) f h = h n refl
+  positive-only : (x : Number) (f : ℤ → Line) → ((n : ℕ) → x ≡ Decimal n → Q (f (pos n))) → Q (ifAngle (positive x) f)
+  positive-only NoNumber f h = bad
+  positive-only (Decimal n) f h = h n refl
 
-  angle-only : (l : List ℕ) (f : ℤ → Line) → ((v : ℤ) → angleText v ≡ l → FitsAngle v → Q (f v)) → Q (givenAngle (angle l) f)
+  angle-only : (l : List ℕ) (f : ℤ → Line) → ((v : ℤ) → angleText v ≡ l → FitsAngle v → Q (f v)) → Q (ifAngle (angle l) f)
   unfolding angle
   angle-only [] f h = bad
-  angle-only (b ∷ l) f h = pick-split (λ x. Q (givenAngle x f)) (eqb b MINUS)
+  angle-only (b ∷ l) f h = pick-split (λ x. Q (ifAngle x f)) (eqb b MINUS)
       (λ t. negative-only (within PITCH-HALF (plain l)) f (λ n e. let q = within-only PITCH-HALF l (suc n) e in h (negsuc n) (ap₂ _∷_ (sym (eqb-true b MINUS t)) (q .0)) (omega arith)))
       (λ _. positive-only (within (PITCH-HALF - 1) (plain (b ∷ l))) f (λ n e. let q = within-only (PITCH-HALF - 1) (b ∷ l) n e in h (pos n) (q .0) (omega arith)))
 
@@ -114,7 +114,7 @@ spaced-some (c ∷ a) b = cons-some c (a ++ (SPACE ∷ b))
 
 decimal-some : (n : ℕ) → decimal n ≢ []
 unfolding plain
-decimal-some n e = bad-fine n (ap plain (sym e) ∙ plain-decimal n)
+decimal-some n e = no-decimal n (ap plain (sym e) ∙ plain-decimal n)
 
 angle-some : (v : ℤ) → angleText v ≢ []
 angle-some (pos n) = decimal-some n
@@ -152,7 +152,7 @@ module _ (w : List ℕ) where
       let ea = rejoined (decimal rs) b (afterSpace l) er eb (spaced-some (decimal ps) c) in
       rejoined (text "store") (kindText k ++ (SPACE ∷ a)) w e (rejoined (kindText k) a l ek ea (spaced-some (decimal rs) b)) (spaced-some (kindText k) a)
 
-  store-only : text "store" ≡ upToSpace w → Inner w (making (afterSpace w))
+  store-only : text "store" ≡ upToSpace w → Inner w (storeLine (afterSpace w))
   store-only e =
       kind-only (Inner w) tt (upToSpace (afterSpace w)) _ (λ k ek fk.
       narrow-only (Inner w) tt (upToSpace (afterSpace (afterSpace w))) _ (λ rs er fr.
@@ -161,8 +161,8 @@ module _ (w : List ℕ) where
       wide-only (Inner w) tt (afterSpace (afterSpace (afterSpace (afterSpace (afterSpace w))))) (λ v. Read (Make k rs ps ss v)) (λ v ev fv.
       (store-text k rs ps ss v e ek er ep es ev, (fk, fr, fp, fs, fv)))))))
 
-  command-only : Inner w (command (word (upToSpace w)) (afterSpace w))
-  command-only = named-only (λ x. Inner w (command x (afterSpace w))) Unknown (upToSpace w) words
+  command-only : Inner w (command (keyword (upToSpace w)) (afterSpace w))
+  command-only = named-only (λ x. Inner w (command x (afterSpace w))) Unknown (upToSpace w) keywords
       (store-only
       else (λ e. one-only _ e call.Enter (λ n d f. (d, f)))
       else (λ e. two-only _ e call.Look (λ n m d f g. (d, (f, g))))
@@ -198,27 +198,27 @@ in-brackets (a ∷ k) e = go (length k) refl
         rw (m, cut) (ap (λ x. x ∷ k) (sym (eqb-true a OPEN (q .0))))
 
 -- A whole line: unread, or the command's own text.
-abbrev Own : List ℕ → Line → Type 0
-Own l Unread = Unit {0}
-Own l (Read c) = (commandText c ≡ l) × Fits c
+abbrev IsText : List ℕ → Line → Type 0
+IsText l Unread = Unit {0}
+IsText l (Read c) = (commandText c ≡ l) × Fits c
 
-own-inner : (l w : List ℕ) → inBrackets w ≡ l → (x : Line) → Inner w x → Own l x
-own-inner l w e Unread i = tt
-own-inner l w e (Read c) i = (ap inBrackets (i .0) ∙ e, i .1)
+is-text-inner : (l w : List ℕ) → inBrackets w ≡ l → (x : Line) → Inner w x → IsText l x
+is-text-inner l w e Unread i = tt
+is-text-inner l w e (Read c) i = (ap inBrackets (i .0) ∙ e, i .1)
 
-own-bracketed : (l : List ℕ) → bracketed l ≡ true → Own l (command (word (upToSpace (inner l))) (afterSpace (inner l)))
-own-bracketed l b = let w : List ℕ = inner l in own-inner l w (in-brackets l b) (command (word (upToSpace w)) (afterSpace w)) (command-only w)
+is-text-bracketed : (l : List ℕ) → bracketed l ≡ true → IsText l (command (keyword (upToSpace (inner l))) (afterSpace (inner l)))
+is-text-bracketed l b = let w : List ℕ = inner l in is-text-inner l w (in-brackets l b) (command (keyword (upToSpace w)) (afterSpace w)) (command-only w)
 
-own : (l : List ℕ) → Own l (lineOf l)
+is-text : (l : List ℕ) → IsText l (lineOf l)
 unfolding lineOf
-own l = pick-split (Own l) (ltb LINE-MAX (length l)) (λ _. tt) (λ _. pick-split (Own l) (bracketed l) (own-bracketed l) (λ _. tt))
+is-text l = pick-split (IsText l) (ltb LINE-MAX (length l)) (λ _. tt) (λ _. pick-split (IsText l) (bracketed l) (is-text-bracketed l) (λ _. tt))
 
 -- A line that is read as a command is the command's own text, and the command fits.
 pub only-text : (l : List ℕ) (c : Command) → lineOf l ≡ Read c → commandText c ≡ l
-only-text l c e = subst (Own l) e (own l) .0
+only-text l c e = subst (IsText l) e (is-text l) .0
 
 pub read-fits : (l : List ℕ) (c : Command) → lineOf l ≡ Read c → Fits c
-read-fits l c e = subst (Own l) e (own l) .1
+read-fits l c e = subst (IsText l) e (is-text l) .1
 
 -- So a line is read as a command exactly if it is the text of that command and the command fits; and it is unread exactly if it is the text of none that fits.
 pub read-exactly : (l : List ℕ) (c : Command) → (lineOf l ≡ Read c) ↔ ((commandText c ≡ l) × Fits c)

@@ -12,11 +12,11 @@ use Rattle.calls.specs.declared.Call.{Call}
 use Rattle.calls.specs.declared.Call.the-variants as call
 use Rattle.calls.specs.Numbers.{PITCH-HALF, NUMBER-MAX, KIND-NEW, KIND-OLD}
 use Rattle.sheet_law.specs.declared.Number.{Number}
-use Rattle.sheet_law.specs.declared.Number.the-variants.{Fine, Bad}
+use Rattle.sheet_law.specs.declared.Number.the-variants.{Decimal, NoNumber}
 use Rattle.sheet_law.specs.declared.Angle.{Angle}
-use Rattle.sheet_law.specs.declared.Angle.the-variants.{At, Wrong}
-use Rattle.sheet_law.specs.declared.Word.{Word}
-use Rattle.sheet_law.specs.declared.Word.the-variants.{Store, Enter, Look, Leave, Claim, Write, Swap, Sync, Raise, Walk, Release, Unknown}
+use Rattle.sheet_law.specs.declared.Angle.the-variants.{Hundredths, NoAngle}
+use Rattle.sheet_law.specs.declared.Keyword.{Keyword}
+use Rattle.sheet_law.specs.declared.Keyword.the-variants.{Store, Enter, Look, Leave, Claim, Write, Swap, Sync, Raise, Walk, Release, Unknown}
 use Rattle.sheet_law.specs.declared.Command.the-variants.{Make, Run}
 use Rattle.sheet_law.specs.declared.Line.{Line}
 use Rattle.sheet_law.specs.declared.Line.the-variants.{Read, Unread}
@@ -40,19 +40,19 @@ afterSpace (b ∷ l) = pick (eqb b SPACE) l (afterSpace l)
 
 -- Digits, read from the left after those that came to n.
 unfoldable pub digits : ℕ → List ℕ → Number
-digits n [] = Fine n
-digits n (b ∷ l) = pick (outside DIGIT-0 DIGIT-9 b) Bad (digits (n * 10 + (b - DIGIT-0)) l)
+digits n [] = Decimal n
+digits n (b ∷ l) = pick (outside DIGIT-0 DIGIT-9 b) NoNumber (digits (n * 10 + (b - DIGIT-0)) l)
 
 -- Plain decimals without leading zeros.
 unfoldable pub plain : List ℕ → Number
-plain [] = Bad
+plain [] = NoNumber
 plain (b ∷ []) = digits 0 (b ∷ [])
-plain (b ∷ c ∷ l) = pick (eqb b DIGIT-0) Bad (digits 0 (b ∷ c ∷ l))
+plain (b ∷ c ∷ l) = pick (eqb b DIGIT-0) NoNumber (digits 0 (b ∷ c ∷ l))
 
 -- A number too wide gives unread.
 abbrev pub within : ℕ → Number → Number
-within most Bad = Bad
-within most (Fine n) = pick (ltb most n) Bad (Fine n)
+within most NoNumber = NoNumber
+within most (Decimal n) = pick (ltb most n) NoNumber (Decimal n)
 
 abbrev pub narrow : List ℕ → Number
 narrow l = within NARROW-MAX (plain l)
@@ -62,16 +62,16 @@ wide l = within NUMBER-MAX (plain l)
 
 -- A minus for a negative pitch; `-0` gives unread.
 abbrev pub negative : Number → Angle
-negative Bad = Wrong
-negative (Fine zero) = Wrong
-negative (Fine (suc n)) = At (negsuc n)
+negative NoNumber = NoAngle
+negative (Decimal zero) = NoAngle
+negative (Decimal (suc n)) = Hundredths (negsuc n)
 
 abbrev pub positive : Number → Angle
-positive Bad = Wrong
-positive (Fine n) = At (pos n)
+positive NoNumber = NoAngle
+positive (Decimal n) = Hundredths (pos n)
 
 unfoldable pub angle : List ℕ → Angle
-angle [] = Wrong
+angle [] = NoAngle
 angle (b ∷ l) = pick (eqb b MINUS) (negative (within PITCH-HALF (plain l))) (positive (within (PITCH-HALF - 1) (plain (b ∷ l))))
 
 -- Words with what they name. A text names what the first row with that text does; `none` if there is no such row.
@@ -79,13 +79,13 @@ infix 70 _names_
 pub data Row (A : Type 0) : Type 0 where
   _names_ : String → A → Row A
 
-unfoldable pub named : {A : Type 0} → List (Row A) → A → List ℕ → A
-named [] none w = none
-named ((t names x) ∷ rows) none w = pick (same w (text t)) x (named rows none w)
+unfoldable pub namedIn : {A : Type 0} → List (Row A) → A → List ℕ → A
+namedIn [] none w = none
+namedIn ((t names x) ∷ rows) none w = pick (same w (text t)) x (namedIn rows none w)
 
 -- Words are the calls in small letters and `store`.
-abbrev pub words : List (Row Word)
-words =
+abbrev pub keywords : List (Row Keyword)
+keywords =
     "store" names Store
     ∷ "enter" names Enter
     ∷ "look" names Look
@@ -99,52 +99,52 @@ words =
     ∷ "release" names Release
     ∷ []
 
-abbrev pub word : List ℕ → Word
-word w = named words Unknown w
+abbrev pub keyword : List ℕ → Keyword
+keyword w = namedIn keywords Unknown w
 
 -- `store`, whose kind is `new` or `old`.
 abbrev pub kinds : List (Row Number)
 kinds =
-    "new" names Fine KIND-NEW
-    ∷ "old" names Fine KIND-OLD
+    "new" names Decimal KIND-NEW
+    ∷ "old" names Decimal KIND-OLD
     ∷ []
 
 abbrev pub kindNamed : List ℕ → Number
-kindNamed w = named kinds Bad w
+kindNamed w = namedIn kinds NoNumber w
 
 -- A line with an argument that is not read is unread.
-abbrev pub given : Number → (ℕ → Line) → Line
-given Bad f = Unread
-given (Fine n) f = f n
+abbrev pub ifNumber : Number → (ℕ → Line) → Line
+ifNumber NoNumber f = Unread
+ifNumber (Decimal n) f = f n
 
-abbrev pub givenAngle : Angle → (ℤ → Line) → Line
-givenAngle Wrong f = Unread
-givenAngle (At v) f = f v
+abbrev pub ifAngle : Angle → (ℤ → Line) → Line
+ifAngle NoAngle f = Unread
+ifAngle (Hundredths v) f = f v
 
 -- The arguments of a call: a reader or a publisher; with a second number, an entry, a slot or a number of looks; with a pitch.
 abbrev pub one : List ℕ → (ℕ → Call) → Line
-one l build = given (narrow l) (λ n. Read (Run (build n)))
+one l build = ifNumber (narrow l) (λ n. Read (Run (build n)))
 
 abbrev pub two : List ℕ → (ℕ → ℕ → Call) → Line
-two l build = given (narrow (upToSpace l)) (λ n. given (narrow (afterSpace l)) (λ m. Read (Run (build n m))))
+two l build = ifNumber (narrow (upToSpace l)) (λ n. ifNumber (narrow (afterSpace l)) (λ m. Read (Run (build n m))))
 
 abbrev pub pitched : List ℕ → (ℕ → ℤ → Call) → Line
-pitched l build = given (narrow (upToSpace l)) (λ n. givenAngle (angle (afterSpace l)) (λ v. Read (Run (build n v))))
+pitched l build = ifNumber (narrow (upToSpace l)) (λ n. ifAngle (angle (afterSpace l)) (λ v. Read (Run (build n v))))
 
 -- (kind, readers, publishers, slots, first version)
-abbrev pub makingOf : ℕ → ℕ → List ℕ → Line
-makingOf k rs l =
-    given (narrow (upToSpace l)) (λ ps.
-    given (narrow (upToSpace (afterSpace l))) (λ ss.
-    given (wide (afterSpace (afterSpace l))) (λ v.
+abbrev pub storeLineRest : ℕ → ℕ → List ℕ → Line
+storeLineRest k rs l =
+    ifNumber (narrow (upToSpace l)) (λ ps.
+    ifNumber (narrow (upToSpace (afterSpace l))) (λ ss.
+    ifNumber (wide (afterSpace (afterSpace l))) (λ v.
     Read (Make k rs ps ss v))))
 
-abbrev pub making : List ℕ → Line
-making l = given (kindNamed (upToSpace l)) (λ k. given (narrow (upToSpace (afterSpace l))) (λ rs. makingOf k rs (afterSpace (afterSpace l))))
+abbrev pub storeLine : List ℕ → Line
+storeLine l = ifNumber (kindNamed (upToSpace l)) (λ k. ifNumber (narrow (upToSpace (afterSpace l))) (λ rs. storeLineRest k rs (afterSpace (afterSpace l))))
 
 -- Each word: how its arguments are read, and the call that they make.
-abbrev pub command : Word → List ℕ → Line
-command Store l = making l
+abbrev pub command : Keyword → List ℕ → Line
+command Store l = storeLine l
 command Enter l = one l call.Enter
 command Look l = two l call.Look
 command Leave l = one l call.Leave
@@ -166,4 +166,4 @@ inner l = take (length l - 2) (drop 1 l)
 
 -- A line is a bracketed word with arguments; a misshapen or empty line or one over 80 bytes gives unread.
 unfoldable pub lineOf : List ℕ → Line
-lineOf l = pick (ltb LINE-MAX (length l)) Unread (pick (bracketed l) (command (word (upToSpace (inner l))) (afterSpace (inner l))) Unread)
+lineOf l = pick (ltb LINE-MAX (length l)) Unread (pick (bracketed l) (command (keyword (upToSpace (inner l))) (afterSpace (inner l))) Unread)

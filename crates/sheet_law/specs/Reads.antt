@@ -14,7 +14,7 @@ use Rattle.statement.specs.Machine.{State}
 use Rattle.sheet_law.specs.declared.Line.the-variants.{Unread}
 use Rattle.sheet_law.specs.Text.{NEWLINE}
 use Rattle.sheet_law.specs.Reading.{LINE-MAX, lineOf}
-use Rattle.sheet_law.specs.Sheet.{unmade, lineFor, afterLine, next, linesFrom, printedFor, sheet, SheetState, sheetState, start, joined, byte, saidAt, fed, printed, ending}
+use Rattle.sheet_law.specs.Sheet.{unmade, lineFor, afterLine, nextLine, linesFrom, printedFor, sheet, SheetState, sheetState, start, joined, byte, saidAt, fed, printed, ending}
 
 -- Two texts after each other.
 pub fed-append : (d : SheetState) (t u : List ℕ) → fed d (t ++ u) ≡ fed (fed d t) u
@@ -55,7 +55,7 @@ printedToEnd d t = printed d t ++ printed (fed d t) (ending (fed d t .begun))
 
 -- The next byte ends the line or joins it.
 module _ (b : ℕ) (t : List ℕ) (n : ℕ) (k : List ℕ) (s : State) where
-  next-byte : printedToEnd (sheetState (next n) [] (afterLine s (lineFor s k))) t ≡ printedFor (next n) (afterLine s (lineFor s k)) (linesFrom [] t)
+  next-byte : printedToEnd (sheetState (nextLine n) [] (afterLine s (lineFor s k))) t ≡ printedFor (nextLine n) (afterLine s (lineFor s k)) (linesFrom [] t)
       → printedToEnd (sheetState n (take KEPT (k ++ (b ∷ []))) s) t ≡ printedFor n s (linesFrom (k ++ (b ∷ [])) t)
       → saidAt (sheetState n (take KEPT k) s) b ++ printedToEnd (byte (sheetState n (take KEPT k) s) b) t ≡ printedFor n s (linesFrom k (b ∷ t))
   unfolding printedFor linesFrom
@@ -69,7 +69,7 @@ from-state : (t : List ℕ) (n : ℕ) (k : List ℕ) (s : State) → printedToEn
 unfolding fed printed printedFor linesFrom
 from-state [] n [] s = refl
 from-state [] n (b ∷ k) s = rw (kept-read (b ∷ k)) refl
-from-state (b ∷ t) n k s = append-assoc (saidAt (sheetState n (take KEPT k) s) b) _ _ ∙ next-byte b t n k s (from-state t (next n) [] (afterLine s (lineFor s k))) (from-state t n (k ++ (b ∷ [])) s)
+from-state (b ∷ t) n k s = append-assoc (saidAt (sheetState n (take KEPT k) s) b) _ _ ∙ next-byte b t n k s (from-state t (nextLine n) [] (afterLine s (lineFor s k))) (from-state t n (k ++ (b ∷ [])) s)
 
 -- The reading byte by byte prints what the whole sheet's definition says.
 pub whole : (t : List ℕ) → printed start (t ++ ending (fed start t .begun)) ≡ sheet t
@@ -89,6 +89,6 @@ reads-from d (r ∷ rs) =
     (sym (append-assoc (printed d r) (printed (fed d r) (flatten rs)) (printed (fed (fed d r) (flatten rs)) (ending (fed (fed d r) (flatten rs) .begun)))))
 
 -- However the input is cut into reads, the output is that of the whole sheet.
-pub cut : (rs : List (List ℕ)) → printedReads start rs ≡ sheet (flatten rs)
+pub reads-join : (rs : List (List ℕ)) → printedReads start rs ≡ sheet (flatten rs)
 unfolding sheet
-cut rs = reads-from start rs ∙ from-state (flatten rs) 0 [] unmade
+reads-join rs = reads-from start rs ∙ from-state (flatten rs) 0 [] unmade

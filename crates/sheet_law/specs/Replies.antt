@@ -13,57 +13,57 @@ use Rattle.calls.specs.declared.Reply.the-variants as reply
 use Rattle.calls.specs.declared.WalkReply.{WalkReply}
 use Rattle.calls.specs.declared.WalkReply.the-variants.{Waiting, Spent, Quiet, Returned}
 use Rattle.sheet_law.specs.declared.Number.{Number}
-use Rattle.sheet_law.specs.declared.Number.the-variants.{Fine, Bad}
+use Rattle.sheet_law.specs.declared.Number.the-variants.{Decimal, NoNumber}
 use Rattle.sheet_law.specs.declared.Angle.{Angle}
-use Rattle.sheet_law.specs.declared.Angle.the-variants.{At, Wrong}
+use Rattle.sheet_law.specs.declared.Angle.the-variants.{Hundredths, NoAngle}
 use Rattle.sheet_law.specs.Text.{text, same, SPACE, decimal}
 use Rattle.sheet_law.specs.Reading.{upToSpace, afterSpace, plain}
 use Rattle.sheet_law.specs.Printing.{walkText, replyText, printedLine}
 use Rattle.sheet_law.specs.Decimals.{decimal-injective, plain-decimal, decimal-up-to-space, decimal-after-space, signed, signed-decimal}
 
 -- A number, two of them and a pitch of any width, read for a reply.
-abbrev number : Number → (ℕ → Reply) → Option Reply
-number Bad f = none
-number (Fine n) f = some (f n)
+abbrev replyWithNumber : Number → (ℕ → Reply) → Option Reply
+replyWithNumber NoNumber f = none
+replyWithNumber (Decimal n) f = some (f n)
 
-abbrev numbers : Number → Number → (ℕ → ℕ → Reply) → Option Reply
-numbers Bad y f = none
-numbers (Fine n) y f = number y (f n)
+abbrev replyWithNumbers : Number → Number → (ℕ → ℕ → Reply) → Option Reply
+replyWithNumbers NoNumber y f = none
+replyWithNumbers (Decimal n) y f = replyWithNumber y (f n)
 
-abbrev pitch : Angle → Option Reply
-pitch Wrong = none
-pitch (At v) = some (reply.Pitch v)
+abbrev replyWithPitch : Angle → Option Reply
+replyWithPitch NoAngle = none
+replyWithPitch (Hundredths v) = some (reply.Pitch v)
 
 -- The reply that a text is of, if any.
 abbrev pub replyNamed : List ℕ → Option Reply
 replyNamed l =
     pick (same (upToSpace l) (text "made")) (some reply.Made)
-    (pick (same (upToSpace l) (text "at")) (number (plain (afterSpace l)) reply.At)
-    (pick (same (upToSpace l) (text "pitch")) (pitch (signed (λ x. x) (λ x. x) (afterSpace l)))
+    (pick (same (upToSpace l) (text "at")) (replyWithNumber (plain (afterSpace l)) reply.At)
+    (pick (same (upToSpace l) (text "pitch")) (replyWithPitch (signed (λ x. x) (λ x. x) (afterSpace l)))
     (pick (same (upToSpace l) (text "left")) (some reply.Left)
-    (pick (same (upToSpace l) (text "claimed")) (number (plain (afterSpace l)) reply.Claimed)
-    (pick (same (upToSpace l) (text "written")) (number (plain (afterSpace l)) reply.Written)
-    (pick (same (upToSpace l) (text "swapped")) (number (plain (afterSpace l)) reply.Swapped)
-    (pick (same (upToSpace l) (text "synced")) (number (plain (afterSpace l)) reply.Synced)
+    (pick (same (upToSpace l) (text "claimed")) (replyWithNumber (plain (afterSpace l)) reply.Claimed)
+    (pick (same (upToSpace l) (text "written")) (replyWithNumber (plain (afterSpace l)) reply.Written)
+    (pick (same (upToSpace l) (text "swapped")) (replyWithNumber (plain (afterSpace l)) reply.Swapped)
+    (pick (same (upToSpace l) (text "synced")) (replyWithNumber (plain (afterSpace l)) reply.Synced)
     (pick (same (upToSpace l) (text "raised")) (some reply.Raised)
     (pick (same (upToSpace l) (text "shared")) (some reply.Shared)
-    (pick (same (upToSpace l) (text "waiting")) (number (plain (afterSpace l)) (λ w. reply.Walked (Waiting w)))
+    (pick (same (upToSpace l) (text "waiting")) (replyWithNumber (plain (afterSpace l)) (λ w. reply.Walked (Waiting w)))
     (pick (same (upToSpace l) (text "spent")) (some (reply.Walked Spent))
     (pick (same (upToSpace l) (text "quiet")) (some (reply.Walked Quiet))
-    (pick (same (upToSpace l) (text "returned")) (numbers (plain (upToSpace (afterSpace l))) (plain (afterSpace (afterSpace l))) (λ a w. reply.Walked (Returned a w)))
-    (pick (same (upToSpace l) (text "freed")) (numbers (plain (upToSpace (afterSpace l))) (plain (afterSpace (afterSpace l))) reply.Freed)
-    (pick (same (upToSpace l) (text "refused")) (number (plain (afterSpace l)) reply.Refused)
+    (pick (same (upToSpace l) (text "returned")) (replyWithNumbers (plain (upToSpace (afterSpace l))) (plain (afterSpace (afterSpace l))) (λ a w. reply.Walked (Returned a w)))
+    (pick (same (upToSpace l) (text "freed")) (replyWithNumbers (plain (upToSpace (afterSpace l))) (plain (afterSpace (afterSpace l))) reply.Freed)
+    (pick (same (upToSpace l) (text "refused")) (replyWithNumber (plain (afterSpace l)) reply.Refused)
     none)))))))))))))))
 
-number-back : (n : ℕ) (f : ℕ → Reply) → number (plain (decimal n)) f ≡ some (f n)
+number-back : (n : ℕ) (f : ℕ → Reply) → replyWithNumber (plain (decimal n)) f ≡ some (f n)
 number-back n f = rw (plain-decimal n) refl
 
-numbers-back : (n m : ℕ) (f : ℕ → ℕ → Reply) → numbers (plain (upToSpace (decimal n ++ (SPACE ∷ decimal m)))) (plain (afterSpace (decimal n ++ (SPACE ∷ decimal m)))) f ≡ some (f n m)
+numbers-back : (n m : ℕ) (f : ℕ → ℕ → Reply) → replyWithNumbers (plain (upToSpace (decimal n ++ (SPACE ∷ decimal m)))) (plain (afterSpace (decimal n ++ (SPACE ∷ decimal m)))) f ≡ some (f n m)
 numbers-back n m f = rw (decimal-up-to-space n (decimal m), decimal-after-space n (decimal m), plain-decimal n, plain-decimal m) refl
 
 pitch-back : (v : ℤ) → replyNamed (replyText (reply.Pitch v)) ≡ some (reply.Pitch v)
 unfolding upToSpace afterSpace
-pitch-back (pos n) = ap pitch (signed-decimal (λ x. x) (λ x. x) n)
+pitch-back (pos n) = ap replyWithPitch (signed-decimal (λ x. x) (λ x. x) n)
 pitch-back (negsuc n) = rw (plain-decimal (suc n)) refl
 
 walk-back : (o : WalkReply) → replyNamed (walkText o) ≡ some (reply.Walked o)

@@ -9,7 +9,7 @@ use Rattle.base.specs.Base.{pick}
 use Rattle.calls.specs.Numbers.{MODULUS, TABLE, SLOTS-MAX}
 use Rattle.layout.specs.Layout.{WORDS, kind, slots}
 use Rattle.statement.specs.Machine.{State, state, Outcome, outcome, given}
-use Rattle.kinds_law.specs.Kinds.{named, anyStep, lackedBy, anyMaking}
+use Rattle.kinds_law.specs.Kinds.{kindOfNumber, anyStep, lackedBy, anyMaking}
 use Rattle.sheet_law.specs.declared.Command.{Command}
 use Rattle.sheet_law.specs.declared.Command.the-variants.{Make, Run}
 use Rattle.sheet_law.specs.declared.Line.{Line}
@@ -42,7 +42,7 @@ played s (Run c) = lent (slots (s .words) * TABLE) (λ (t : State). anyStep t c)
 abbrev pub known : ℕ → Line → Line
 known kind Unread = Unread
 known kind (Read (Make k rs ps ss v)) = Read (Make k rs ps ss v)
-known kind (Read (Run c)) = pick (lackedBy (named kind) c) Unread (Read (Run c))
+known kind (Read (Run c)) = pick (lackedBy (kindOfNumber kind) c) Unread (Read (Run c))
 
 abbrev pub lineFor : State → List ℕ → Line
 lineFor s l = known (kind (s .words)) (lineOf l)
@@ -57,8 +57,8 @@ afterLine s Unread = s
 afterLine s (Read c) = played s c .after
 
 -- The number of the line after n lines, in 64 bits.
-abbrev pub next : ℕ → ℕ
-next n = (n + 1) % MODULUS
+abbrev pub nextLine : ℕ → ℕ
+nextLine n = (n + 1) % MODULUS
 
 abbrev pub isEmpty : List ℕ → Bool
 isEmpty [] = true
@@ -75,7 +75,7 @@ linesOf t = linesFrom [] t
 -- One line is printed for each line, after n lines.
 unfoldable pub printedFor : ℕ → State → List (List ℕ) → List ℕ
 printedFor n s [] = []
-printedFor n s (l ∷ ls) = printedLine (next n) (saidTo s (lineFor s l)) ++ printedFor (next n) (afterLine s (lineFor s l)) ls
+printedFor n s (l ∷ ls) = printedLine (nextLine n) (saidTo s (lineFor s l)) ++ printedFor (nextLine n) (afterLine s (lineFor s l)) ls
 
 -- The whole sheet.
 unfoldable pub sheet : List ℕ → List ℕ
@@ -99,10 +99,10 @@ joined k b = pick (ltb LINE-MAX (length k)) k (k ++ (b ∷ []))
 
 -- A newline ends the line and every other byte joins it.
 abbrev pub byte : SheetState → ℕ → SheetState
-byte d b = pick (eqb b NEWLINE) (sheetState (next (d .lines)) [] (afterLine (d .store) (lineFor (d .store) (d .begun)))) (sheetState (d .lines) (joined (d .begun) b) (d .store))
+byte d b = pick (eqb b NEWLINE) (sheetState (nextLine (d .lines)) [] (afterLine (d .store) (lineFor (d .store) (d .begun)))) (sheetState (d .lines) (joined (d .begun) b) (d .store))
 
 abbrev pub saidAt : SheetState → ℕ → List ℕ
-saidAt d b = pick (eqb b NEWLINE) (printedLine (next (d .lines)) (saidTo (d .store) (lineFor (d .store) (d .begun)))) []
+saidAt d b = pick (eqb b NEWLINE) (printedLine (nextLine (d .lines)) (saidTo (d .store) (lineFor (d .store) (d .begun)))) []
 
 unfoldable pub fed : SheetState → List ℕ → SheetState
 fed d [] = d

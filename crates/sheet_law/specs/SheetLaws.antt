@@ -12,22 +12,22 @@ use Rattle.calls.specs.declared.Reply.the-variants.{Refused}
 use Rattle.calls.specs.Numbers.{TABLE, NUMBER-MAX, DAMAGED}
 use Rattle.layout.specs.Layout.{kind}
 use Rattle.statement.specs.Machine.{State, state, outcome, given}
-use Rattle.kinds_law.specs.Kinds.{Name, named, anyStep, lackedBy}
-use Rattle.kinds_law.specs.Kinds.Name.{new, old}
+use Rattle.kinds_law.specs.Kinds.{Kind, kindOfNumber, anyStep, lackedBy}
+use Rattle.kinds_law.specs.Kinds.Kind.{new, old}
 use Rattle.kinds_law.specs.Calls.{any-making-leaves}
 use Rattle.sheet_law.specs.declared.Command.the-variants.{Make, Run}
 use Rattle.sheet_law.specs.declared.Line.{Line}
 use Rattle.sheet_law.specs.declared.Line.the-variants.{Read, Unread}
 use Rattle.sheet_law.specs.Text.{text}
 use Rattle.sheet_law.specs.Reading.{lineOf}
-use Rattle.sheet_law.specs.Sheet.{unmade, played, known, lineFor, afterLine, saidTo, next}
+use Rattle.sheet_law.specs.Sheet.{unmade, played, known, lineFor, afterLine, saidTo, nextLine}
 
 -- Below 2 ^ 64 - 1 the number of the next line is one more.
-pub next-is : (n : ℕ) → n < NUMBER-MAX → next n ≡ n + 1
+pub next-is : (n : ℕ) → n < NUMBER-MAX → nextLine n ≡ n + 1
 next-is n l = omega arith
 
 -- Every line is read as its bytes say: no kind lacks a call today.
-lacks-none : (o : Option Name) (c : Call) → lackedBy o c ≡ false
+lacks-none : (o : Option Kind) (c : Call) → lackedBy o c ≡ false
 lacks-none none c = refl
 lacks-none (some new) c = refl
 lacks-none (some old) c = refl
@@ -38,7 +38,7 @@ known-all s l = go (lineOf l)
     go : (x : Line) → known (kind (s .words)) x ≡ x
     go Unread = refl
     go (Read (Make k rs ps ss v)) = refl
-    go (Read (Run c)) = rw (lacks-none (named (kind (s .words))) c) refl
+    go (Read (Run c)) = rw (lacks-none (kindOfNumber (kind (s .words))) c) refl
 
 -- An unread line makes no call: it says `unread`, and the store is the one before.
 pub unread-makes-no-call : (s : State) (l : List ℕ) → lineOf l ≡ Unread → (saidTo s (lineFor s l) ≡ text "unread") × (afterLine s (lineFor s l) ≡ s)
@@ -46,7 +46,7 @@ unread-makes-no-call s l e = rw e (refl, refl)
 
 -- Before a made store a call gets 1, and there is still none.
 pub before-made : (c : Call) → played unmade (Run c) ≡ outcome (Refused DAMAGED) unmade
-unfolding played anyStep named
+unfolding played anyStep kindOfNumber
 before-made c = refl
 
 -- A refused `store` leaves the one before, since a refused making leaves what was lent.

@@ -10,47 +10,47 @@ use lib.Seq.{take-all}
 use borrow.Author.Tests.{lt-ltb, le-ltb, ltb-false, ltb-true}
 use Rattle.base.specs.Base.{pick}
 use Rattle.sheet_law.specs.declared.Number.{Number}
-use Rattle.sheet_law.specs.declared.Number.the-variants.{Fine, Bad}
+use Rattle.sheet_law.specs.declared.Number.the-variants.{Decimal, NoNumber}
 use Rattle.sheet_law.specs.Reading.{within}
 
 -- What is read is one number, or none.
-pub fine-same : (n m : ℕ) → Fine n ≡ Fine m → n ≡ m
-fine-same n m e = cc
+pub decimal-same : (n m : ℕ) → Decimal n ≡ Decimal m → n ≡ m
+decimal-same n m e = cc
 
-pub bad-fine : (n : ℕ) → Bad ≡ Fine n → ⊥
-bad-fine n e = let z : _≡_ {A = ℕ} 0 1 = cc in omega arith
+pub no-decimal : (n : ℕ) → NoNumber ≡ Decimal n → ⊥
+no-decimal n e = let z : _≡_ {A = ℕ} 0 1 = cc in omega arith
 
 -- What is at most a number, and what is not.
-pub within-fine : (most n : ℕ) → n ≤ most → within most (Fine n) ≡ Fine n
-within-fine most n h = rw (le-ltb most n h) refl
+pub within-decimal : (most n : ℕ) → n ≤ most → within most (Decimal n) ≡ Decimal n
+within-decimal most n h = rw (le-ltb most n h) refl
 
-pub within-bad : (most n : ℕ) → most < n → within most (Fine n) ≡ Bad
+pub within-bad : (most n : ℕ) → most < n → within most (Decimal n) ≡ NoNumber
 within-bad most n h = rw (lt-ltb most n h) refl
 
-pub within-most : (most : ℕ) (x : Number) (n : ℕ) → within most x ≡ Fine n → n ≤ most
-within-most most Bad n e = absurd (bad-fine n e)
-within-most most (Fine m) n e = go (ltb most m) refl e
+pub within-most : (most : ℕ) (x : Number) (n : ℕ) → within most x ≡ Decimal n → n ≤ most
+within-most most NoNumber n e = absurd (no-decimal n e)
+within-most most (Decimal m) n e = go (ltb most m) refl e
   where
-    go : (t : Bool) → t ≡ ltb most m → pick t Bad (Fine m) ≡ Fine n → n ≤ most
-    go true d f = absurd (bad-fine n f)
-    go false d f = let a : m ≤ most = ltb-false most m (sym d) in omega (arith, a, fine-same m n f)
+    go : (t : Bool) → t ≡ ltb most m → pick t NoNumber (Decimal m) ≡ Decimal n → n ≤ most
+    go true d f = absurd (no-decimal n f)
+    go false d f = let a : m ≤ most = ltb-false most m (sym d) in omega (arith, a, decimal-same m n f)
 
-pub within-is : (most : ℕ) (x : Number) (n : ℕ) → within most x ≡ Fine n → x ≡ Fine n
-within-is most Bad n e = e
-within-is most (Fine m) n e = go (ltb most m) e
+pub within-is : (most : ℕ) (x : Number) (n : ℕ) → within most x ≡ Decimal n → x ≡ Decimal n
+within-is most NoNumber n e = e
+within-is most (Decimal m) n e = go (ltb most m) e
   where
-    go : (t : Bool) → pick t Bad (Fine m) ≡ Fine n → Fine m ≡ Fine n
-    go true f = absurd (bad-fine n f)
+    go : (t : Bool) → pick t NoNumber (Decimal m) ≡ Decimal n → Decimal m ≡ Decimal n
+    go true f = absurd (no-decimal n f)
     go false f = f
 
 -- What is too wide for the greater bound is too wide for the less.
-pub within-less : (less more : ℕ) (x : Number) → less ≤ more → within more x ≡ Bad → within less x ≡ Bad
-within-less less more Bad h e = refl
-within-less less more (Fine m) h e = go (ltb more m) refl e
+pub within-less : (less more : ℕ) (x : Number) → less ≤ more → within more x ≡ NoNumber → within less x ≡ NoNumber
+within-less less more NoNumber h e = refl
+within-less less more (Decimal m) h e = go (ltb more m) refl e
   where
-    go : (t : Bool) → t ≡ ltb more m → pick t Bad (Fine m) ≡ Bad → within less (Fine m) ≡ Bad
+    go : (t : Bool) → t ≡ ltb more m → pick t NoNumber (Decimal m) ≡ NoNumber → within less (Decimal m) ≡ NoNumber
     go true d f = let a : more < m = ltb-true more m (sym d) in within-bad less m (omega arith)
-    go false d f = absurd (bad-fine m (sym f))
+    go false d f = absurd (no-decimal m (sym f))
 
 -- a part that reaches the end
 pub tail : (n : ℕ) (l : List ℕ) → take (length l - n) (drop n l) ≡ drop n l

@@ -14,17 +14,17 @@ pub const NARROW_MAX: u64 = 65535;
 
 // A decimal, or what is none.
 pub enum Number {
-    Fine(u64),
-    Bad,
+    Decimal(u64),
+    NoNumber,
 }
 
 pub enum Angle {
-    At(Pitch),
-    Wrong,
+    Hundredths(Pitch),
+    NoAngle,
 }
 
 // The words that begin a line.
-pub enum Word {
+pub enum Keyword {
     Store,
     Enter,
     Look,

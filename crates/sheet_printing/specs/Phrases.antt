@@ -6,15 +6,15 @@ use lib.Dec.{eqb}
 use lib.ListN.{take}
 use Rattle.base.specs.Base.{pick}
 use Rattle.sheet_law.specs.Printing.{withOne, withTwo}
-use Rattle.sheet_printing.specs.declared.Word.{Word}
+use Rattle.sheet_printing.specs.declared.ReplyWord.{ReplyWord}
 use Rattle.sheet_printing.specs.declared.Phrase.{Phrase}
 
 -- A word is the first of its bytes.
-abbrev pub wordText : Word → List ℕ
+abbrev pub wordText : ReplyWord → List ℕ
 wordText w = take (w .1) (w .0)
 
 -- A word with as many numbers as come after it: none, one or two.
-abbrev pub withNumbers : Word → ℕ → ℕ → List ℕ
+abbrev pub withNumbers : ReplyWord → ℕ → ℕ → List ℕ
 withNumbers w a b = pick (eqb (w .2) 0) (wordText w) (pick (eqb (w .2) 1) (withOne (wordText w) a) (withTwo (wordText w) a b))
 
 abbrev pub phraseText : Phrase → List ℕ

@@ -79,52 +79,52 @@ fn put_number(out: &mut [u8], at: usize, n: u64) -> usize
 }
 
 // A word that begins a reply: its bytes with spaces after them, how many bytes count, and how many numbers follow.
-struct Word([u8; WORD_MAX], usize, usize);
+struct ReplyWord([u8; WORD_MAX], usize, usize);
 
-const MADE: Word = Word(*b"made     ", 4, 0);
+const MADE: ReplyWord = ReplyWord(*b"made     ", 4, 0);
 
-const AT: Word = Word(*b"at       ", 3, 1);
+const AT: ReplyWord = ReplyWord(*b"at       ", 3, 1);
 
-const PITCH: Word = Word(*b"pitch    ", 6, 1);
+const PITCH: ReplyWord = ReplyWord(*b"pitch    ", 6, 1);
 
-const PITCH_BELOW: Word = Word(*b"pitch -  ", 7, 1);
+const PITCH_BELOW: ReplyWord = ReplyWord(*b"pitch -  ", 7, 1);
 
-const LEFT: Word = Word(*b"left     ", 4, 0);
+const LEFT: ReplyWord = ReplyWord(*b"left     ", 4, 0);
 
-const CLAIMED: Word = Word(*b"claimed  ", 8, 1);
+const CLAIMED: ReplyWord = ReplyWord(*b"claimed  ", 8, 1);
 
-const WRITTEN: Word = Word(*b"written  ", 8, 1);
+const WRITTEN: ReplyWord = ReplyWord(*b"written  ", 8, 1);
 
-const SWAPPED: Word = Word(*b"swapped  ", 8, 1);
+const SWAPPED: ReplyWord = ReplyWord(*b"swapped  ", 8, 1);
 
-const SYNCED: Word = Word(*b"synced   ", 7, 1);
+const SYNCED: ReplyWord = ReplyWord(*b"synced   ", 7, 1);
 
-const RAISED: Word = Word(*b"raised   ", 6, 0);
+const RAISED: ReplyWord = ReplyWord(*b"raised   ", 6, 0);
 
-const SHARED: Word = Word(*b"shared   ", 6, 0);
+const SHARED: ReplyWord = ReplyWord(*b"shared   ", 6, 0);
 
-const WAITING: Word = Word(*b"waiting  ", 8, 1);
+const WAITING: ReplyWord = ReplyWord(*b"waiting  ", 8, 1);
 
-const SPENT: Word = Word(*b"spent    ", 5, 0);
+const SPENT: ReplyWord = ReplyWord(*b"spent    ", 5, 0);
 
-const QUIET: Word = Word(*b"quiet    ", 5, 0);
+const QUIET: ReplyWord = ReplyWord(*b"quiet    ", 5, 0);
 
-const RETURNED: Word = Word(*b"returned ", 9, 2);
+const RETURNED: ReplyWord = ReplyWord(*b"returned ", 9, 2);
 
-const FREED: Word = Word(*b"freed    ", 6, 2);
+const FREED: ReplyWord = ReplyWord(*b"freed    ", 6, 2);
 
-const REFUSED: Word = Word(*b"refused  ", 8, 1);
+const REFUSED: ReplyWord = ReplyWord(*b"refused  ", 8, 1);
 
-const UNREAD: Word = Word(*b"unread   ", 6, 0);
+const UNREAD: ReplyWord = ReplyWord(*b"unread   ", 6, 0);
 
 // What a line says: a word, and its numbers.
 struct Phrase {
-    word: Word,
+    word: ReplyWord,
     first: u64,
     second: u64,
 }
 
-fn say(word: Word, first: u64, second: u64) -> Phrase
+fn phrase_of(word: ReplyWord, first: u64, second: u64) -> Phrase
     requires { ⌜ word .1 ≤ 9 ⌝ }
     ensures { λ p. ⌜ Says p (withNumbers word first second) ⌝ }
 {
@@ -146,44 +146,44 @@ fn size(v: Pitch) -> u64
     }
 }
 
-fn say_pitch(v: Pitch) -> Phrase
+fn pitch_phrase(v: Pitch) -> Phrase
     ensures { λ p. ⌜ Says p (pitchText v) ⌝ }
 {
     if v < 0 {
-        say(PITCH_BELOW, size(v), 0)
+        phrase_of(PITCH_BELOW, size(v), 0)
     } else {
-        say(PITCH, size(v), 0)
+        phrase_of(PITCH, size(v), 0)
     }
 }
 
-fn say_walk(o: WalkReply) -> Phrase
+fn walk_phrase(o: WalkReply) -> Phrase
     ensures { λ p. ⌜ Says p (walkText o) ⌝ }
 {
     match o {
-        WalkReply::Waiting(w) => say(WAITING, w, 0),
-        WalkReply::Spent => say(SPENT, 0, 0),
-        WalkReply::Quiet => say(QUIET, 0, 0),
-        WalkReply::Returned(looks, waits) => say(RETURNED, looks, waits),
+        WalkReply::Waiting(w) => phrase_of(WAITING, w, 0),
+        WalkReply::Spent => phrase_of(SPENT, 0, 0),
+        WalkReply::Quiet => phrase_of(QUIET, 0, 0),
+        WalkReply::Returned(looks, waits) => phrase_of(RETURNED, looks, waits),
     }
 }
 
-fn say_reply(a: Reply) -> Phrase
+fn reply_phrase(a: Reply) -> Phrase
     ensures { λ p. ⌜ Says p (replyText a) ⌝ }
 {
     match a {
-        Reply::Made => say(MADE, 0, 0),
-        Reply::At(n) => say(AT, n, 0),
-        Reply::Pitch(v) => say_pitch(v),
-        Reply::Left => say(LEFT, 0, 0),
-        Reply::Claimed(s) => say(CLAIMED, s, 0),
-        Reply::Written(n) => say(WRITTEN, n, 0),
-        Reply::Swapped(s) => say(SWAPPED, s, 0),
-        Reply::Synced(m) => say(SYNCED, m, 0),
-        Reply::Raised => say(RAISED, 0, 0),
-        Reply::Shared => say(SHARED, 0, 0),
-        Reply::Walked(o) => say_walk(o),
-        Reply::Freed(s, n) => say(FREED, s, n),
-        Reply::Refused(n) => say(REFUSED, n, 0),
+        Reply::Made => phrase_of(MADE, 0, 0),
+        Reply::At(n) => phrase_of(AT, n, 0),
+        Reply::Pitch(v) => pitch_phrase(v),
+        Reply::Left => phrase_of(LEFT, 0, 0),
+        Reply::Claimed(s) => phrase_of(CLAIMED, s, 0),
+        Reply::Written(n) => phrase_of(WRITTEN, n, 0),
+        Reply::Swapped(s) => phrase_of(SWAPPED, s, 0),
+        Reply::Synced(m) => phrase_of(SYNCED, m, 0),
+        Reply::Raised => phrase_of(RAISED, 0, 0),
+        Reply::Shared => phrase_of(SHARED, 0, 0),
+        Reply::Walked(o) => walk_phrase(o),
+        Reply::Freed(s, n) => phrase_of(FREED, s, n),
+        Reply::Refused(n) => phrase_of(REFUSED, n, 0),
     }
 }
 
@@ -241,11 +241,11 @@ fn print_line(out: &mut [u8], at: usize, n: u64, p: Phrase) -> usize
 pub fn print_reply(out: &mut [u8], at: usize, n: u64, a: Reply) -> usize
     ensures { λ r. ⌜ Printed (printedLine n (replyText a)) (now (out .entry)) at (now (out .exit)) r ⌝ }
 {
-    print_line(out, at, n, say_reply(a))
+    print_line(out, at, n, reply_phrase(a))
 }
 
 pub fn print_unread(out: &mut [u8], at: usize, n: u64) -> usize
     ensures { λ r. ⌜ Printed (printedLine n (text "unread")) (now (out .entry)) at (now (out .exit)) r ⌝ }
 {
-    print_line(out, at, n, say(UNREAD, 0, 0))
+    print_line(out, at, n, phrase_of(UNREAD, 0, 0))
 }

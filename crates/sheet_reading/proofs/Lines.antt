@@ -5,40 +5,40 @@ use mathlib.Core.Path.{_≡_, refl, ap}
 use mathlib.Core.Bool.{Bool, true, false, _&&_}
 use mathlib.Core.List.{List}
 use lib.IntN.{ℤ}
-use Rattle.sheet_law.specs.Widths.{fine-same, bad-fine}
+use Rattle.sheet_law.specs.Widths.{decimal-same, no-decimal}
 use lib.ListN.{length, getD, take, drop}
 use borrow.Author.Tests.{lt-ltb, le-ltb, eq-eqb, ne-eqb}
 use Rattle.calls.specs.declared.Call.{Call}
 use Rattle.base.specs.Base.{pick}
 use Rattle.calls.specs.Numbers.{KIND-NEW, KIND-OLD}
-use Rattle.sheet_law.specs.declared.Number.the-variants.{Fine, Bad}
-use Rattle.sheet_law.specs.declared.Angle.the-variants.{At, Wrong}
+use Rattle.sheet_law.specs.declared.Number.the-variants.{Decimal, NoNumber}
+use Rattle.sheet_law.specs.declared.Angle.the-variants.{Hundredths, NoAngle}
 use Rattle.sheet_law.specs.declared.Command.the-variants.{Run}
 use Rattle.sheet_law.specs.declared.Line.the-variants.{Read, Unread}
 use Rattle.sheet_law.specs.Text.{OPEN, CLOSE}
-use Rattle.sheet_law.specs.Reading.{NARROW-MAX, upToSpace, afterSpace, narrow, angle, one, two, pitched, kinds, kindNamed, word, command, inner, LINE-MAX, lineOf}
+use Rattle.sheet_law.specs.Reading.{NARROW-MAX, upToSpace, afterSpace, narrow, angle, one, two, pitched, kinds, kindNamed, keyword, command, inner, LINE-MAX, lineOf}
 use Rattle.sheet_law.specs.Only.{_else_, named-only}
 
 -- A kind's number has 16 bits.
-pub kind-narrow : (w : List ℕ) (n : ℕ) → kindNamed w ≡ Fine n → n ≤ NARROW-MAX
-kind-narrow w n = named-only (λ x. x ≡ Fine n → n ≤ NARROW-MAX) Bad w kinds
-    ((λ _ f. omega (arith, fine-same KIND-NEW n f))
-    else (λ _ f. omega (arith, fine-same KIND-OLD n f))
-    else (λ f. absurd (bad-fine n f)))
+pub kind-narrow : (w : List ℕ) (n : ℕ) → kindNamed w ≡ Decimal n → n ≤ NARROW-MAX
+kind-narrow w n = named-only (λ x. x ≡ Decimal n → n ≤ NARROW-MAX) NoNumber w kinds
+    ((λ _ f. omega (arith, decimal-same KIND-NEW n f))
+    else (λ _ f. omega (arith, decimal-same KIND-OLD n f))
+    else (λ f. absurd (no-decimal n f)))
 
 -- The arguments of a call, each read or not.
 module _ (l : List ℕ) where
-  pub one-read : (build : ℕ → Call) (a : Bool) (n : ℕ) → narrow l ≡ pick a (Fine n) Bad → pick a (Read (Run (build n))) Unread ≡ one l build
+  pub one-read : (build : ℕ → Call) (a : Bool) (n : ℕ) → narrow l ≡ pick a (Decimal n) NoNumber → pick a (Read (Run (build n))) Unread ≡ one l build
   one-read build true n e = rw e refl
   one-read build false n e = rw e refl
 
-  pub two-read : (build : ℕ → ℕ → Call) (a b : Bool) (n m : ℕ) → narrow (upToSpace l) ≡ pick a (Fine n) Bad → narrow (afterSpace l) ≡ pick b (Fine m) Bad
+  pub two-read : (build : ℕ → ℕ → Call) (a b : Bool) (n m : ℕ) → narrow (upToSpace l) ≡ pick a (Decimal n) NoNumber → narrow (afterSpace l) ≡ pick b (Decimal m) NoNumber
       → pick (a && b) (Read (Run (build n m))) Unread ≡ two l build
   two-read build true true n m e f = rw (e, f) refl
   two-read build true false n m e f = rw (e, f) refl
   two-read build false b n m e f = rw e refl
 
-  pub pitched-read : (build : ℕ → ℤ → Call) (a b : Bool) (n : ℕ) (v : ℤ) → narrow (upToSpace l) ≡ pick a (Fine n) Bad → angle (afterSpace l) ≡ pick b (At v) Wrong
+  pub pitched-read : (build : ℕ → ℤ → Call) (a b : Bool) (n : ℕ) (v : ℤ) → narrow (upToSpace l) ≡ pick a (Decimal n) NoNumber → angle (afterSpace l) ≡ pick b (Hundredths v) NoAngle
       → pick (a && b) (Read (Run (build n v))) Unread ≡ pitched l build
   pitched-read build true true n v e f = rw (e, f) refl
   pitched-read build true false n v e f = rw (e, f) refl
@@ -59,7 +59,7 @@ module _ (l : List ℕ) (short : length l ≤ LINE-MAX) where
     unfolding lineOf
     line-unclosed o h = rw (le-ltb LINE-MAX (length l) short, lt-ltb 1 (length l) (omega arith), eq-eqb (getD l 0 0) OPEN o, ne-eqb (getD l (length l - 1) 0) CLOSE h) refl
 
-    pub line-whole : getD l 0 0 ≡ OPEN → getD l (length l - 1) 0 ≡ CLOSE → lineOf l ≡ command (word (upToSpace (inner l))) (afterSpace (inner l))
+    pub line-whole : getD l 0 0 ≡ OPEN → getD l (length l - 1) 0 ≡ CLOSE → lineOf l ≡ command (keyword (upToSpace (inner l))) (afterSpace (inner l))
     unfolding lineOf
     line-whole o h = rw (le-ltb LINE-MAX (length l) short, lt-ltb 1 (length l) (omega arith), eq-eqb (getD l 0 0) OPEN o, eq-eqb (getD l (length l - 1) 0) CLOSE h) refl
 

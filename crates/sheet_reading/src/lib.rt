@@ -3,30 +3,30 @@
 ghost use mathlib.Core.Path.{_≡_};
 ghost use Rattle.base.specs.Base.{pick};
 ghost use Rattle.sheet_law.specs.Text.{same as Text·same};
-ghost use Rattle.sheet_law.specs.Reading.{word as Reading·word, narrow as Reading·narrow, angle as Reading·angle, kindNamed, making as Reading·making, makingOf, command as Reading·command, lineOf};
+ghost use Rattle.sheet_law.specs.Reading.{keyword as Reading·keyword, narrow as Reading·narrow, angle as Reading·angle, kindNamed, storeLine, storeLineRest, command as Reading·command, lineOf};
 use calls::Call;
 use calls::KIND_NEW;
 use calls::KIND_OLD;
 use calls::NUMBER_MAX;
 use calls::Pitch;
 use sheet_fields::angle;
-use sheet_fields::cut;
 use sheet_fields::number;
 use sheet_fields::same;
+use sheet_fields::split_at_space;
 use sheet_law::Angle;
 use sheet_law::Command;
+use sheet_law::Keyword;
 use sheet_law::LINE_MAX;
 use sheet_law::Line;
 use sheet_law::NARROW_MAX;
 use sheet_law::Number;
-use sheet_law::Word;
 
 const OPEN: u8 = b'(';
 
 const CLOSE: u8 = b')';
 
 // A row of a table of words: what it names, or else what the rows after it do.
-fn word_row(s: &[u8], text: &[u8], named: Word, after: Word) -> Word
+fn keyword_row(s: &[u8], text: &[u8], named: Keyword, after: Keyword) -> Keyword
     ensures { λ r. ⌜ r ≡ pick (Text·same (now (s .entry)) (now (text .entry))) named after ⌝ }
 {
     if same(s, text) {
@@ -45,30 +45,30 @@ fn kind_row(s: &[u8], text: &[u8], named: Number, after: Number) -> Number
 }
 
 // The word that begins a line, from the table's last row up.
-fn word(s: &[u8]) -> Word
-    ensures { λ r. ⌜ r ≡ Reading·word (now (s .entry)) ⌝ }
+fn keyword(s: &[u8]) -> Keyword
+    ensures { λ r. ⌜ r ≡ Reading·keyword (now (s .entry)) ⌝ }
 {
-    let mut w = Word::Unknown;
-    w = word_row(s, b"release", Word::Release, w);
-    w = word_row(s, b"walk", Word::Walk, w);
-    w = word_row(s, b"raise", Word::Raise, w);
-    w = word_row(s, b"sync", Word::Sync, w);
-    w = word_row(s, b"swap", Word::Swap, w);
-    w = word_row(s, b"write", Word::Write, w);
-    w = word_row(s, b"claim", Word::Claim, w);
-    w = word_row(s, b"leave", Word::Leave, w);
-    w = word_row(s, b"look", Word::Look, w);
-    w = word_row(s, b"enter", Word::Enter, w);
-    word_row(s, b"store", Word::Store, w)
+    let mut w = Keyword::Unknown;
+    w = keyword_row(s, b"release", Keyword::Release, w);
+    w = keyword_row(s, b"walk", Keyword::Walk, w);
+    w = keyword_row(s, b"raise", Keyword::Raise, w);
+    w = keyword_row(s, b"sync", Keyword::Sync, w);
+    w = keyword_row(s, b"swap", Keyword::Swap, w);
+    w = keyword_row(s, b"write", Keyword::Write, w);
+    w = keyword_row(s, b"claim", Keyword::Claim, w);
+    w = keyword_row(s, b"leave", Keyword::Leave, w);
+    w = keyword_row(s, b"look", Keyword::Look, w);
+    w = keyword_row(s, b"enter", Keyword::Enter, w);
+    keyword_row(s, b"store", Keyword::Store, w)
 }
 
 // The number of the kind that a word names, in the same way.
 fn kind(s: &[u8]) -> Number
     ensures { λ r. ⌜ r ≡ kindNamed (now (s .entry)) ⌝ }
 {
-    let mut k = Number::Bad;
-    k = kind_row(s, b"old", Number::Fine(KIND_OLD), k);
-    kind_row(s, b"new", Number::Fine(KIND_NEW), k)
+    let mut k = Number::NoNumber;
+    k = kind_row(s, b"old", Number::Decimal(KIND_OLD), k);
+    kind_row(s, b"new", Number::Decimal(KIND_NEW), k)
 }
 
 // An argument, and whether it was read.
@@ -83,9 +83,9 @@ struct PitchRead {
 }
 
 fn narrow(s: &[u8]) -> NumberRead
-    ensures { λ r. ⌜ Reading·narrow (now (s .entry)) ≡ pick (r .read) (Number.Fine (r .value)) Number.Bad ⌝ }
+    ensures { λ r. ⌜ Reading·narrow (now (s .entry)) ≡ pick (r .read) (Number.Decimal (r .value)) Number.NoNumber ⌝ }
 {
-    let Number::Fine(n) = number(s, NARROW_MAX) else {
+    let Number::Decimal(n) = number(s, NARROW_MAX) else {
         return NumberRead {
             read: false,
             value: 0,
@@ -98,9 +98,9 @@ fn narrow(s: &[u8]) -> NumberRead
 }
 
 fn pitch(s: &[u8]) -> PitchRead
-    ensures { λ r. ⌜ Reading·angle (now (s .entry)) ≡ pick (r .read) (Angle.At (r .value)) Angle.Wrong ⌝ }
+    ensures { λ r. ⌜ Reading·angle (now (s .entry)) ≡ pick (r .read) (Angle.Hundredths (r .value)) Angle.NoAngle ⌝ }
 {
-    let Angle::At(v) = angle(s) else {
+    let Angle::Hundredths(v) = angle(s) else {
         return PitchRead {
             read: false,
             value: 0,
@@ -113,43 +113,43 @@ fn pitch(s: &[u8]) -> PitchRead
 }
 
 // The kind and the readers, with the sizes after them.
-fn making(s: &[u8]) -> Line
-    ensures { λ r. ⌜ r ≡ Reading·making (now (s .entry)) ⌝ }
+fn store_line(s: &[u8]) -> Line
+    ensures { λ r. ⌜ r ≡ storeLine (now (s .entry)) ⌝ }
 {
-    let parts = cut(s);
+    let parts = split_at_space(s);
     let end = parts.end;
     let next = parts.next;
-    let Number::Fine(k) = kind(&s[..end]) else {
+    let Number::Decimal(k) = kind(&s[..end]) else {
         return Line::Unread;
     };
     let t = &s[next..];
-    let others = cut(t);
+    let others = split_at_space(t);
     let stop = others.end;
     let from = others.next;
-    let Number::Fine(readers) = number(&t[..stop], NARROW_MAX) else {
+    let Number::Decimal(readers) = number(&t[..stop], NARROW_MAX) else {
         return Line::Unread;
     };
-    making_of(k as u16, readers as u16, &t[from..])
+    store_line_rest(k as u16, readers as u16, &t[from..])
 }
 
 // The publishers, the slots and the first version.
-fn making_of(k: u16, readers: u16, s: &[u8]) -> Line
-    ensures { λ r. ⌜ r ≡ makingOf k readers (now (s .entry)) ⌝ }
+fn store_line_rest(k: u16, readers: u16, s: &[u8]) -> Line
+    ensures { λ r. ⌜ r ≡ storeLineRest k readers (now (s .entry)) ⌝ }
 {
-    let parts = cut(s);
+    let parts = split_at_space(s);
     let end = parts.end;
     let next = parts.next;
-    let Number::Fine(publishers) = number(&s[..end], NARROW_MAX) else {
+    let Number::Decimal(publishers) = number(&s[..end], NARROW_MAX) else {
         return Line::Unread;
     };
     let t = &s[next..];
-    let others = cut(t);
+    let others = split_at_space(t);
     let stop = others.end;
     let from = others.next;
-    let Number::Fine(slots) = number(&t[..stop], NARROW_MAX) else {
+    let Number::Decimal(slots) = number(&t[..stop], NARROW_MAX) else {
         return Line::Unread;
     };
-    let Number::Fine(version) = number(&t[from..], NUMBER_MAX) else {
+    let Number::Decimal(version) = number(&t[from..], NUMBER_MAX) else {
         return Line::Unread;
     };
     Line::Read(Command::Make(k, readers, publishers as u16, slots as u16, version))
@@ -166,10 +166,10 @@ fn run(read: bool, call: Call) -> Line
 }
 
 // A word with its arguments: all of the text as one number, or a number up to the space and a number or a pitch after it.
-fn command(w: Word, s: &[u8]) -> Line
+fn command(w: Keyword, s: &[u8]) -> Line
     ensures { λ r. ⌜ r ≡ Reading·command w (now (s .entry)) ⌝ }
 {
-    let parts = cut(s);
+    let parts = split_at_space(s);
     let end = parts.end;
     let next = parts.next;
     let one = narrow(s);
@@ -177,18 +177,18 @@ fn command(w: Word, s: &[u8]) -> Line
     let m = narrow(&s[next..]);
     let v = pitch(&s[next..]);
     match w {
-        Word::Store => making(s),
-        Word::Enter => run(one.read, Call::Enter(one.value)),
-        Word::Look => run(n.read & m.read, Call::Look(n.value, m.value)),
-        Word::Leave => run(one.read, Call::Leave(one.value)),
-        Word::Claim => run(n.read & m.read, Call::Claim(n.value, m.value)),
-        Word::Write => run(n.read & v.read, Call::Write(n.value, v.value)),
-        Word::Swap => run(one.read, Call::Swap(one.value)),
-        Word::Sync => run(one.read, Call::Sync(one.value)),
-        Word::Raise => run(one.read, Call::Raise(one.value)),
-        Word::Walk => run(n.read & m.read, Call::Walk(n.value, m.value)),
-        Word::Release => run(one.read, Call::Release(one.value)),
-        Word::Unknown => Line::Unread,
+        Keyword::Store => store_line(s),
+        Keyword::Enter => run(one.read, Call::Enter(one.value)),
+        Keyword::Look => run(n.read & m.read, Call::Look(n.value, m.value)),
+        Keyword::Leave => run(one.read, Call::Leave(one.value)),
+        Keyword::Claim => run(n.read & m.read, Call::Claim(n.value, m.value)),
+        Keyword::Write => run(n.read & v.read, Call::Write(n.value, v.value)),
+        Keyword::Swap => run(one.read, Call::Swap(one.value)),
+        Keyword::Sync => run(one.read, Call::Sync(one.value)),
+        Keyword::Raise => run(one.read, Call::Raise(one.value)),
+        Keyword::Walk => run(n.read & m.read, Call::Walk(n.value, m.value)),
+        Keyword::Release => run(one.read, Call::Release(one.value)),
+        Keyword::Unknown => Line::Unread,
     }
 }
 
@@ -211,9 +211,9 @@ pub fn parse(line: &[u8]) -> Line
         return Line::Unread;
     }
     let inner = &line[1..last];
-    let parts = cut(inner);
+    let parts = split_at_space(inner);
     let end = parts.end;
     let next = parts.next;
-    let w = word(&inner[..end]);
+    let w = keyword(&inner[..end]);
     command(w, &inner[next..])
 }

@@ -67,11 +67,11 @@ all-hold-append (e ∷ es) fs a b = (a .0, all-hold-append es fs (a .1) b)
 abbrev pub enters : ℕ → ℕ → List Call
 enters n r = replicate n (Enter r)
 
-abbrev pub tableOf : ℕ → ℕ → ℤ → List Call
-tableOf p x v = Claim p x ∷ replicate TABLE (Write p v)
+abbrev pub claimAndWrite : ℕ → ℕ → ℤ → List Call
+claimAndWrite p x v = Claim p x ∷ replicate TABLE (Write p v)
 
 abbrev pub publication : ℕ → ℕ → ℤ → List Call
-publication p x v = tableOf p x v ++ (Swap p ∷ [])
+publication p x v = claimAndWrite p x v ++ (Swap p ∷ [])
 
 -- A whole table of 32 different pitches by publisher p into slot x: v, v + 1 and so on.
 abbrev pub writesFrom : ℕ → ℕ → ℕ → List Call

@@ -95,7 +95,7 @@ pub record Framed (publishes : Bool) (c : Call) (w w′ : List ℕ) : Type 0 whe
   pub long : length w′ ≡ length w
   pub readers : (r : ℕ) → readerNamed c ≢ some r → readerAt w′ r ≡ readerAt w r
   pub publishers : (p : ℕ) → publisherNamed c ≢ some p → publisherAt w′ p ≡ publisherAt w p
-  pub own : OwnStays publishes c w w′
+  pub own-stays : OwnStays publishes c w w′
   pub head : (k : ℕ) → k < HEAD → headNamed publishes c k ≡ false → getD w′ k 0 ≡ getD w k 0
   pub one : One w w′
 

@@ -5,10 +5,10 @@ pub mod Companions
 pub mod Frame
 pub mod FreeSlot
 -- What gives them: an invariant that each step keeps; another machine that is alike.
-pub mod Kept
+pub mod KeptInvariant
 pub mod Alike
 -- Examples that name no kind, and what refutes a store.
 pub mod Examples
 pub mod Precedence
-pub mod Spoiled
+pub mod DamageCases
 pub mod Refute

@@ -12,7 +12,7 @@ use Rattle.layout.specs.declared.Publisher.{Publisher}
 use Rattle.layout.specs.Layout.{WORDS, withCurrent, withPublisher, noPublisher, noWalk}
 use Rattle.layout.specs.Records.{_atPlace_, _held≔_, _walk≔_, _mark≔_, _looks≔_}
 use Rattle.statement.specs.Machine.{State, state, Given, given, Machine}
-use Rattle.statement.specs.Examples.{Example, lentFor, enters, tableOf}
+use Rattle.statement.specs.Examples.{Example, lentFor, enters, claimAndWrite}
 use Rattle.statement.specs.Examples.Example.{shows, makes, each}
 
 -- Words and entries lent to a making, all 0.
@@ -67,7 +67,7 @@ writeRows M = shows M (given 1 1 2 0) []
 
 -- SYNC at the last version, at place 33 and at 34: 21 before 32.
 abbrev pub syncRows : Machine → ℕ → Example
-syncRows M last = shows M (given 1 1 2 last) (tableOf 0 1 (pos 100)) (Sync 0 ∷ Swap 0 ∷ Sync 0 ∷ []) (Made ∷ Refused 21 ∷ Swapped 0 ∷ Refused 32 ∷ [])
+syncRows M last = shows M (given 1 1 2 last) (claimAndWrite 0 1 (pos 100)) (Sync 0 ∷ Swap 0 ∷ Sync 0 ∷ []) (Made ∷ Refused 21 ∷ Swapped 0 ∷ Refused 32 ∷ [])
 
 -- States put together by hand: a fresh store, and what is changed in it.
 abbrev pub freshOf : Machine → Given → State
@@ -83,8 +83,8 @@ abbrev pub small : Given
 small = given 1 1 2 0
 
 -- A current slot beyond the two of a store, and then slot 0: 1 before 10, 1 before 11.
-abbrev pub spoiledRows : Machine → List Example
-spoiledRows M =
+abbrev pub damagedRows : Machine → List Example
+damagedRows M =
     each M (withCurrentAs (freshOf M small) 2) (Enter 1 ∷ Swap 1 ∷ []) (Refused 1 ∷ Refused 1 ∷ [])
     ∷ shows M small [] (Enter 1 ∷ Swap 1 ∷ []) (Made ∷ Refused 10 ∷ Refused 11 ∷ [])
     ∷ []
@@ -104,4 +104,4 @@ walkRows M =
 -- All of them, of a kind with this last version and so many ENTERs to place 5.
 abbrev pub sharedRows : Machine → ℕ → ℕ → List Example
 sharedRows M last n =
-    makingRows M last ++ (makingEnds M ++ (spoiledRows M ++ (walkRows M ++ (lookRows M ∷ claimRows M ∷ writeRows M ∷ syncRows M last ∷ nameRows M ∷ enterRows M n ∷ []))))
+    makingRows M last ++ (makingEnds M ++ (damagedRows M ++ (walkRows M ++ (lookRows M ∷ claimRows M ∷ writeRows M ∷ syncRows M last ∷ nameRows M ∷ enterRows M n ∷ []))))

@@ -1,4 +1,4 @@
-// The old store's damage test (document 01's spoiled), and its last version.
+// The old store's damage test, and its last version.
 // One pass over the readers in use tests them and counts, for each parity, those at 4 or 5 whose loaded version has it.
 // Its contracts cite two_phase_law.
 ghost use mathlib.Core.Path.{_≡_};
@@ -12,7 +12,7 @@ ghost use Rattle.calls.specs.Numbers.{READERS-MAX, PUBLISHERS-MAX};
 ghost use Rattle.layout.specs.Layout.{WORDS, readerAt, publisherAt};
 ghost use Rattle.statement.specs.Machine.{state};
 ghost use Rattle.publication_law.specs.Damage.{headRows, readersTest, publishersTest};
-ghost use Rattle.two_phase_law.specs.Steps.{kind, miscountedAt, rules};
+ghost use Rattle.two_phase_law.specs.Steps.{damageRules, miscountedAt, rules};
 use calls::KIND_OLD;
 use calls::PUBLISHERS_MAX;
 use calls::READERS_MAX;
@@ -25,15 +25,15 @@ use layout::reader_at;
 use layout::reader_place;
 use layout::readers_of;
 use layout::slots_of;
-use making::head_damaged;
+use making::head_damaged_of_kind;
 
 // The last version: 2^63 - 1.
 pub const LAST: u64 = 9223372036854775807;
 
-// Whether one of the first n readers is spoiled, or an indicator is unlike the number of them that added to it.
-fn readers_damaged(words: &[u64], n: u64, slots: u64) -> bool
+// Whether one of the first n readers is damaged, or an indicator is unlike the number of them that added to it.
+fn first_readers_damaged(words: &[u64], n: u64, slots: u64) -> bool
     requires { ⌜ (length (now words) ≡ WORDS) × (n ≤ READERS-MAX) ⌝ }
-    ensures { λ b. ⌜ b ≡ (anyBelow (λ r. kind .readerDamaged n slots (readerAt (now (words .entry)) r)) n || (miscountedAt (now (words .entry)) n 0 || miscountedAt (now (words .entry)) n 1)) ⌝ }
+    ensures { λ b. ⌜ b ≡ (anyBelow (λ r. damageRules .readerDamaged n slots (readerAt (now (words .entry)) r)) n || (miscountedAt (now (words .entry)) n 0 || miscountedAt (now (words .entry)) n 1)) ⌝ }
 {
     let mut counts = [0u64; 2];
     for r in 0..n {
@@ -59,10 +59,10 @@ fn readers_damaged(words: &[u64], n: u64, slots: u64) -> bool
     (indicator_of(words, 0) != counts[0]) | (indicator_of(words, 1) != counts[1])
 }
 
-// Whether publisher p is spoiled.
+// Whether publisher p is damaged.
 fn publisher_damaged(words: &[u64], p: usize, slots: u64) -> bool
     requires { ⌜ (length (now words) ≡ WORDS) × (p < PUBLISHERS-MAX) ⌝ }
-    ensures { λ b. ⌜ ((readers : ℕ) → b ≡ kind .publisherDamaged readers slots (publisherAt (now (words .entry)) p)) ⌝ }
+    ensures { λ b. ⌜ ((readers : ℕ) → b ≡ damageRules .publisherDamaged readers slots (publisherAt (now (words .entry)) p)) ⌝ }
 {
     let place = publisher_place(words, p);
     if place == 0 {
@@ -85,10 +85,10 @@ fn publisher_damaged(words: &[u64], p: usize, slots: u64) -> bool
     walk.waits > walk.looks
 }
 
-// Whether one of the first n publishers is spoiled.
-fn publishers_damaged(words: &[u64], n: u64, slots: u64) -> bool
+// Whether one of the first n publishers is damaged.
+fn first_publishers_damaged(words: &[u64], n: u64, slots: u64) -> bool
     requires { ⌜ (length (now words) ≡ WORDS) × (n ≤ PUBLISHERS-MAX) ⌝ }
-    ensures { λ b. ⌜ ((readers : ℕ) → b ≡ anyBelow (λ p. kind .publisherDamaged readers slots (publisherAt (now (words .entry)) p)) n) ⌝ }
+    ensures { λ b. ⌜ ((readers : ℕ) → b ≡ anyBelow (λ p. damageRules .publisherDamaged readers slots (publisherAt (now (words .entry)) p)) n) ⌝ }
 {
     for p in 0..n {
         if publisher_damaged(words, p as usize, slots) {
@@ -98,16 +98,16 @@ fn publishers_damaged(words: &[u64], n: u64, slots: u64) -> bool
     false
 }
 
-// Whether the head spoils a store with these words and so many entries.
+// Whether the head damages a store with these words and so many entries.
 pub fn head_is_damaged(words: &[u64], entries: usize) -> bool
-    ensures { λ b. ⌜ ((es : List ℤ) → length es ≡ entries → b ≡ anyTrue (headRows kind (state (now (words .entry)) es))) ⌝ }
+    ensures { λ b. ⌜ ((es : List ℤ) → length es ≡ entries → b ≡ anyTrue (headRows damageRules (state (now (words .entry)) es))) ⌝ }
 {
-    head_damaged(words, entries, KIND_OLD, LAST)
+    head_damaged_of_kind(words, entries, KIND_OLD, LAST)
 }
 
-// Whether the readers or the indicators spoil it.
+// Whether the readers or the indicators damage it.
 pub fn readers_are_damaged(words: &[u64]) -> bool
-    ensures { λ b. ⌜ ((es : List ℤ) → b ≡ (readersTest kind (state (now (words .entry)) es) || rules .further (state (now (words .entry)) es))) ⌝ }
+    ensures { λ b. ⌜ ((es : List ℤ) → b ≡ (readersTest damageRules (state (now (words .entry)) es) || rules .further (state (now (words .entry)) es))) ⌝ }
 {
     if words.len() != WORDS {
         return true;
@@ -116,12 +116,12 @@ pub fn readers_are_damaged(words: &[u64]) -> bool
     if (readers < 1) | (readers > READERS_MAX as u64) {
         return true;
     }
-    readers_damaged(words, readers, slots_of(words))
+    first_readers_damaged(words, readers, slots_of(words))
 }
 
-// Whether the publishers spoil it.
+// Whether the publishers damage it.
 pub fn publishers_are_damaged(words: &[u64]) -> bool
-    ensures { λ b. ⌜ ((es : List ℤ) → b ≡ publishersTest kind (state (now (words .entry)) es)) ⌝ }
+    ensures { λ b. ⌜ ((es : List ℤ) → b ≡ publishersTest damageRules (state (now (words .entry)) es)) ⌝ }
 {
     if words.len() != WORDS {
         return true;
@@ -130,5 +130,5 @@ pub fn publishers_are_damaged(words: &[u64]) -> bool
     if (publishers < 1) | (publishers > PUBLISHERS_MAX as u64) {
         return true;
     }
-    publishers_damaged(words, publishers, slots_of(words))
+    first_publishers_damaged(words, publishers, slots_of(words))
 }

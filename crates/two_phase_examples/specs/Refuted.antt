@@ -20,7 +20,7 @@ use Rattle.layout.specs.Layout.{publishers, version, indicator, readerAt, publi
 use Rattle.layout.specs.Records.{_atPlace_}
 use Rattle.statement.specs.Machine.{State, Outcome, outcome, Given, given, Machine, Fresh, events, afterAll}
 use Rattle.statement.specs.Demand3.{Demand3}
-use Rattle.statement.specs.Examples.{lentFor, tableOf, publication}
+use Rattle.statement.specs.Examples.{lentFor, claimAndWrite, publication}
 use Rattle.statement.specs.Refute.{someLeave, not-left, events-append}
 use Rattle.publication_law.specs.Steps.{publisher, putPublisher}
 use Rattle.publication_law.specs.Table.{damaged, step, making}
@@ -66,7 +66,7 @@ start = making (tableBy several) small (lentFor small) .after
 -- V is publisher 0, U publisher 1. The reader loads 0; V publishes at version 0 and at version 1, where it sees indicator 0 empty;
 -- the reader arrives there and picks; U swaps ..
 before : List Call
-before = Enter 0 ∷ (publication 0 1 (pos 100) ++ (Sync 0 ∷ Walk 0 1 ∷ Raise 0 ∷ Walk 0 1 ∷ Release 0 ∷ (publication 0 0 (pos 200) ++ (Sync 0 ∷ Walk 0 1 ∷ (tableOf 1 2 (pos 300)
+before = Enter 0 ∷ (publication 0 1 (pos 100) ++ (Sync 0 ∷ Walk 0 1 ∷ Raise 0 ∷ Walk 0 1 ∷ Release 0 ∷ (publication 0 0 (pos 200) ++ (Sync 0 ∷ Walk 0 1 ∷ (claimAndWrite 1 2 (pos 300)
     ++ (Enter 0 ∷ Enter 0 ∷ Swap 1 ∷ []))))))
 
 -- .. and synchronises with mark 2; V raises; U takes line 21's break, finds indicator 1 empty and returns.

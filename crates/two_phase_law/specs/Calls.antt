@@ -19,17 +19,17 @@ use Rattle.calls.specs.declared.WalkReply.the-variants.{Waiting, Spent, Quiet, 
 use Rattle.calls.specs.Numbers.{READERS-MAX}
 use Rattle.layout.specs.declared.Reader.{Reader}
 use Rattle.layout.specs.declared.Publisher.{Publisher}
-use Rattle.layout.specs.declared.Walk.{Walk}
+use Rattle.layout.specs.declared.WalkRecord.{WalkRecord}
 use Rattle.layout.specs.Layout.{readers, current, version, indicator, readerAt, withReader, withIndicator}
 use Rattle.layout.specs.Records.{_place≔_, _first≔_, _picked≔_}
 use Rattle.statement.specs.Machine.{State, state, outcome}
 use Rattle.publication_law.specs.Steps.{reader}
 use Rattle.publication_law.specs.Looks.{withLook}
 use Rattle.publication_law.specs.Damage.{headRows, readersTest, publishersTest}
-use Rattle.publication_law.specs.DamageLaws.{Fine}
+use Rattle.publication_law.specs.DamageLaws.{Undamaged}
 use Rattle.publication_law.specs.Table.{damaged, step}
-use Rattle.publication_law.specs.Calls.{undamaged, undamaged-fine, undamaged-further, damaged-readers, damaged-further, enter-accepted, leave-accepted}
-use Rattle.two_phase_law.specs.Steps.{kind, readerRows, addedTo, miscounted, onward, entered, leaving, watched, lookAt, fixed, rules}
+use Rattle.publication_law.specs.Calls.{undamaged, undamaged-facts, undamaged-further, damaged-readers, damaged-further, enter-accepted, leave-accepted}
+use Rattle.two_phase_law.specs.Steps.{damageRules, readerRows, addedTo, miscounted, onward, entered, leaving, watched, lookAt, fixed, rules}
 use Rattle.two_phase_law.specs.Counts.{Counted}
 use Rattle.two_phase_law.specs.Safety.{picked-rows}
 
@@ -75,18 +75,18 @@ module _ (w : List ℕ) where
   counts-most n (suc zero) = count-most (λ q. addedTo 1 (readerAt w q)) n
   counts-most n (suc (suc i)) = omega arith
 
-pub fine : (s : State) → damaged rules s ≡ false → Fine kind s
-fine = undamaged-fine rules
+pub no-damage : (s : State) → damaged rules s ≡ false → Undamaged damageRules s
+no-damage = undamaged-facts rules
 
 -- The code tests the readers and the indicators in one pass.
 module _ (s : State) where
-  pub scan-undamaged : anyTrue (headRows kind s) ≡ false → readersTest kind s || rules .further s ≡ false → publishersTest kind s ≡ false → damaged rules s ≡ false
-  scan-undamaged h r p = let q = or-false (readersTest kind s) (rules .further s) r in undamaged rules s h (q .0) (q .1) p
+  pub scan-undamaged : anyTrue (headRows damageRules s) ≡ false → readersTest damageRules s || rules .further s ≡ false → publishersTest damageRules s ≡ false → damaged rules s ≡ false
+  scan-undamaged h r p = let q = or-false (readersTest damageRules s) (rules .further s) r in undamaged rules s h (q .0) (q .1) p
 
-  pub scan-damaged : readersTest kind s || rules .further s ≡ true → damaged rules s ≡ true
-  scan-damaged e = go (readersTest kind s) refl e
+  pub scan-damaged : readersTest damageRules s || rules .further s ≡ true → damaged rules s ≡ true
+  scan-damaged e = go (readersTest damageRules s) refl e
     where
-      go : (b : Bool) → readersTest kind s ≡ b → b || rules .further s ≡ true → damaged rules s ≡ true
+      go : (b : Bool) → readersTest damageRules s ≡ b → b || rules .further s ≡ true → damaged rules s ≡ true
       go true d t = damaged-readers rules s d
       go false d t = damaged-further rules s t
 
@@ -101,7 +101,7 @@ counted-of s e i l = let q = or-false (miscounted s 0) (miscounted s 1) (undamag
 
 -- So an indicator is at most the number of readers, and that of a reader at 4 or 5 is not 0.
 pub indicator-low : (s : State) → damaged rules s ≡ false → (i : ℕ) → i < 2 → indicator (s .words) i ≤ READERS-MAX
-indicator-low s e i l = omega (arith, counted-of s e i l, count-most (λ r. addedTo i (reader s r)) (readers (s .words)), fine s e .head .readers-high)
+indicator-low s e i l = omega (arith, counted-of s e i l, count-most (λ r. addedTo i (reader s r)) (readers (s .words)), no-damage s e .head .readers-high)
 
 pub indicator-some : (s : State) → damaged rules s ≡ false → (r : ℕ) → r < readers (s .words) → 4 ≤ reader s r .place → 1 ≤ indicator (s .words) (reader s r .first % 2)
 indicator-some s e r named turn = go (indicator (s .words) (reader s r .first % 2)) refl
@@ -207,14 +207,14 @@ module _ (count : ℕ) (y : Publisher) (b : ℕ) where
   unfolding lookAt
   look-spent e = rw e refl
 
-  pub look-waits : (m : Walk) → m ≡ withLook (y .walk) 0 1 → b ≢ 0 → count ≢ 0 → record { walk = m; reply = Waiting (watched y) } ≡ lookAt count y b
+  pub look-waits : (m : WalkRecord) → m ≡ withLook (y .walk) 0 1 → b ≢ 0 → count ≢ 0 → record { walk = m; reply = Waiting (watched y) } ≡ lookAt count y b
   unfolding lookAt
   look-waits m is e f = rw (is, add-zero (y .walk .next), ne-eqb b 0 e, ne-eqb count 0 f) refl
 
-  pub look-quiet : (m : Walk) → m ≡ withLook (y .walk) 0 0 → b ≢ 0 → count ≡ 0 → y .place ≡ 35 → record { walk = m; reply = Quiet } ≡ lookAt count y b
+  pub look-quiet : (m : WalkRecord) → m ≡ withLook (y .walk) 0 0 → b ≢ 0 → count ≡ 0 → y .place ≡ 35 → record { walk = m; reply = Quiet } ≡ lookAt count y b
   unfolding lookAt
   look-quiet m is e f t = rw (is, add-zero (y .walk .next), add-zero (y .walk .waits), ne-eqb b 0 e, eq-eqb count 0 f, eq-eqb (y .place) 35 t) refl
 
-  pub look-returned : (m : Walk) → m ≡ withLook (y .walk) 0 0 → b ≢ 0 → count ≡ 0 → y .place ≢ 35 → record { walk = m; reply = Returned (m .looks) (m .waits) } ≡ lookAt count y b
+  pub look-returned : (m : WalkRecord) → m ≡ withLook (y .walk) 0 0 → b ≢ 0 → count ≡ 0 → y .place ≢ 35 → record { walk = m; reply = Returned (m .looks) (m .waits) } ≡ lookAt count y b
   unfolding lookAt
   look-returned m is e f t = rw (is, add-zero (y .walk .next), add-zero (y .walk .waits), ne-eqb b 0 e, eq-eqb count 0 f, ne-eqb (y .place) 35 t) refl

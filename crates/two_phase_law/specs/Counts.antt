@@ -17,7 +17,7 @@ use Rattle.layout.specs.Layout.{readers, indicator, readerAt}
 use Rattle.statement.specs.Machine.{State}
 use Rattle.publication_law.specs.Steps.{placeAfter}
 use Rattle.publication_law.specs.GraceKeeps.{waitsAfter}
-use Rattle.two_phase_law.specs.Steps.{parity, addedTo, miscounted, watched, progress, lookAt}
+use Rattle.two_phase_law.specs.Steps.{parity, addedTo, miscounted, watched, lookResult, lookAt}
 
 -- Each indicator is the number of readers that added to it.
 abbrev pub Counted : ℕ → (ℕ → ℕ) → (ℕ → Reader) → Type 0
@@ -60,7 +60,7 @@ abbrev pub passedAt : ℕ → ℕ
 passedAt place = pick (eqb place 35) 0 (pick (eqb place 38) 2 1)
 
 -- What one look gives.
-pub record Looked (count : ℕ) (y : Publisher) (b : ℕ) (k : Progress) : Type 0 where
+pub record LookFacts (count : ℕ) (y : Publisher) (b : ℕ) (k : Progress) : Type 0 where
   pub mark-same : k .walk .mark ≡ y .walk .mark
   pub next-same : k .walk .next ≡ y .walk .next
   -- each look passed or waited
@@ -82,8 +82,8 @@ unfolding lookAt
 look-mark count y b = pick-split (λ (k : Progress). k .walk .mark ≡ y .walk .mark) (eqb b 0) (λ _. refl)
     (λ _. pick-split (λ (k : Progress). k .walk .mark ≡ y .walk .mark) (eqb count 0) (λ _. refl) (λ _. refl))
 
-pub look-turn : (place : ℕ) → (eqb place 35 || eqb place 37) ≡ true → (place ≡ 35) ⊎ (place ≡ 37)
-look-turn place e = go (eqb place 35) refl
+pub walk-places : (place : ℕ) → (eqb place 35 || eqb place 37) ≡ true → (place ≡ 35) ⊎ (place ≡ 37)
+walk-places place e = go (eqb place 35) refl
   where
     go : (b : Bool) → eqb place 35 ≡ b → (place ≡ 35) ⊎ (place ≡ 37)
     go true d = inl (eqb-true place 35 d)
@@ -100,13 +100,13 @@ turn-high place (inr e) = omega arith
 -- A look that passes is quiet at 35 and a return at 37; one that waits and none at all leave the place.
 module _ (count : ℕ) (y : Publisher) (b : ℕ) where
   passing : count ≡ 0 → b ≢ 0 → (y .place ≡ 35) ⊎ (y .place ≡ 37)
-      → Looked count y b (progress y (y .walk .looks + 1) (y .walk .waits) (pick (eqb (y .place) 35) Quiet (Returned (y .walk .looks + 1) (y .walk .waits))))
+      → LookFacts count y b (lookResult y (y .walk .looks + 1) (y .walk .waits) (pick (eqb (y .place) 35) Quiet (Returned (y .walk .looks + 1) (y .walk .waits))))
   passing z s (inl e) = rw (eq-eqb (y .place) 35 e) (record { mark-same = refl; next-same = refl; counted = rw (eq-eqb (y .place) 35 e) (omega arith); waits-are = refl; quiet-zero = λ _ _. z; returned-zero = λ q. absurd (omega arith); quiets = λ _. e; waiting-is = λ w q. absurd (let d : _≡_ {A = ℕ} 0 1 = cc in omega arith); spent-only = λ q. absurd (let d : _≡_ {A = ℕ} 0 1 = cc in omega arith); spent-if = λ q. absurd (s q); returns = λ l w q. absurd (let d : _≡_ {A = ℕ} 0 1 = cc in omega arith); high = omega arith })
   passing z s (inr e) = rw (ne-eqb (y .place) 35 (λ q. omega arith)) (record { mark-same = refl; next-same = refl; counted = rw e (omega arith); waits-are = refl; quiet-zero = λ q. absurd (omega arith); returned-zero = λ _ _. z; quiets = λ q. absurd (let d : _≡_ {A = ℕ} 0 1 = cc in omega arith); waiting-is = λ w q. absurd (let d : _≡_ {A = ℕ} 0 1 = cc in omega arith); spent-only = λ q. absurd (let d : _≡_ {A = ℕ} 0 1 = cc in omega arith); spent-if = λ q. absurd (s q); returns = λ l w q. (λ f. omega arith, (let c : y .walk .looks + 1 ≡ l = cc in sym c), (let d : y .walk .waits ≡ w = cc in sym d)); high = omega arith })
 
-  pub looked : (y .place ≡ 35) ⊎ (y .place ≡ 37) → Looked count y b (lookAt count y b)
+  pub look-facts : (y .place ≡ 35) ⊎ (y .place ≡ 37) → LookFacts count y b (lookAt count y b)
   unfolding lookAt
-  looked turn = pick-split (Looked count y b) (eqb b 0)
+  look-facts turn = pick-split (LookFacts count y b) (eqb b 0)
       (λ s. record { mark-same = refl; next-same = refl; counted = refl; waits-are = refl; quiet-zero = λ e n. absurd (n e); returned-zero = λ e n. absurd (n e); quiets = λ q. absurd (let d : _≡_ {A = ℕ} 0 1 = cc in omega arith); waiting-is = λ w q. absurd (let d : _≡_ {A = ℕ} 0 1 = cc in omega arith); spent-only = λ _. eqb-true b 0 s; spent-if = λ _. refl; returns = λ l w q. absurd (let d : _≡_ {A = ℕ} 0 1 = cc in omega arith); high = omega (arith, turn-high (y .place) turn) })
-      (λ s. pick-split (Looked count y b) (eqb count 0) (λ z. passing (eqb-true count 0 z) (eqb-false b 0 s) turn)
+      (λ s. pick-split (LookFacts count y b) (eqb count 0) (λ z. passing (eqb-true count 0 z) (eqb-false b 0 s) turn)
       (λ z. record { mark-same = refl; next-same = refl; counted = omega arith; waits-are = refl; quiet-zero = λ e n. absurd (n e); returned-zero = λ e n. absurd (n e); quiets = λ q. absurd (let d : _≡_ {A = ℕ} 0 1 = cc in omega arith); waiting-is = λ w q. ((let c : watched y ≡ w = cc in sym c), eqb-false count 0 z); spent-only = λ q. absurd (let d : _≡_ {A = ℕ} 0 1 = cc in omega arith); spent-if = λ q. absurd (eqb-false b 0 s q); returns = λ l w q. absurd (let d : _≡_ {A = ℕ} 0 1 = cc in omega arith); high = omega (arith, turn-high (y .place) turn) }))

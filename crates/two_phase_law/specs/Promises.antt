@@ -15,11 +15,11 @@ use Rattle.publication_law.specs.Table.{step}
 use Rattle.publication_law.specs.Promises.{Promises, promises-of, WalkFacts, walk-facts}
 use Rattle.two_phase_law.specs.Steps.{watched, looksOf, fixed, rules, TwoPhase}
 use Rattle.two_phase_law.specs.Traits.{traits}
-use Rattle.two_phase_law.specs.Counts.{Looked, look-turn, looked}
-use Rattle.two_phase_law.specs.Safety.{lawful}
+use Rattle.two_phase_law.specs.Counts.{LookFacts, walk-places, look-facts}
+use Rattle.two_phase_law.specs.Safety.{kind-shows}
 
 pub old-promises : Promises rules traits
-old-promises = promises-of fixed traits lawful
+old-promises = promises-of fixed traits kind-shows
 
 pub old-demand3 : Demand3 TwoPhase (λ z. firstTable)
 old-demand3 = old-promises .demand3
@@ -29,5 +29,5 @@ old-walk-zero = old-promises .walk-zero
 
 -- An accepted WALK says waiting, spent, quiet and returned of the look made.
 pub old-walk-facts : (s : State) (p b : ℕ) → accepted (step rules s (Walk p b) .reply) ≡ true
-    → let k = looksOf s (publisher s p) b in WalkFacts s p k (Looked (indicator (s .words) (watched (publisher s p))) (publisher s p) b k) (step rules s (Walk p b))
-old-walk-facts s p b = walk-facts fixed s p b _ (λ fine lt turn. looked (indicator (s .words) (watched (publisher s p))) (publisher s p) b (look-turn (publisher s p .place) turn))
+    → let k = looksOf s (publisher s p) b in WalkFacts s p k (LookFacts (indicator (s .words) (watched (publisher s p))) (publisher s p) b k) (step rules s (Walk p b))
+old-walk-facts s p b = walk-facts fixed s p b _ (λ no-damage lt turn. look-facts (indicator (s .words) (watched (publisher s p))) (publisher s p) b (walk-places (publisher s p .place) turn))

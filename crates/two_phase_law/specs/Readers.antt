@@ -17,12 +17,12 @@ use Rattle.layout.specs.Records.{_place≔_, _first≔_, _picked≔_}
 use Rattle.layout.specs.Laws.{indicator-reader}
 use Rattle.statement.specs.Machine.{State, Outcome}
 use Rattle.publication_law.specs.Steps.{reader}
-use Rattle.publication_law.specs.DamageLaws.{Fine}
+use Rattle.publication_law.specs.DamageLaws.{Undamaged}
 use Rattle.publication_law.specs.Table.{rows, step}
-use Rattle.publication_law.specs.Calls.{undamaged-fine}
+use Rattle.publication_law.specs.Calls.{undamaged-facts}
 use Rattle.publication_law.specs.Moves.{reader-written}
 use Rattle.publication_law.specs.Decide.{decided}
-use Rattle.two_phase_law.specs.Steps.{kind, entered, enterWords, leaving, leaveWords, rules}
+use Rattle.two_phase_law.specs.Steps.{damageRules, entered, enterWords, leaving, leaveWords, rules}
 use Rattle.two_phase_law.specs.Safety.{enter-moves, leave-moves, changed-indicator}
 use Rattle.two_phase_law.specs.Calls.{onward-loads, onward-arrives, onward-picks}
 
@@ -43,9 +43,9 @@ pub record LeaveFacts (s : State) (r : ℕ) (o : Outcome) : Type 0 where
   pub record-is : reader (o .after) r ≡ reader s r place≔ 0
   pub counts : (i : ℕ) → indicator (o .after .words) i ≡ pick (eqb (reader s r .first % 2) i) (indicator (s .words) i - 1) (indicator (s .words) i)
 
-module _ (s : State) (fine : Fine kind s) (r : ℕ) where
+module _ (s : State) (no-damage : Undamaged damageRules s) (r : ℕ) where
   long : HEAD ≤ length (s .words)
-  long = omega (arith, fine .head .long)
+  long = omega (arith, no-damage .head .long)
 
   enter-counts : (i : ℕ) → indicator (enterWords s r) i ≡ pick (eqb (reader s r .place) 1 && eqb (reader s r .first % 2) i) (indicator (s .words) i + 1) (indicator (s .words) i)
   enter-counts i = go (eqb (reader s r .place) 1)
@@ -62,13 +62,13 @@ pub old-enter-facts : (s : State) (r : ℕ) → accepted (step rules s (Enter r)
 unfolding step
 old-enter-facts s r = decided (λ (o : Outcome). accepted (o .reply) ≡ true → EnterFacts s r o) (rows rules s (Enter r)) (rules .act s (Enter r)) s refl
     (λ f _.
-    let fine = undamaged-fine rules s (f .0) in
-    let is = reader-written (enter-moves s fine r (leb-false (readers (s .words)) r (f .1 .0))) in record {
+    let no-damage = undamaged-facts rules s (f .0) in
+    let is = reader-written (enter-moves s no-damage r (leb-false (readers (s .words)) r (f .1 .0))) in record {
       reply-is = ap (λ (x : Reader). At (x .place)) (sym is);
       from-0 = λ e. is ∙ sym (onward-loads _ (current (s .words)) (reader s r) e);
       from-1 = λ e. is ∙ sym (onward-arrives (version (s .words)) (current (s .words)) (reader s r) e);
       from-4 = λ e. is ∙ sym (onward-picks (version (s .words)) _ (reader s r) (λ z. omega arith) (λ z. omega arith));
-      counts = enter-counts s fine r;
+      counts = enter-counts s no-damage r;
     })
     (λ ok. clash (sym ok))
 
@@ -76,9 +76,9 @@ pub old-leave-facts : (s : State) (r : ℕ) → accepted (step rules s (Leave r)
 unfolding step
 old-leave-facts s r = decided (λ (o : Outcome). accepted (o .reply) ≡ true → LeaveFacts s r o) (rows rules s (Leave r)) (rules .act s (Leave r)) s refl
     (λ f _.
-    let fine = undamaged-fine rules s (f .0) in record {
+    let no-damage = undamaged-facts rules s (f .0) in record {
       reply-is = refl;
-      record-is = reader-written (leave-moves s fine r (leb-false (readers (s .words)) r (f .1 .0)));
-      counts = leave-counts s fine r;
+      record-is = reader-written (leave-moves s no-damage r (leb-false (readers (s .words)) r (f .1 .0)));
+      counts = leave-counts s no-damage r;
     })
     (λ ok. clash (sym ok))

@@ -24,33 +24,33 @@ use Rattle.layout.specs.Records.{_place≔_, _first≔_, _picked≔_}
 use Rattle.layout.specs.Laws.{length-reader, indicator-reader, indicator-put, fresh-indicator, fresh-reader}
 use Rattle.statement.specs.Machine.{State, state, Given}
 use Rattle.statement.specs.Frame.{PlaceAndOne}
-use Rattle.statement.specs.Kept.{Ghost, Back}
-use Rattle.statement.specs.Kept as kept
+use Rattle.statement.specs.KeptInvariant.{Ghost, Back}
+use Rattle.statement.specs.KeptInvariant as kept
 use Rattle.publication_law.specs.Steps.{reader, publisher, enterTests, leaveTests, syncTests, sync, raise, walk, placeAfter, made}
-use Rattle.publication_law.specs.DamageLaws.{Fine}
+use Rattle.publication_law.specs.DamageLaws.{Undamaged}
 use Rattle.publication_law.specs.Onward.{Onward}
 use Rattle.publication_law.specs.Onward.Onward.{stays-out, opens, picks}
 use Rattle.publication_law.specs.Moves.{MovesReader, reader-moves, reader-moves-indicator}
 use Rattle.publication_law.specs.KindLaw.{KindLaw, up-to-law}
 use Rattle.publication_law.specs.Frames.{place-and-one}
-use Rattle.publication_law.specs.Lawful.{Good, Lawful}
-use Rattle.publication_law.specs.Detector.{Detector, OwnOf, start-own, early-own, enter-good, leave-good, sync-good, raise-good, walk-good, return-good}
-use Rattle.two_phase_law.specs.Steps.{LAST, versions, kind, readerRows, parity, addedTo, onward, placeOn, entered, enterWords, leaving, leaveWords, watched, looksOf, lookAt, freshReader, fixed}
+use Rattle.publication_law.specs.KindShows.{WholeInvariant, KindShows}
+use Rattle.publication_law.specs.Detector.{Detector, OwnOf, start-own, early-own, enter-invariant, leave-invariant, sync-invariant, raise-invariant, walk-invariant, return-from-invariant}
+use Rattle.two_phase_law.specs.Steps.{LAST, versions, damageRules, readerRows, parity, addedTo, onward, placeOn, entered, enterWords, leaving, leaveWords, watched, looksOf, lookAt, freshReader, fixed}
 use Rattle.two_phase_law.specs.Traits.{traits}
-use Rattle.two_phase_law.specs.Counts.{Counted, counted-to, none-added, stays-counted, arrives-counted, leaves-counted, passedAt, Looked, look-mark, look-turn, turn-low, turn-high, looked}
+use Rattle.two_phase_law.specs.Counts.{Counted, counted-to, none-added, stays-counted, arrives-counted, leaves-counted, passedAt, LookFacts, look-mark, walk-places, turn-low, turn-high, look-facts}
 
--- At 5 a reader is spoiled by its pick alone.
+-- At 5 a reader is damaged by its pick alone.
 pub picked-rows : (ss : ℕ) (x : Reader) → x .place ≡ 5 → anyTrue (readerRows ss x) ≡ leb ss (x .picked)
 picked-rows ss x e = rw e (or-none (leb ss (x .picked)))
 
-abbrev pub law : KindLaw kind
+abbrev pub law : KindLaw damageRules
 law = record {
   versions-law = up-to-law LAST;
   reader-picked = λ rs ss x e f. leb-false ss (x .picked) (sym (picked-rows ss x e) ∙ f);
-  own = λ rs y. ltb 38 (y .place);
-  own-rows = λ rs ss y. refl;
-  own-early = λ rs y l. le-ltb 38 (y .place) (omega arith);
-  own-beyond = λ rs y e. ltb-false 38 (y .place) e;
+  extraDamage = λ rs y. ltb 38 (y .place);
+  extra-rows = λ rs ss y. refl;
+  extra-early = λ rs y l. le-ltb 38 (y .place) (omega arith);
+  extra-beyond = λ rs y e. ltb-false 38 (y .place) e;
 }
 
 -- From 36 on a synchronise waits only for readers that added to the other indicator; a look passes at 35 and at 37.
@@ -102,12 +102,12 @@ onward-stays ver cur x = pick-split (PlaceAndOne x) (eqb (x .place) 0) (λ _. pl
     (λ _. place-and-one _ _ 4 (λ _. refl) (λ _. refl) (λ _. refl) (λ n. absurd (n refl))))
 
 -- The words after an ENTER and a LEAVE.
-pub enter-moves : (s : State) → Fine kind s → (r : ℕ) → r < readers (s .words) → MovesReader (s .words) (enterWords s r) r (entered s r)
+pub enter-moves : (s : State) → Undamaged damageRules s → (r : ℕ) → r < readers (s .words) → MovesReader (s .words) (enterWords s r) r (entered s r)
 enter-moves s f r l =
     pick-split (λ (w : List ℕ). MovesReader (s .words) w r (entered s r)) (eqb (reader s r .place) 1)
     (λ _. reader-moves-indicator f r (entered s r) l (INDICATORS-AT + parity (reader s r .first)) _ (omega arith) (omega arith)) (λ _. reader-moves f r (entered s r) l)
 
-pub leave-moves : (s : State) → Fine kind s → (r : ℕ) → r < readers (s .words) → MovesReader (s .words) (leaveWords s r) r (leaving (reader s r))
+pub leave-moves : (s : State) → Undamaged damageRules s → (r : ℕ) → r < readers (s .words) → MovesReader (s .words) (leaveWords s r) r (leaving (reader s r))
 leave-moves s f r l = reader-moves-indicator f r (leaving (reader s r)) l (INDICATORS-AT + parity (reader s r .first)) _ (omega arith) (omega arith)
 
 -- The indicators after a reader is written, with one of them changed.
@@ -120,9 +120,9 @@ changed-indicator w len r x k low d i = indicator-put (withReader w r x) k (d (i
     go false e = refl
 
 -- Each of the kind's own steps keeps the invariant.
-module _ (z : Given) (g : Ghost) (s : State) (i : Good kind (OwnOf detector) z g s) where
+module _ (z : Given) (g : Ghost) (s : State) (i : WholeInvariant damageRules (OwnOf detector) z g s) where
   head-long : HEAD ≤ length (s .words)
-  head-long = omega (arith, i .shared .every .fine .head .long)
+  head-long = omega (arith, i .shared .every .no-damage .head .long)
 
   -- ENTER from 0, from 1 and from 4: what is counted of reader r.
   out-added : (x : Reader) (k : ℕ) → x .place ≤ 3 → addedTo k x ≡ false
@@ -149,36 +149,36 @@ module _ (z : Given) (g : Ghost) (s : State) (i : Good kind (OwnOf detector) z g
       rw (ne-eqb (reader s r .place) 0 (λ q. omega arith), ne-eqb (reader s r .place) 1 (λ q. omega arith)) (same-counted r x rn (λ k. sym (in-added (reader s r) k (omega arith))))
   arrived r (suc (suc (suc (suc (suc pl))))) rn e l n2 n3 = absurd (omega arith)
 
-  enter-kept : (r : ℕ) → AllClear (enterTests s r) → Good kind (OwnOf detector) z (kept.advance g (Enter r) (At (entered s r .place))) (state (enterWords s r) (s .entries))
+  enter-kept : (r : ℕ) → AllClear (enterTests s r) → WholeInvariant damageRules (OwnOf detector) z (kept.advance g (Enter r) (At (entered s r .place))) (state (enterWords s r) (s .entries))
   enter-kept r f =
       let lt : r < readers (s .words) = leb-false _ _ (f .0) in
       let l : reader s r .place ≤ 4 = let q = leb-false 5 (reader s r .place) (f .1 .0) in omega arith in
-      let rf = all-false (readerRows (slots (s .words)) (reader s r)) (i .shared .every .fine .readers-fine r lt) in
+      let rf = all-false (readerRows (slots (s .words)) (reader s r)) (i .shared .every .no-damage .readers-undamaged r lt) in
       let n2 = eqb-false (reader s r .place) 2 (rf .1 .0) in
       let n3 = eqb-false (reader s r .place) 3 (rf .1 .1 .0) in
-      enter-good detector kind law z g s i _ r (entered s r) (enter-moves s (i .shared .every .fine) r lt)
-      (none-true (readerRows (slots (s .words)) (entered s r)) (onward-fits _ _ _ (reader s r) _ (i .shared .every .fine .head .current-below)))
+      enter-invariant detector damageRules law z g s i _ r (entered s r) (enter-moves s (i .shared .every .no-damage) r lt)
+      (none-true (readerRows (slots (s .words)) (entered s r)) (onward-fits _ _ _ (reader s r) _ (i .shared .every .no-damage .head .current-below)))
       (arrived r _ lt refl l n2 n3) lt (onward-goes _ _ (reader s r) _ l n2 n3) (λ four y b. rw (onward-first (version (s .words)) (current (s .words)) (reader s r) four) b)
 
-  leave-kept : (r : ℕ) → AllClear (leaveTests s r) → Good kind (OwnOf detector) z (kept.advance g (Leave r) Left) (state (leaveWords s r) (s .entries))
+  leave-kept : (r : ℕ) → AllClear (leaveTests s r) → WholeInvariant damageRules (OwnOf detector) z (kept.advance g (Leave r) Left) (state (leaveWords s r) (s .entries))
   leave-kept r f =
       let lt : r < readers (s .words) = leb-false _ _ (f .0) in
-      leave-good detector kind law z g s i _ r (leaving (reader s r)) (leave-moves s (i .shared .every .fine) r lt) refl
+      leave-invariant detector damageRules law z g s i _ r (leaving (reader s r)) (leave-moves s (i .shared .every .no-damage) r lt) refl
       (leaves-counted _ (indicator (s .words)) (readerAt (s .words)) (i .own .readers-are) r lt _ _ (ltb-false _ _ (f .1 .0)) (omega arith)
       (λ k _. changed-indicator (s .words) head-long r _ (parity (reader s r .first)) (omega arith) (λ n. n - 1) k)) refl
 
-  sync-kept : (p : ℕ) → AllClear (syncTests versions s p) → Good kind (OwnOf detector) z (kept.advance g (Sync p) (Synced (version (s .words) + 1))) (sync versions s p .after)
-  sync-kept p f = sync-good detector kind law z g s i p f refl refl (λ r _ l. absurd (omega arith))
+  sync-kept : (p : ℕ) → AllClear (syncTests versions s p) → WholeInvariant damageRules (OwnOf detector) z (kept.advance g (Sync p) (Synced (version (s .words) + 1))) (sync versions s p .after)
+  sync-kept p f = sync-invariant detector damageRules law z g s i p f refl refl (λ r _ l. absurd (omega arith))
 
-  raise-kept : (p : ℕ) → p < publishers (s .words) → eqb (publisher s p .place) 36 ≡ true → Good kind (OwnOf detector) z (kept.advance g (Raise p) (raise versions s p .reply)) (raise versions s p .after)
+  raise-kept : (p : ℕ) → p < publishers (s .words) → eqb (publisher s p .place) 36 ≡ true → WholeInvariant damageRules (OwnOf detector) z (kept.advance g (Raise p) (raise versions s p .reply)) (raise versions s p .after)
   raise-kept p lt turn =
       let at36 = eqb-true (publisher s p .place) 36 turn in
-      raise-good detector kind law z g s i p lt (omega arith) (omega arith) refl (rw at36 refl) (λ r b _. b (omega arith)) (λ _. i .own .readers-are)
+      raise-invariant detector damageRules law z g s i p lt (omega arith) (omega arith) refl (rw at36 refl) (λ r b _. b (omega arith)) (λ _. i .own .readers-are)
 
   -- A look of publisher p.
   module _ (p b : ℕ) (lt : p < publishers (s .words)) (turn : (publisher s p .place ≡ 35) ⊎ (publisher s p .place ≡ 37)) where
-    came : Looked (indicator (s .words) (watched (publisher s p))) (publisher s p) b (looksOf s (publisher s p) b)
-    came = looked (indicator (s .words) (watched (publisher s p))) (publisher s p) b turn
+    came : LookFacts (indicator (s .words) (watched (publisher s p))) (publisher s p) b (looksOf s (publisher s p) b)
+    came = look-facts (indicator (s .words) (watched (publisher s p))) (publisher s p) b turn
 
     low : 35 ≤ publisher s p .place
     low = turn-low (publisher s p .place) turn
@@ -218,8 +218,8 @@ module _ (z : Given) (g : Ghost) (s : State) (i : Good kind (OwnOf detector) z g
     still-counted : looksOf s (publisher s p) b .walk .looks ≡ passedAt (placeAfter (publisher s p .place) (looksOf s (publisher s p) b .reply)) + looksOf s (publisher s p) b .walk .waits
     still-counted = omega (arith, came .counted, i .own .counted p low)
 
-    walk-kept : Good kind (OwnOf detector) z (kept.advance g (Walk p b) (Walked (looksOf s (publisher s p) b .reply))) (walk s p (looksOf s (publisher s p) b) .after)
-    walk-kept = walk-good detector kind law z g s i p b lt low high (looksOf s (publisher s p) b) (came .waits-are) still-counted
+    walk-kept : WholeInvariant damageRules (OwnOf detector) z (kept.advance g (Walk p b) (Walked (looksOf s (publisher s p) b .reply))) (walk s p (looksOf s (publisher s p) b) .after)
+    walk-kept = walk-invariant detector damageRules law z g s i p b lt low high (looksOf s (publisher s p) b) (came .waits-are) still-counted
         none-pending (came .mark-same) (le-ltb 38 _ (came .high)) (λ r q l. rw (came .mark-same) (after-behind r q l))
 
     -- A return is said at 37.
@@ -230,7 +230,7 @@ module _ (z : Given) (g : Ghost) (s : State) (i : Good kind (OwnOf detector) z g
     return-shown : (l w : ℕ) → looksOf s (publisher s p) b .reply ≡ Returned l w → Back traits z g p l w
     return-shown l w q =
         let n = came .returns l w q in
-        return-good detector kind law z g s i p b lt low high (looksOf s (publisher s p) b) (came .waits-are) still-counted traits l w (returned-at37 turn (n .0)) q
+        return-from-invariant detector damageRules law z g s i p b lt low high (looksOf s (publisher s p) b) (came .waits-are) still-counted traits l w (returned-at37 turn (n .0)) q
         (none-pending (rw q refl)) (n .1) (n .2) (rw q refl)
 
 -- At the start no reader has added to an indicator.
@@ -248,8 +248,8 @@ unfolding lookAt
 no-looks s p = refl
 
 -- All that only the old store can show: a walk passes two looks, ENTER goes 1, 4, 5.
-pub lawful : Lawful fixed traits
-lawful = record {
+pub kind-shows : KindShows fixed traits
+kind-shows = record {
   kind-law = law;
   first-is = refl;
   lacks-is = λ c. refl;
@@ -281,6 +281,6 @@ lawful = record {
   leave-kept = leave-kept;
   sync-kept = sync-kept;
   raise-kept = raise-kept;
-  walk-kept = λ z g s i p b lt turn. walk-kept z g s i p b lt (look-turn (publisher s p .place) turn);
-  return-shown = λ z g s i p b l w lt turn. return-shown z g s i p b lt (look-turn (publisher s p .place) turn) l w;
+  walk-kept = λ z g s i p b lt turn. walk-kept z g s i p b lt (walk-places (publisher s p .place) turn);
+  return-shown = λ z g s i p b l w lt turn. return-shown z g s i p b lt (walk-places (publisher s p .place) turn) l w;
 }

@@ -16,7 +16,7 @@ use Rattle.layout.specs.Layout.{readers, current, version, indicator, readerAt,
 use Rattle.layout.specs.Records.{_place≔_, _first≔_, _picked≔_, _looks≔_, _waits≔_}
 use Rattle.statement.specs.Machine.{State, Machine}
 use Rattle.publication_law.specs.Steps.{Versions, upTo, reader, publisher}
-use Rattle.publication_law.specs.Damage.{Kind, wrongPick, publisherRows}
+use Rattle.publication_law.specs.Damage.{DamageRules, wrongPick, publisherRows}
 use Rattle.publication_law.specs.Table.{Table, machine}
 use Rattle.publication_law.specs.Rules.{Rules, tableBy}
 
@@ -31,8 +31,8 @@ versions = upTo LAST
 abbrev pub readerRows : ℕ → Reader → List Bool
 readerRows slots x = ltb 5 (x .place) ∷ eqb (x .place) 2 ∷ eqb (x .place) 3 ∷ wrongPick slots x ∷ []
 
-abbrev pub kind : Kind
-kind = record {
+abbrev pub damageRules : DamageRules
+damageRules = record {
   number = KIND-OLD;
   versions = versions;
   readerDamaged = λ readers slots x. anyTrue (readerRows slots x);
@@ -88,17 +88,17 @@ leaveWords s r =
 abbrev pub watched : Publisher → ℕ
 watched y = pick (eqb (y .place) 35) (parity (y .walk .mark)) (1 - parity (y .walk .mark))
 
-abbrev pub progress : Publisher → ℕ → ℕ → WalkReply → Progress
-progress y looks waits a = record { walk = y .walk looks≔ looks waits≔ waits; reply = a }
+abbrev pub lookResult : Publisher → ℕ → ℕ → WalkReply → Progress
+lookResult y looks waits a = record { walk = y .walk looks≔ looks waits≔ waits; reply = a }
 
 -- At 35 zero gives quiet and place 36; at 37 zero gives returned and place 38. Nonzero: waits rises, waiting with the indicator's number.
 -- Spent exactly if b = 0. Every look, passed or not, adds one to looks.
 unfoldable pub lookAt : ℕ → Publisher → ℕ → Progress
 lookAt count y b =
-    pick (eqb b 0) (progress y (y .walk .looks) (y .walk .waits) Spent)
+    pick (eqb b 0) (lookResult y (y .walk .looks) (y .walk .waits) Spent)
     (pick (eqb count 0)
-    (progress y (y .walk .looks + 1) (y .walk .waits) (pick (eqb (y .place) 35) Quiet (Returned (y .walk .looks + 1) (y .walk .waits))))
-    (progress y (y .walk .looks + 1) (y .walk .waits + 1) (Waiting (watched y))))
+    (lookResult y (y .walk .looks + 1) (y .walk .waits) (pick (eqb (y .place) 35) Quiet (Returned (y .walk .looks + 1) (y .walk .waits))))
+    (lookResult y (y .walk .looks + 1) (y .walk .waits + 1) (Waiting (watched y))))
 
 abbrev pub looksOf : State → Publisher → ℕ → Progress
 looksOf s y b = lookAt (indicator (s .words) (watched y)) y b
@@ -110,7 +110,7 @@ freshReader = blankReader NOT-READING
 -- 31 another publisher not at place 0; RAISE p at 36; WALK p b at 35 and 37.
 abbrev pub fixed : Rules
 fixed = record {
-  kind = kind;
+  damage = damageRules;
   further = λ s. miscounted s 0 || miscounted s 1;
   freshReader = freshReader;
   entered = entered;

@@ -37,8 +37,8 @@ new-pitch-requires-2 c κs = search needs
 write-requires-2 : tie.Need-write-requires-2 Inv-loop μ-loop
 write-requires-2 c κs = search needs
 
-said-new-requires : tie.Need-said-new-requires Inv-loop μ-loop
-said-new-requires c κs = search needs
+show-new-requires : tie.Need-show-new-requires Inv-loop μ-loop
+show-new-requires c κs = search needs
 
 same-length : tie.Need-same-length Inv-loop μ-loop
 same-length c = c .before .before .write2 .kept .1 .0 ∙ c .before .before .before .before .before .before .loop .inv .1
@@ -60,6 +60,6 @@ write-new-spec =
     loop-again
     new-pitch-requires-2
     write-requires-2
-    said-new-requires
+    show-new-requires
     same-length
     returns)

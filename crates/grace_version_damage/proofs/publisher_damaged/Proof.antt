@@ -2,7 +2,7 @@
 use borrow.Author.Needs.{needs}
 use mathlib.Core.Path.{sym, _∙_}
 use Rattle.layout.specs.Layout.{publisherAt}
-use Rattle.publication_law.specs.KindLaw.{publisher-idle, publisher-early, own-spoils, held-large, wrong-mark, more-waits, own-decides}
+use Rattle.publication_law.specs.KindLaw.{publisher-idle, publisher-early, extra-damages, held-large, wrong-mark, more-waits, extra-decides}
 use Rattle.grace_version_law.specs.Safety.{law}
 use Rattle.grace_version_law.specs.Calls.{no-such-place, own-returned, own-walking}
 use Rattle.grace_version_damage.proofs.publisher_damaged.Statement.{statement}
@@ -34,13 +34,13 @@ returns-5 : tie.Need-returns-5
 returns-5 c = sym (more-waits law (c .before .before .before .before .before .before .before .before .before .before .before .before .before .args .readers) (c .before .before .before .before .before .before .before .before .before .before .before .before .before .args .slots) (publisherAt (c .before .before .before .before .before .before .before .before .before .before .before .before .before .args .words .now) (c .before .before .before .before .before .before .before .before .before .before .before .before .before .args .p)) (rw (c .before .before .before .before .before .before .before .before .before .before .before .publisher-place .ensures) at (c .before .before .before .before .before .before .if3 .left)) (rw (c .before .before .before .before .before .before .before .before .before .publisher-at .ensures) at (c .if5 .taken)))
 
 returns-6 : tie.Need-returns-6
-returns-6 c = sym (own-decides law (c .before .before .before .before .before .before .before .before .before .before .before .before .before .before .args .readers) (c .before .before .before .before .before .before .before .before .before .before .before .before .before .before .args .slots) (publisherAt (c .before .before .before .before .before .before .before .before .before .before .before .before .before .before .args .words .now) (c .before .before .before .before .before .before .before .before .before .before .before .before .before .before .args .p)) (rw (c .before .before .before .before .before .before .before .before .before .before .publisher-at .ensures) at (c .before .before .before .before .before .before .before .before .if2 .left)) (rw (c .before .before .before .before .before .before .before .before .before .before .before .before .publisher-place .ensures) at (c .before .before .before .before .before .before .before .if3 .left)) (rw (c .before .before .before .before .before .before .before .before .before .before .publisher-at .ensures) at (c .before .before .before .if4 .left)) (rw (c .before .before .before .before .before .before .before .before .before .before .publisher-at .ensures) at (c .before .if5 .left)) ∙ own-returned (c .before .before .before .before .before .before .before .before .before .before .before .before .before .before .args .readers) (publisherAt (c .before .before .before .before .before .before .before .before .before .before .before .before .before .before .args .words .now) (c .before .before .before .before .before .before .before .before .before .before .before .before .before .before .args .p)) (rw (c .before .before .before .before .before .before .before .before .before .before .before .before .publisher-place .ensures) at (c .if6 .taken)))
+returns-6 c = sym (extra-decides law (c .before .before .before .before .before .before .before .before .before .before .before .before .before .before .args .readers) (c .before .before .before .before .before .before .before .before .before .before .before .before .before .before .args .slots) (publisherAt (c .before .before .before .before .before .before .before .before .before .before .before .before .before .before .args .words .now) (c .before .before .before .before .before .before .before .before .before .before .before .before .before .before .args .p)) (rw (c .before .before .before .before .before .before .before .before .before .before .publisher-at .ensures) at (c .before .before .before .before .before .before .before .before .if2 .left)) (rw (c .before .before .before .before .before .before .before .before .before .before .before .before .publisher-place .ensures) at (c .before .before .before .before .before .before .before .if3 .left)) (rw (c .before .before .before .before .before .before .before .before .before .before .publisher-at .ensures) at (c .before .before .before .if4 .left)) (rw (c .before .before .before .before .before .before .before .before .before .before .publisher-at .ensures) at (c .before .if5 .left)) ∙ own-returned (c .before .before .before .before .before .before .before .before .before .before .before .before .before .before .args .readers) (publisherAt (c .before .before .before .before .before .before .before .before .before .before .before .before .before .before .args .words .now) (c .before .before .before .before .before .before .before .before .before .before .before .before .before .before .args .p)) (rw (c .before .before .before .before .before .before .before .before .before .before .before .before .publisher-place .ensures) at (c .if6 .taken)))
 
 returns-7 : tie.Need-returns-7
-returns-7 c = sym (own-spoils law (c .before .before .before .before .before .before .before .before .before .before .before .before .before .before .before .args .readers) (c .before .before .before .before .before .before .before .before .before .before .before .before .before .before .before .args .slots) (publisherAt (c .before .before .before .before .before .before .before .before .before .before .before .before .before .before .before .args .words .now) (c .before .before .before .before .before .before .before .before .before .before .before .before .before .before .before .args .p)) (no-such-place (c .before .before .before .before .before .before .before .before .before .before .before .before .before .before .before .args .readers) (publisherAt (c .before .before .before .before .before .before .before .before .before .before .before .before .before .before .before .args .words .now) (c .before .before .before .before .before .before .before .before .before .before .before .before .before .before .before .args .p)) (rw (c .before .before .before .before .before .before .before .before .before .before .before .before .before .publisher-place .ensures) at (c .if7 .taken))))
+returns-7 c = sym (extra-damages law (c .before .before .before .before .before .before .before .before .before .before .before .before .before .before .before .args .readers) (c .before .before .before .before .before .before .before .before .before .before .before .before .before .before .before .args .slots) (publisherAt (c .before .before .before .before .before .before .before .before .before .before .before .before .before .before .before .args .words .now) (c .before .before .before .before .before .before .before .before .before .before .before .before .before .before .before .args .p)) (no-such-place (c .before .before .before .before .before .before .before .before .before .before .before .before .before .before .before .args .readers) (publisherAt (c .before .before .before .before .before .before .before .before .before .before .before .before .before .before .before .args .words .now) (c .before .before .before .before .before .before .before .before .before .before .before .before .before .before .before .args .p)) (rw (c .before .before .before .before .before .before .before .before .before .before .before .before .before .publisher-place .ensures) at (c .if7 .taken))))
 
 returns-8 : tie.Need-returns-8
-returns-8 c = rw (c .before .before .before .before .before .before .before .before .before .before .before .before .publisher-at .ensures) (sym (own-decides law (c .before .before .before .before .before .before .before .before .before .before .before .before .before .before .before .before .args .readers) (c .before .before .before .before .before .before .before .before .before .before .before .before .before .before .before .before .args .slots) (publisherAt (c .before .before .before .before .before .before .before .before .before .before .before .before .before .before .before .before .args .words .now) (c .before .before .before .before .before .before .before .before .before .before .before .before .before .before .before .before .args .p)) (rw (c .before .before .before .before .before .before .before .before .before .before .before .before .publisher-at .ensures) at (c .before .before .before .before .before .before .before .before .before .before .if2 .left)) (rw (c .before .before .before .before .before .before .before .before .before .before .before .before .before .before .publisher-place .ensures) at (c .before .before .before .before .before .before .before .before .before .if3 .left)) (rw (c .before .before .before .before .before .before .before .before .before .before .before .before .publisher-at .ensures) at (c .before .before .before .before .before .if4 .left)) (rw (c .before .before .before .before .before .before .before .before .before .before .before .before .publisher-at .ensures) at (c .before .before .before .if5 .left)) ∙ own-walking (c .before .before .before .before .before .before .before .before .before .before .before .before .before .before .before .before .args .readers) (publisherAt (c .before .before .before .before .before .before .before .before .before .before .before .before .before .before .before .before .args .words .now) (c .before .before .before .before .before .before .before .before .before .before .before .before .before .before .before .before .args .p)) (rw (c .before .before .before .before .before .before .before .before .before .before .before .before .before .before .publisher-place .ensures) at (c .before .before .before .before .before .before .before .before .before .if3 .left)) (rw (c .before .before .before .before .before .before .before .before .before .before .before .before .before .before .publisher-place .ensures) at (c .before .if7 .left)) (rw (c .before .before .before .before .before .before .before .before .before .before .before .before .before .before .publisher-place .ensures) at (c .before .before .if6 .left))))
+returns-8 c = rw (c .before .before .before .before .before .before .before .before .before .before .before .before .publisher-at .ensures) (sym (extra-decides law (c .before .before .before .before .before .before .before .before .before .before .before .before .before .before .before .before .args .readers) (c .before .before .before .before .before .before .before .before .before .before .before .before .before .before .before .before .args .slots) (publisherAt (c .before .before .before .before .before .before .before .before .before .before .before .before .before .before .before .before .args .words .now) (c .before .before .before .before .before .before .before .before .before .before .before .before .before .before .before .before .args .p)) (rw (c .before .before .before .before .before .before .before .before .before .before .before .before .publisher-at .ensures) at (c .before .before .before .before .before .before .before .before .before .before .if2 .left)) (rw (c .before .before .before .before .before .before .before .before .before .before .before .before .before .before .publisher-place .ensures) at (c .before .before .before .before .before .before .before .before .before .if3 .left)) (rw (c .before .before .before .before .before .before .before .before .before .before .before .before .publisher-at .ensures) at (c .before .before .before .before .before .if4 .left)) (rw (c .before .before .before .before .before .before .before .before .before .before .before .before .publisher-at .ensures) at (c .before .before .before .if5 .left)) ∙ own-walking (c .before .before .before .before .before .before .before .before .before .before .before .before .before .before .before .before .args .readers) (publisherAt (c .before .before .before .before .before .before .before .before .before .before .before .before .before .before .before .before .args .words .now) (c .before .before .before .before .before .before .before .before .before .before .before .before .before .before .before .before .args .p)) (rw (c .before .before .before .before .before .before .before .before .before .before .before .before .before .before .publisher-place .ensures) at (c .before .before .before .before .before .before .before .before .before .if3 .left)) (rw (c .before .before .before .before .before .before .before .before .before .before .before .before .before .before .publisher-place .ensures) at (c .before .if7 .left)) (rw (c .before .before .before .before .before .before .before .before .before .before .before .before .before .before .publisher-place .ensures) at (c .before .before .if6 .left))))
 
 pub publisher-damaged-spec : {M : Type 1} → statement M
 publisher-damaged-spec =

@@ -8,7 +8,7 @@ use Rattle.grace_version_damage.proofs.publishers_are_damaged.Statement
 use Rattle.grace_version_damage.proofs.publishers_are_damaged.Tie as tie
 use Rattle.grace_version_damage.proofs.publishers_are_damaged.Reads as reads
 use Rattle.grace_version_damage.proofs.publishers_are_damaged.Lts as lts
-use Rattle.grace_version_damage.proofs.publishers_damaged.Reads as publishers-damaged-reads
+use Rattle.grace_version_damage.proofs.first_publishers_damaged.Reads as first-publishers-damaged-reads
 use Rattle.layout.proofs.publishers_of.Reads as publishers-of-reads
 use Rattle.layout.proofs.readers_of.Reads as readers-of-reads
 use Rattle.layout.proofs.slots_of.Reads as slots-of-reads
@@ -31,11 +31,11 @@ readers-of-requires c κs = search needs
 slots-of-requires : tie.Need-slots-of-requires
 slots-of-requires c κs = search needs
 
-publishers-damaged-requires : tie.Need-publishers-damaged-requires
-publishers-damaged-requires c κs = omega (arith, within 1 16 (c .before .before .before .publishers-of .result) (c .before .before .if2 .left))
+first-publishers-damaged-requires : tie.Need-first-publishers-damaged-requires
+first-publishers-damaged-requires c κs = omega (arith, within 1 16 (c .before .before .before .publishers-of .result) (c .before .before .if2 .left))
 
 returns-3 : tie.Need-returns-3
-returns-3 c = λ es. rw (eq-eqb _ _ (c .before .before .before .before .before .if1 .left), rw (c .before .before .before .before .publishers-of .ensures) at (c .before .before .before .if2 .left)) (rw (c .before .before .before .before .publishers-of .ensures, c .before .before .readers-of .ensures, c .before .slots-of .ensures) at (c .publishers-damaged .ensures))
+returns-3 c = λ es. rw (eq-eqb _ _ (c .before .before .before .before .before .if1 .left), rw (c .before .before .before .before .publishers-of .ensures) at (c .before .before .before .if2 .left)) (rw (c .before .before .before .before .publishers-of .ensures, c .before .before .readers-of .ensures, c .before .slots-of .ensures) at (c .first-publishers-damaged .ensures))
 
 pub publishers-are-damaged-spec : {M : Type 1} → statement M
 publishers-are-damaged-spec =
@@ -47,5 +47,5 @@ publishers-are-damaged-spec =
     returns-2
     readers-of-requires
     slots-of-requires
-    publishers-damaged-requires
+    first-publishers-damaged-requires
     returns-3)

@@ -8,7 +8,7 @@ use Rattle.grace_version_damage.proofs.readers_are_damaged.Statement.{s
 use Rattle.grace_version_damage.proofs.readers_are_damaged.Tie as tie
 use Rattle.grace_version_damage.proofs.readers_are_damaged.Reads as reads
 use Rattle.grace_version_damage.proofs.readers_are_damaged.Lts as lts
-use Rattle.grace_version_damage.proofs.readers_damaged.Reads as readers-damaged-reads
+use Rattle.grace_version_damage.proofs.first_readers_damaged.Reads as first-readers-damaged-reads
 use Rattle.layout.proofs.readers_of.Reads as readers-of-reads
 use Rattle.layout.proofs.slots_of.Reads as slots-of-reads
 
@@ -27,11 +27,11 @@ returns-2 c = λ es. rw (eq-eqb _ _ (c .before .before .if1 .left), rw (c .befor
 slots-of-requires : tie.Need-slots-of-requires
 slots-of-requires c κs = search needs
 
-readers-damaged-requires : tie.Need-readers-damaged-requires
-readers-damaged-requires c κs = omega (arith, within 1 64 (c .before .before .readers-of .result) (c .before .if2 .left))
+first-readers-damaged-requires : tie.Need-first-readers-damaged-requires
+first-readers-damaged-requires c κs = omega (arith, within 1 64 (c .before .before .readers-of .result) (c .before .if2 .left))
 
 returns-3 : tie.Need-returns-3
-returns-3 c = λ es. rw (eq-eqb _ _ (c .before .before .before .before .if1 .left), rw (c .before .before .before .readers-of .ensures) at (c .before .before .if2 .left)) (rw (c .before .before .before .readers-of .ensures, c .before .slots-of .ensures) at (c .readers-damaged .ensures))
+returns-3 c = λ es. rw (eq-eqb _ _ (c .before .before .before .before .if1 .left), rw (c .before .before .before .readers-of .ensures) at (c .before .before .if2 .left)) (rw (c .before .before .before .readers-of .ensures, c .before .slots-of .ensures) at (c .first-readers-damaged .ensures))
 
 pub readers-are-damaged-spec : {M : Type 1} → statement M
 readers-are-damaged-spec =
@@ -42,5 +42,5 @@ readers-are-damaged-spec =
     cast-if2
     returns-2
     slots-of-requires
-    readers-damaged-requires
+    first-readers-damaged-requires
     returns-3)

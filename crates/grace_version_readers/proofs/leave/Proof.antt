@@ -8,7 +8,7 @@ use borrow.Author.Tests.{le-leb, lt-leb, lt-ltb}
 use Rattle.statement.specs.Machine.{state}
 use Rattle.publication_law.specs.Table.{damaged, step}
 use Rattle.publication_law.specs.Calls.{step-damaged, undamaged, damaged-head, damaged-readers, damaged-publishers}
-use Rattle.publication_law.specs.Sound.{sound-of}
+use Rattle.publication_law.specs.InBounds.{in-bounds-of}
 use Rattle.grace_version_law.specs.Steps.{rules}
 use Rattle.grace_version_law.specs.Safety.{law}
 use Rattle.grace_version_law.specs.Calls.{leave-is}
@@ -29,8 +29,8 @@ clean c =
     let es = c .before .before .before .before .before .before .before .before .before .before .args .entries .now in
     undamaged rules _ (sym (c .before .before .before .before .before .before .before .head-is-damaged .ensures es refl) ∙ c .before .before .before .before .before .before .if1 .left) (sym (c .before .before .before .before .readers-are-damaged .ensures es) ∙ c .before .before .before .if2 .left) refl (sym (c .before .publishers-are-damaged .ensures es) ∙ c .if3 .left)
 
-spoiled : (c : tie.Joined1) → let k = c .before .before .before .before .args in damaged rules (state (k .words .now) (k .entries .now)) ≡ true
-spoiled c =
+store-damaged : (c : tie.Joined1) → let k = c .before .before .before .before .args in damaged rules (state (k .words .now) (k .entries .now)) ≡ true
+store-damaged c =
     let es = c .before .before .before .before .args .entries .now in
     ⊎-elim (λ t. damaged-head rules _ (sym (c .before .head-is-damaged .ensures es refl) ∙ t .taken))
     (⊎-elim (λ a. damaged-readers rules _ (sym (a .2 .ensures es) ∙ a .3 .taken)) (λ a. damaged-publishers rules _ (sym (a .5 .ensures es) ∙ a .6 .taken)))
@@ -49,10 +49,10 @@ same-length : tie.Need-same-length
 same-length c = search needs
 
 returns : tie.Need-returns
-returns c = step-damaged rules _ (Leave _) (spoiled c)
+returns c = step-damaged rules _ (Leave _) (store-damaged c)
 
 readers-of-requires : tie.Need-readers-of-requires
-readers-of-requires c κs = sound-of rules law _ (clean (c .before)) .long
+readers-of-requires c κs = in-bounds-of rules law _ (clean (c .before)) .long
 
 same-length-2 : tie.Need-same-length-2
 same-length-2 c = search needs
@@ -62,7 +62,7 @@ unfolding step
 returns-2 c = rw (clean (c .before .before .before), le-leb _ _ (rw (c .before .readers-of .ensures) at (c .if4 .taken))) refl
 
 reader-at-requires : tie.Need-reader-at-requires
-reader-at-requires c κs = omega (arith, sound-of rules law _ (clean (c .before .before .before .before)), c .before .before .readers-of .ensures)
+reader-at-requires c κs = omega (arith, in-bounds-of rules law _ (clean (c .before .before .before .before)), c .before .before .readers-of .ensures)
 
 same-length-3 : tie.Need-same-length-3
 same-length-3 c = search needs
@@ -72,7 +72,7 @@ unfolding step
 returns-3 c = rw (clean (c .before .before .before .before .before .before .before), lt-leb _ _ (rw (c .before .before .before .before .before .readers-of .ensures) at (c .before .before .before .before .if4 .left)), lt-ltb _ 4 (rw (c .before .before .reader-at .ensures) at (c .if5 .taken))) refl
 
 put-reader-requires : tie.Need-put-reader-requires
-put-reader-requires c κs = omega (arith, sound-of rules law _ (clean (c .before .before .before .before .before .before .before .before)), c .before .before .before .before .before .before .readers-of .ensures)
+put-reader-requires c κs = omega (arith, in-bounds-of rules law _ (clean (c .before .before .before .before .before .before .before .before)), c .before .before .before .before .before .before .readers-of .ensures)
 
 same-length-4 : tie.Need-same-length-4
 same-length-4 c = search needs

@@ -8,7 +8,7 @@ use borrow.Author.Tests.{le-leb, lt-leb, lt-ltb, eq-eqb, ne-eqb}
 use Rattle.statement.specs.Machine.{state}
 use Rattle.publication_law.specs.Table.{damaged, step}
 use Rattle.publication_law.specs.Calls.{step-damaged, undamaged, damaged-head, damaged-readers, damaged-publishers, walk-is}
-use Rattle.publication_law.specs.Sound.{sound-of, Synchronising, synchronising-of}
+use Rattle.publication_law.specs.InBounds.{in-bounds-of, Synchronising, synchronising-of}
 use Rattle.grace_version_law.specs.Steps.{fixed, rules}
 use Rattle.grace_version_law.specs.Safety.{law}
 use Rattle.grace_version_law.specs.Calls.{next-low}
@@ -32,8 +32,8 @@ use Rattle.publication_grace.proofs.end_walk.Reads as end-walk-reads
 clean : (c : tie.Else3) → damaged rules (state (c .before .before .before .before .before .before .before .before .before .before .args .words .now) (c .before .before .before .before .before .before .before .before .before .before .args .entries .now)) ≡ false
 clean c = undamaged rules (state (c .before .before .before .before .before .before .before .before .before .before .args .words .now) (c .before .before .before .before .before .before .before .before .before .before .args .entries .now)) (sym (c .before .before .before .before .before .before .before .head-is-damaged .ensures (c .before .before .before .before .before .before .before .before .before .before .args .entries .now) refl) ∙ c .before .before .before .before .before .before .if1 .left) (sym (c .before .before .before .before .readers-are-damaged .ensures (c .before .before .before .before .before .before .before .before .before .before .args .entries .now)) ∙ c .before .before .before .if2 .left) refl (sym (c .before .publishers-are-damaged .ensures (c .before .before .before .before .before .before .before .before .before .before .args .entries .now)) ∙ c .if3 .left)
 
-spoiled : (c : tie.Joined1) → damaged rules (state (c .before .before .before .before .args .words .now) (c .before .before .before .before .args .entries .now)) ≡ true
-spoiled c = ⊎-elim (λ t. damaged-head rules (state (c .before .before .before .before .args .words .now) (c .before .before .before .before .args .entries .now)) (sym (c .before .head-is-damaged .ensures (c .before .before .before .before .args .entries .now) refl) ∙ t .taken))
+store-damaged : (c : tie.Joined1) → damaged rules (state (c .before .before .before .before .args .words .now) (c .before .before .before .before .args .entries .now)) ≡ true
+store-damaged c = ⊎-elim (λ t. damaged-head rules (state (c .before .before .before .before .args .words .now) (c .before .before .before .before .args .entries .now)) (sym (c .before .head-is-damaged .ensures (c .before .before .before .before .args .entries .now) refl) ∙ t .taken))
     (⊎-elim (λ a. damaged-readers rules (state (c .before .before .before .before .args .words .now) (c .before .before .before .before .args .entries .now)) (sym (a .2 .ensures (c .before .before .before .before .args .entries .now)) ∙ a .3 .taken)) (λ a. damaged-publishers rules (state (c .before .before .before .before .args .words .now) (c .before .before .before .before .args .entries .now)) (sym (a .5 .ensures (c .before .before .before .before .args .entries .now)) ∙ a .6 .taken)))
     (c .if1 .came)
 
@@ -66,10 +66,10 @@ same-length : tie.Need-same-length
 same-length c = search needs
 
 returns : tie.Need-returns
-returns c = step-damaged rules _ (Walk _ _) (spoiled c)
+returns c = step-damaged rules _ (Walk _ _) (store-damaged c)
 
 publishers-of-requires : tie.Need-publishers-of-requires
-publishers-of-requires c κs = sound-of rules law _ (clean (c .before)) .long
+publishers-of-requires c κs = in-bounds-of rules law _ (clean (c .before)) .long
 
 same-length-2 : tie.Need-same-length-2
 same-length-2 c = search needs
@@ -79,7 +79,7 @@ unfolding step
 returns-2 c = rw (clean (c .before .before .before), le-leb _ _ (rw (c .before .publishers-of .ensures) at (c .if4 .taken))) refl
 
 publisher-at-requires : tie.Need-publisher-at-requires
-publisher-at-requires c κs = omega (arith, sound-of rules law _ (clean (c .before .before .before .before)), c .before .before .publishers-of .ensures)
+publisher-at-requires c κs = omega (arith, in-bounds-of rules law _ (clean (c .before .before .before .before)), c .before .before .publishers-of .ensures)
 
 sub-if5 : tie.Need-sub-if5
 sub-if5 c = search needs
@@ -92,13 +92,13 @@ unfolding step
 returns-3 c = rw (clean (c .before .before .before .before .before .before .before .before .before), lt-leb _ _ (rw (c .before .before .before .before .before .before .before .publishers-of .ensures) at (c .before .before .before .before .before .before .if4 .left)), rw (c .before .before .before .before .publisher-at .ensures) at (c .before .before .before .match .keys1), lt-ltb _ _ (full c)) refl
 
 readers-of-requires : tie.Need-readers-of-requires
-readers-of-requires c κs = sound-of rules law _ (clean (c .before .before .before .before .before .before .before .before .before .before)) .long
+readers-of-requires c κs = in-bounds-of rules law _ (clean (c .before .before .before .before .before .before .before .before .before .before)) .long
 
 looks-requires : tie.Need-looks-requires
-looks-requires c κs = (sound-of rules law _ (clean (c .before .before .before .before .before .before .before .before .before .before .before)) .long, rw (c .readers-of .ensures) (sound-of rules law _ (clean (c .before .before .before .before .before .before .before .before .before .before .before)) .readers-high), rw (c .readers-of .ensures) (left-to-pass (c .before .before .before .before .before)), room (c .before .before), walker (c .before .before .before .before .before) .waits-low)
+looks-requires c κs = (in-bounds-of rules law _ (clean (c .before .before .before .before .before .before .before .before .before .before .before)) .long, rw (c .readers-of .ensures) (in-bounds-of rules law _ (clean (c .before .before .before .before .before .before .before .before .before .before .before)) .readers-high), rw (c .readers-of .ensures) (left-to-pass (c .before .before .before .before .before)), room (c .before .before), walker (c .before .before .before .before .before) .waits-low)
 
 end-walk-requires : tie.Need-end-walk-requires
-end-walk-requires c κs = (sound-of rules law _ (clean (c .before .before .before .before .before .before .before .before .before .before .before .before .before)), rw (c .before .before .before .before .before .before .before .before .before .before .before .publishers-of .ensures) at (c .before .before .before .before .before .before .before .before .before .before .if4 .left), c .before .before .before .before .before .before .before .before .publisher-at .ensures)
+end-walk-requires c κs = (in-bounds-of rules law _ (clean (c .before .before .before .before .before .before .before .before .before .before .before .before .before)), rw (c .before .before .before .before .before .before .before .before .before .before .before .publishers-of .ensures) at (c .before .before .before .before .before .before .before .before .before .before .if4 .left), c .before .before .before .before .before .before .before .before .publisher-at .ensures)
 
 same-length-4 : tie.Need-same-length-4
 same-length-4 c = search needs

@@ -38,12 +38,12 @@ use denote.Triple.Spec.{Meets, tripleOf}
 use denote.Triple.Table.{entered, cited}
 use denote.Triple.Walked.{says, needs, Stays, stay-ref, stay-none, walkOf, goes-none, goes-ref, Walks, ends-at, walked, walk-meets}
 use denote.Exit.{yes}
-use Rattle.layout.specs.declared.Walk.{Walk}
+use Rattle.layout.specs.declared.WalkRecord.{WalkRecord}
 use Rattle.layout.specs.Records.{_mark≔_}
 use Rattle.publication_law.specs.Looks.{withLook}
 use Rattle.publication_looks.specs.Fits.{Fits}
-use Rattle.layout.proofs.Walk as T
-use Rattle.layout.proofs.Walk.Laws as T′
+use Rattle.layout.proofs.WalkRecord as T
+use Rattle.layout.proofs.WalkRecord.Laws as T′
 use Rattle.publication_looks.proofs.moved as moved
 use Rattle.publication_looks.proofs.moved.Symbol as moved-def
 use Rattle.publication_looks.proofs.moved.Symbol.{name as #publication-looks·moved}
@@ -61,14 +61,14 @@ module _ {M : Type 1} (𝓤 : URA M) (H : Heap 𝓤) (A : Atoms 𝓤) (mem : Mem
   abbrev Moved : Contract 𝓤
   Moved = tripleOf 𝓤 H A moved.signature (moved.spec 𝓤 H A mem run)
 
-  abbrev args : Walk → ℕ → ℕ → ℕ × (ℕ × (ℕ × (ℕ × (ℕ × (ℕ × Unit {0})))))
+  abbrev args : WalkRecord → ℕ → ℕ → ℕ × (ℕ × (ℕ × (ℕ × (ℕ × (ℕ × Unit {0})))))
   args h p q = (h .mark, (h .next, (h .looks, (h .waits, (p, (q, tt))))))
 
-  moved-of : (h : Walk) (p q : ℕ) (r : Walk) → ent 𝓤 (ensured 𝓤 H A moved.ended (moved.clauses 𝓤 H A mem run) tt (args h p q) tt r) (fact 𝓤 (r ≡ withLook h p q))
+  moved-of : (h : WalkRecord) (p q : ℕ) (r : WalkRecord) → ent 𝓤 (ensured 𝓤 H A moved.ended (moved.clauses 𝓤 H A mem run) tt (args h p q) tt r) (fact 𝓤 (r ≡ withLook h p q))
   moved-of h p q r = exE 𝓤 _ (λ ws. snd∗ 𝓤 (sem 𝓤 H A (lasts moved.ended tt (args h p q) ws)) (fact 𝓤 (r ≡ withLook h p q)))
 
-module _ {M : Type 1} (𝓤 : URA M) (H : Heap 𝓤) (A : Atoms 𝓤) (W : Given 𝓤 H A) (at-mem : Memory → SProp 𝓤) (run : Routine → Fun 𝓤) (κ : Lft) (s : Share) (b o : ℕ) (γ : GName) (h : Walk) (p q : ℕ) (p-fits : p < 2 ^ 64) (q-fits : q < 2 ^ 64) (ok : Fits h p q) where
-  abbrev x : RefT Walk × (ℕ × (ℕ × Unit {0}))
+module _ {M : Type 1} (𝓤 : URA M) (H : Heap 𝓤) (A : Atoms 𝓤) (W : Given 𝓤 H A) (at-mem : Memory → SProp 𝓤) (run : Routine → Fun 𝓤) (κ : Lft) (s : Share) (b o : ℕ) (γ : GName) (h : WalkRecord) (p q : ℕ) (p-fits : p < 2 ^ 64) (q-fits : q < 2 ^ 64) (ok : Fits h p q) where
+  abbrev x : RefT WalkRecord × (ℕ × (ℕ × Unit {0}))
   x = (record { ptr = (b, o); name = γ; now = h }, (p, (q, tt)))
 
   abbrev at : List Val × (List Val × (List Val × Unit {0}))
@@ -78,7 +78,7 @@ module _ {M : Type 1} (𝓤 : URA M) (H : Heap 𝓤) (A : Atoms 𝓤) (W : Given
   B = T.the-row
 
   -- the record with the numbers of r but for the mark
-  abbrev put : Walk → Walk
+  abbrev put : WalkRecord → WalkRecord
   put r = r mark≔ h .mark
 
   abbrev Post : Val → SProp 𝓤
@@ -109,7 +109,7 @@ module _ {M : Type 1} (𝓤 : URA M) (H : Heap 𝓤) (A : Atoms 𝓤) (W : Given
         owned ! u64 (Is u64) (uint-makes 𝓤 H A W w64) (h .waits) _ (refl, f3) $ fjoin ! $ owned ! u64 (Is u64) (uint-makes 𝓤 H A W w64) (h .looks) _ (refl, f2) $ fjoin ! $
         owned ! u64 (Is u64) (uint-makes 𝓤 H A W w64) (h .next) _ (refl, f1) $ fjoin ! $ owned ! u64 (Is u64) (uint-makes 𝓤 H A W w64) (h .mark) _ (refl, f0) $ fjoin ! $ done !
 
-    module _ (r : Walk) (is′ : Is T.the-row r (T′.lowered r ∷ [])) where
+    module _ (r : WalkRecord) (is′ : Is T.the-row r (T′.lowered r ∷ [])) where
       abbrev g1 : r .next < 2 ^ 64
       g1 = LL.owed T.the-type T′.the-laws r _ is′ .1 .0 .1
 
@@ -123,7 +123,7 @@ module _ {M : Type 1} (𝓤 : URA M) (H : Heap 𝓤) (A : Atoms 𝓤) (W : Given
       made : Is T.the-row (put r) (T′.lowered (put r) ∷ [])
       made = LL.owes T.the-type T′.the-laws (put r) ((refl, f0), ((refl, g1), ((refl, g2), ((refl, g3), tt))))
 
-  exits : (r : Walk) → r ≡ withLook h p q → ent 𝓤 (sep 𝓤 (A .obs γ (B .coded .code (put r))) (sep 𝓤 (A .bor κ (Body (mem B) b o γ)) (A .lft κ s))) (Post vunit)
+  exits : (r : WalkRecord) → r ≡ withLook h p q → ent 𝓤 (sep 𝓤 (A .obs γ (B .coded .code (put r))) (sep 𝓤 (A .bor κ (Body (mem B) b o γ)) (A .lft κ s))) (Post vunit)
   exits r e =
       qed W (‵ (fobs γ (B .coded .code (put r))) ∷ ‵ (fbor κ (Body (mem B) b o γ)) ∷ ‵ (flft κ s) ∷ []) ∵
       suffices ! _ (ends-at 𝓤 H A count-look.ended stayed (count-look.clauses 𝓤 H A at-mem run) W (((κ, tt), (s, tt), tt, x, at), tt) vunit tt (put r, (tt, (tt, tt))) (tt, (tt, (tt, tt)))) $ says ! (λ i. put (e i)) $
@@ -149,7 +149,7 @@ module _ {M : Type 1} (𝓤 : URA M) (H : Heap 𝓤) (A : Atoms 𝓤) (W : Given
         calls-at ! fm (Moved 𝓤 H A at-mem run) known to-moved
         (and-then ! (load ! (from ! (stop !)) (look ! 14 refl)) (and-then ! (load ! (from ! (stop !)) (look ! 12 refl)) (and-then ! (load ! (from ! (stop !)) (look ! 10 refl)) (and-then ! (load ! (from ! (stop !)) (look ! 8 refl))
         (and-then ! (load ! (from ! (stop !)) (look ! 20 refl)) (and-then ! (load ! (from ! (stop !)) (look ! 18 refl)) (no-more !))))))) (λ v.
-        use1 W (later (some (λ (r : Walk). (‵ ftrue ⊛ ‵ (B .own r (v ∷ []))) ⊛ raw (ensured 𝓤 H A moved.ended (moved.clauses 𝓤 H A at-mem run) tt (args 𝓤 H A at-mem run h p q) tt r)))) (id⊢ 𝓤 _) $ await ! tt $ pick ! (λ r.
+        use1 W (later (some (λ (r : WalkRecord). (‵ ftrue ⊛ ‵ (B .own r (v ∷ []))) ⊛ raw (ensured 𝓤 H A moved.ended (moved.clauses 𝓤 H A at-mem run) tt (args 𝓤 H A at-mem run h p q) tt r)))) (id⊢ 𝓤 _) $ await ! tt $ pick ! (λ r.
         split ! $ move ! (1 ∷ []) $ use1 W (raw (fact 𝓤 (r ≡ withLook h p q))) (moved-of 𝓤 H A at-mem run h p q r) $ heard ! (r ≡ withLook h p q) (λ e. split ! $ drop ! $
         peeks ! B (Is B) (shows 𝓤 H A B) r (v ∷ []) (λ is₀.
         land ! (from ! (stop !)) (init ! 16 refl (LL.lawful T.the-type T′.the-laws 𝓤 H A W .typed r _ is₀ .0)) $

@@ -39,11 +39,11 @@ use denote.Triple.Spec.{Meets, tripleOf}
 use denote.Triple.Table.{entered, cited}
 use denote.Triple.Walked.{says, needs, Stays, stay-none, walkOf, goes-none, Walks, ends-at, walked, walk-meets}
 use denote.Exit.{yes}
-use Rattle.layout.specs.declared.Walk.{Walk}
+use Rattle.layout.specs.declared.WalkRecord.{WalkRecord}
 use Rattle.publication_law.specs.Looks.{withLook}
 use Rattle.publication_looks.specs.Fits.{Fits}
-use Rattle.layout.proofs.Walk as T
-use Rattle.layout.proofs.Walk.Laws as T′
+use Rattle.layout.proofs.WalkRecord as T
+use Rattle.layout.proofs.WalkRecord.Laws as T′
 use Rattle.publication_looks.proofs.count_look as count-look
 use Rattle.publication_looks.proofs.count_look.Symbol as count-look-def
 use Rattle.publication_looks.proofs.count_look.Symbol.{name as #publication-looks·count-look}
@@ -65,16 +65,16 @@ CountLook 𝓤 H A mem run = tripleOf 𝓤 H A count-look.signature (count-look.
 
 module _ {M : Type 1} (𝓤 : URA M) (H : Heap 𝓤) (A : Atoms 𝓤) (W : Given 𝓤 H A) where
   -- a Walk in a local, as a whole and as its cell with what it owns
-  stands : (h : Walk) (l : ℕ) → ent 𝓤 (sep 𝓤 (sem 𝓤 H A (cellAt fullShare (B .mir) (T′.lowered h ∷ []) l 0)) (sem 𝓤 H A (B .own h (T′.lowered h ∷ [])))) (sem 𝓤 H A (mem B .lies h l 0))
+  stands : (h : WalkRecord) (l : ℕ) → ent 𝓤 (sep 𝓤 (sem 𝓤 H A (cellAt fullShare (B .mir) (T′.lowered h ∷ []) l 0)) (sem 𝓤 H A (B .own h (T′.lowered h ∷ [])))) (sem 𝓤 H A (mem B .lies h l 0))
   unfolding partOf
   stands h l = qed W (‵ (cellAt fullShare (B .mir) (T′.lowered h ∷ []) l 0) ∷ ‵ (B .own h (T′.lowered h ∷ [])) ∷ []) ∵ fjoin ! $ fpack ! (List Val) (λ us. fsep (cellAt fullShare (B .mir) us l 0) (B .own h us)) (T′.lowered h ∷ []) $ done !
 
-  parts : (h : Walk) (l : ℕ) → ent 𝓤 (sem 𝓤 H A (mem B .lies h l 0)) (sep 𝓤 (sem 𝓤 H A (cellAt fullShare (B .mir) (T′.lowered h ∷ []) l 0)) (sem 𝓤 H A (B .own h (T′.lowered h ∷ []))))
+  parts : (h : WalkRecord) (l : ℕ) → ent 𝓤 (sem 𝓤 H A (mem B .lies h l 0)) (sep 𝓤 (sem 𝓤 H A (cellAt fullShare (B .mir) (T′.lowered h ∷ []) l 0)) (sem 𝓤 H A (B .own h (T′.lowered h ∷ []))))
   unfolding partOf
   parts h l = qed W (‵ (mem B .lies h l 0) ∷ []) ∵ fpick ! (λ vs. fsplit ! $ spelt ! B (Is B) (shows 𝓤 H A B) (LL.vals T.the-type T′.the-laws) (LL.tells T.the-type T′.the-laws) fullShare h vs l 0 $ done !)
 
-module _ {M : Type 1} (𝓤 : URA M) (H : Heap 𝓤) (A : Atoms 𝓤) (W : Given 𝓤 H A) (at-mem : Memory → SProp 𝓤) (run : Routine → Fun 𝓤) (h : Walk) (p q : ℕ) (is : Is B h (T′.lowered h ∷ [])) (p-fits : p < 2 ^ 64) (q-fits : q < 2 ^ 64) (ok : Fits h p q) where
-  abbrev a : Walk × (ℕ × (ℕ × Unit {0}))
+module _ {M : Type 1} (𝓤 : URA M) (H : Heap 𝓤) (A : Atoms 𝓤) (W : Given 𝓤 H A) (at-mem : Memory → SProp 𝓤) (run : Routine → Fun 𝓤) (h : WalkRecord) (p q : ℕ) (is : Is B h (T′.lowered h ∷ [])) (p-fits : p < 2 ^ 64) (q-fits : q < 2 ^ 64) (ok : Fits h p q) where
+  abbrev a : WalkRecord × (ℕ × (ℕ × Unit {0}))
   a = (h, (p, (q, tt)))
 
   abbrev at : List Val × (List Val × (List Val × Unit {0}))
@@ -83,11 +83,11 @@ module _ {M : Type 1} (𝓤 : URA M) (H : Heap 𝓤) (A : Atoms 𝓤) (W : Given
   abbrev Post : Val → SProp 𝓤
   Post = walkOf 𝓤 H A look-counted.ended stayed (look-counted.clauses 𝓤 H A at-mem run) .post ((tt, tt, tt, a, at), tt)
 
-  abbrev typed : (r : Walk) → Is B r (T′.lowered r ∷ []) → Holds (hasTy T′.mir (T′.lowered r)) × WT (T′.lowered r)
+  abbrev typed : (r : WalkRecord) → Is B r (T′.lowered r ∷ []) → Holds (hasTy T′.mir (T′.lowered r)) × WT (T′.lowered r)
   typed r g = LL.lawful T.the-type T′.the-laws 𝓤 H A W .typed r _ g .0
 
   -- the local at l, lent under the name δ
-  abbrev x : ℕ → GName → RefT Walk
+  abbrev x : ℕ → GName → RefT WalkRecord
   x l δ = record { ptr = (l, 0); name = δ; now = h }
 
   abbrev to-move : ℕ → ℕ → GName → CountLook 𝓤 H A at-mem run .Ghost
@@ -97,7 +97,7 @@ module _ {M : Type 1} (𝓤 : URA M) (H : Heap 𝓤) (A : Atoms 𝓤) (W : Given
   goes ν l δ = qed W (‵ (flft (ν ∷ []) fullShare) ∷ ‵ (MutRef (named 0) (ν ∷ []) B .own (x l δ) (vptr l 0 ∷ [])) ∷ []) ∵ says ! ok $ nothing ! $ move ! (1 ∷ 0 ∷ []) $ join ! $ frame ! $
       nothing ! $ owned ! u64 (Is u64) (uint-makes 𝓤 H A W w64) q _ (refl, q-fits) $ fjoin ! $ owned ! u64 (Is u64) (uint-makes 𝓤 H A W w64) p _ (refl, p-fits) $ fjoin ! $ move ! (1 ∷ 0 ∷ []) $ fjoin ! $ done !
 
-  exits : (r : Walk) → r ≡ withLook h p q → ent 𝓤 (sem 𝓤 H A (B .own r (T′.lowered r ∷ []))) (Post (T′.lowered r))
+  exits : (r : WalkRecord) → r ≡ withLook h p q → ent 𝓤 (sem 𝓤 H A (B .own r (T′.lowered r ∷ []))) (Post (T′.lowered r))
   exits r e =
       qed W (‵ (B .own r (T′.lowered r ∷ [])) ∷ []) ∵
       suffices ! _ (ends-at 𝓤 H A look-counted.ended stayed (look-counted.clauses 𝓤 H A at-mem run) W ((tt, tt, tt, a, at), tt) (T′.lowered r) r (tt, (tt, (tt, tt))) (tt, (tt, (tt, tt)))) $ says ! e $
@@ -121,7 +121,7 @@ module _ {M : Type 1} (𝓤 : URA M) (H : Heap 𝓤) (A : Atoms 𝓤) (W : Given
         -- [pre; the lender's part; _6; …; _5; …; (_4's) …; _3; …; _2; …; _1; …; room for _0; …]
         calls-at ! fm (CountLook 𝓤 H A at-mem run) known (to-move ν l₄ δ) (and-then ! (load ! (from ! (stop !)) (look ! 2 refl)) (and-then ! (load ! (from ! (stop !)) (look ! 9 refl)) (and-then ! (load ! (from ! (stop !)) (look ! 7 refl)) (no-more !)))) (λ v.
         use1 W (later (some (λ (u : Unit {0}). ((‵ (flft (ν ∷ []) fullShare) ⊛ ‵ ftrue) ⊛ ‵ (unit .own u (v ∷ []))) ⊛ raw (ensured 𝓤 H A count-look.ended (count-look.clauses 𝓤 H A at-mem run) (ν ∷ [], tt) (x l₄ δ, (p, (q, tt))) tt u)))) (id⊢ 𝓤 _) $ await ! tt $ pick ! (λ u.
-        split ! $ move ! (1 ∷ []) $ use1 W (some (λ (zs : Walk × (Unit {0} × (Unit {0} × Unit {0}))). ‵ (lasts count-look.ended (ν ∷ [], tt) (x l₄ δ, (p, (q, tt))) zs) ⊛ raw (fact 𝓤 (zs .0 ≡ withLook h p q)))) (id⊢ 𝓤 _) $ pick ! (λ zs.
+        split ! $ move ! (1 ∷ []) $ use1 W (some (λ (zs : WalkRecord × (Unit {0} × (Unit {0} × Unit {0}))). ‵ (lasts count-look.ended (ν ∷ [], tt) (x l₄ δ, (p, (q, tt))) zs) ⊛ raw (fact 𝓤 (zs .0 ≡ withLook h p q)))) (id⊢ 𝓤 _) $ pick ! (λ zs.
         split ! $ move ! (1 ∷ []) $ heard ! (zs .0 ≡ withLook h p q) (λ e. fsplit ! $ move ! (2 ∷ []) $ split ! $ move ! (1 ∷ []) $ feqL ! (λ ve. split ! $
         land ! (from ! (stop !)) (init ! 7 refl (subst (λ (y : Val). Holds (hasTy tyUnit y) × WT y) (sym (ap only ve)) (tt, tt))) $
         -- the lifetime is ended, and the local comes back at the moved numbers

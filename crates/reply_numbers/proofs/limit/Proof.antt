@@ -5,7 +5,7 @@ use mathlib.Core.Path.{_≡_, refl, ap}
 use mathlib.Core.List.{List, [], _∷_}
 use Prim.Native.Nat.{ℕ}
 use Rattle.calls.specs.Numbers.{KIND-NEW, KIND-OLD, READERS-MAX, PUBLISHERS-MAX, SLOTS-MIN, SLOTS-MAX, TABLE, PITCH-LOW, PITCH-HIGH, FEATHERED, NOT-READING}
-use Rattle.calls.specs.Answer.{pitchNumber}
+use Rattle.calls.specs.ReplyNumbers.{pitchNumber}
 use Rattle.layout.specs.Layout.{WORDS}
 use Rattle.grace_version_law.specs.Steps as new-store
 use Rattle.two_phase_law.specs.Steps as old-store
@@ -16,9 +16,9 @@ use Rattle.reply_numbers.proofs.limit.Reads as reads
 use Rattle.reply_numbers.proofs.limit.Lts as lts
 use Rattle.reply_numbers.proofs.pitch_number.Reads as pitch-number-reads
 
-numbers-are : (a b d : ℕ) → a ≡ pitchNumber PITCH-LOW → b ≡ pitchNumber PITCH-HIGH → d ≡ pitchNumber FEATHERED
+reply-numbers-are : (a b d : ℕ) → a ≡ pitchNumber PITCH-LOW → b ≡ pitchNumber PITCH-HIGH → d ≡ pitchNumber FEATHERED
     → WORDS ∷ KIND-NEW ∷ KIND-OLD ∷ READERS-MAX ∷ PUBLISHERS-MAX ∷ SLOTS-MIN ∷ SLOTS-MAX ∷ TABLE ∷ a ∷ b ∷ d ∷ NOT-READING ∷ new-store.LAST ∷ old-store.LAST ∷ [] ≡ limits
-numbers-are a b d e f g = rw (e, f, g) refl
+reply-numbers-are a b d e f g = rw (e, f, g) refl
 
 pitch-number-requires : tie.Need-pitch-number-requires
 pitch-number-requires c κs = search needs
@@ -48,7 +48,7 @@ array-read-result : tie.Need-array-read-result
 array-read-result c = search needs
 
 returns : tie.Need-returns
-returns c = ap (λ (l : List ℕ). getD l (c .before .before .before .args .which) 0) (numbers-are _ _ _ (c .before .before .pitch-number .ensures) (c .before .pitch-number2 .ensures) (c .pitch-number3 .ensures))
+returns c = ap (λ (l : List ℕ). getD l (c .before .before .before .args .which) 0) (reply-numbers-are _ _ _ (c .before .before .pitch-number .ensures) (c .before .pitch-number2 .ensures) (c .pitch-number3 .ensures))
 
 pub limit-spec : {M : Type 1} → statement M
 limit-spec =

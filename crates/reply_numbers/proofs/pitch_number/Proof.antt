@@ -13,7 +13,7 @@ use lib.Signed.{leZ, nonNeg, mag}
 use Rattle.base.specs.RowLaws.{clash}
 use Rattle.calls.specs.Numbers.{PITCH-HALF, NUMBER-MAX}
 use Rattle.calls.specs.PitchLaws.{PITCH-WIDTH}
-use Rattle.calls.specs.Answer.{pitchNumber}
+use Rattle.calls.specs.ReplyNumbers.{pitchNumber}
 use Rattle.reply_numbers.proofs.pitch_number.Statement.{statement}
 use Rattle.reply_numbers.proofs.pitch_number.Tie as tie
 use Rattle.reply_numbers.proofs.pitch_number.Reads as reads

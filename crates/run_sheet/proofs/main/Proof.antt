@@ -32,26 +32,26 @@ slice-aggregate-read-some c = sym (c .before .before .loop .inv .3)
 read-some-requires : tie.Need-read-some-requires Inv-loop μ-loop
 read-some-requires c κs = search needs
 
-slice-aggregate-say : tie.Need-slice-aggregate-say Inv-loop μ-loop
-slice-aggregate-say c = search needs
+slice-aggregate-feed-read : tie.Need-slice-aggregate-feed-read Inv-loop μ-loop
+slice-aggregate-feed-read c = search needs
 
-slice-aggregate-say-2 : tie.Need-slice-aggregate-say-2 Inv-loop μ-loop
-slice-aggregate-say-2 c = search needs
+slice-aggregate-feed-read-2 : tie.Need-slice-aggregate-feed-read-2 Inv-loop μ-loop
+slice-aggregate-feed-read-2 c = search needs
 
-slice-aggregate-say-3 : tie.Need-slice-aggregate-say-3 Inv-loop μ-loop
-slice-aggregate-say-3 c = search needs
+slice-aggregate-feed-read-3 : tie.Need-slice-aggregate-feed-read-3 Inv-loop μ-loop
+slice-aggregate-feed-read-3 c = search needs
 
 array-share-prefix-input : tie.Need-array-share-prefix-input Inv-loop μ-loop
 array-share-prefix-input c = search needs
 
-slice-aggregate-say-4 : tie.Need-slice-aggregate-say-4 Inv-loop μ-loop
-slice-aggregate-say-4 c = search needs
+slice-aggregate-feed-read-4 : tie.Need-slice-aggregate-feed-read-4 Inv-loop μ-loop
+slice-aggregate-feed-read-4 c = search needs
 
-slice-aggregate-say-5 : tie.Need-slice-aggregate-say-5 Inv-loop μ-loop
-slice-aggregate-say-5 c = search needs
+slice-aggregate-feed-read-5 : tie.Need-slice-aggregate-feed-read-5 Inv-loop μ-loop
+slice-aggregate-feed-read-5 c = search needs
 
-say-requires : tie.Need-say-requires Inv-loop μ-loop
-say-requires c κs = search needs
+feed-read-requires : tie.Need-feed-read-requires Inv-loop μ-loop
+feed-read-requires c κs = search needs
 
 returns : tie.Need-returns Inv-loop μ-loop
 returns c = search needs
@@ -101,13 +101,13 @@ main-spec =
     sub-reads
     slice-aggregate-read-some
     read-some-requires
-    slice-aggregate-say
-    slice-aggregate-say-2
-    slice-aggregate-say-3
+    slice-aggregate-feed-read
+    slice-aggregate-feed-read-2
+    slice-aggregate-feed-read-3
     array-share-prefix-input
-    slice-aggregate-say-4
-    slice-aggregate-say-5
-    say-requires
+    slice-aggregate-feed-read-4
+    slice-aggregate-feed-read-5
+    feed-read-requires
     returns
     loop-less
     loop-again

@@ -18,11 +18,11 @@ Inv-loop words₀ room₀ kept₀ lines₀ count₀ input out₀ used₀ made₀
 abbrev μ-loop : tie.MeasureT-loop
 μ-loop words₀ room₀ kept₀ lines₀ count₀ input out₀ used₀ made₀ words room kept lines count out used made = length input - used
 
-progress-requires : tie.Need-progress-requires Inv-loop μ-loop
-progress-requires c κs = search needs
+feed-result-requires : tie.Need-feed-result-requires Inv-loop μ-loop
+feed-result-requires c κs = search needs
 
 returns : tie.Need-returns Inv-loop μ-loop
-returns c = rw (c .progress .ensures) (record { right = λ e. absurd (c .before .if1 .taken e); wrong = λ ne. (refl, refl, refl, refl) })
+returns c = rw (c .feed-result .ensures) (record { right = λ e. absurd (c .before .if1 .taken e); wrong = λ ne. (refl, refl, refl, refl) })
 
 loop-holds : tie.Need-loop-holds Inv-loop μ-loop
 loop-holds c = (c .if1 .left, refl, refl, refl, c .if1 .left, begins _ _ _)
@@ -96,8 +96,8 @@ loop-again-3 c = let k = c .before .before .before .before .before .before .befo
   ends-read _ _ (k .used) (k .lines) (take (k .count) (k .kept)) (state (k .words) (k .room)) _ (k .out) (k .made) (k .inv .5) (c .before .before .before .before .before .before .before .before .before .before .before .before .before .before .before .before .before .before .before .before .before .loop-test .taken) (c .before .before .before .before .before .before .before .before .before .before .before .before .before .before .before .before .before .before .before .if2 .left) room (k .inv .3) _ _ _ (c .before .before .before .before .before .before .before .before .before .before .before .before .before .before .before .wrapping-add-u64 .ensures) _ (sym (c .before .before .before .before .before .before .before .before .before .before .before .before .before .line-in .ensures) ∙ c .before .before .before .before .before .before .before .before .before .before .before .command .given .1) _ _ (c .before .before .before .before .before .before .before .play .ensures) (c .before .before .print-reply .ensures .put room),
 )
 
-progress-requires-2 : tie.Need-progress-requires-2 Inv-loop μ-loop
-progress-requires-2 c κs = search needs
+feed-result-requires-2 : tie.Need-feed-result-requires-2 Inv-loop μ-loop
+feed-result-requires-2 c κs = search needs
 
 same-length : tie.Need-same-length Inv-loop μ-loop
 same-length c = c .before .before .loop .inv .1
@@ -113,7 +113,7 @@ same-length-4 c = c .before .before .loop .inv .3
 
 returns-2 : tie.Need-returns-2 Inv-loop μ-loop
 returns-2 c = let k = c .before .before .loop in
-    rw (c .progress2 .ensures) (record {
+    rw (c .feed-result2 .ensures) (record {
       right = λ e. ⊎-elim
           (λ t. at-the-end (k .inv .5) (t .left))
           (λ t. at-a-newline (k .inv .5) (t .0 .taken) (t .2 .left) (omega (arith, k .inv .3, fits-false (k .made + 74) (length (k .out)) (t .4 .result) (t .4 .ensures) (t .5 .taken))))
@@ -127,7 +127,7 @@ feed-spec =
     (tie.spec
     Inv-loop
     μ-loop
-    progress-requires
+    feed-result-requires
     returns
     loop-holds
     shared-slice-read-b
@@ -148,7 +148,7 @@ feed-spec =
     print-reply-requires
     loop-less-3
     loop-again-3
-    progress-requires-2
+    feed-result-requires-2
     same-length
     same-length-2
     same-length-3

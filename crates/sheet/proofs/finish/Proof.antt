@@ -7,11 +7,11 @@ use Rattle.sheet.proofs.Turns.{begins, at-the-end, ending-none, ending-
 use Rattle.sheet.proofs.finish.Statement.{statement}
 use Rattle.sheet.proofs.finish.Tie as tie
 
-progress-requires : tie.Need-progress-requires
-progress-requires c κs = search needs
+feed-result-requires : tie.Need-feed-result-requires
+feed-result-requires c κs = search needs
 
 returns : tie.Need-returns
-returns c = rw (c .progress .ensures) (record { right = λ e. at-the-end (begins _ _ _) (omega (arith, ap length (ending-none (c .before .before .before .before .before .args .kept .now) (c .before .before .before .before .before .args .count) (c .before .if1 .taken)))); wrong = λ ne. (refl, refl, refl, refl) })
+returns c = rw (c .feed-result .ensures) (record { right = λ e. at-the-end (begins _ _ _) (omega (arith, ap length (ending-none (c .before .before .before .before .before .args .kept .now) (c .before .before .before .before .before .args .count) (c .before .if1 .taken)))); wrong = λ ne. (refl, refl, refl, refl) })
 
 slice-aggregate-feed : tie.Need-slice-aggregate-feed
 slice-aggregate-feed c = search needs
@@ -38,7 +38,7 @@ pub finish-spec : {M : Type 1} → statement M
 finish-spec =
     tie.close
     (tie.spec
-    progress-requires
+    feed-result-requires
     returns
     slice-aggregate-feed
     feed-requires

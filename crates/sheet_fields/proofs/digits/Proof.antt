@@ -6,7 +6,7 @@ use Prim.Native.Nat.{_-_, _≤_}
 use mathlib.Core.Path.{_≡_, refl, _∙_, sym, ap}
 use Rattle.sheet_law.specs.declared.Number.{Number}
 use Rattle.sheet_law.specs.Reading.{digits as digits-of, within}
-use Rattle.sheet_law.specs.Widths.{within-fine}
+use Rattle.sheet_law.specs.Widths.{within-decimal}
 use Rattle.sheet_fields.proofs.Bytes.{digits-end, digits-low, digits-high, digits-next, too-wide}
 use Rattle.sheet_fields.proofs.digits.Statement.{statement}
 use Rattle.sheet_fields.proofs.digits.Tie as tie
@@ -49,7 +49,7 @@ loop-again c = let k = c .before .before .before .before .before .before .loop i
     (omega arith, omega (arith, c .if4 .left), rw e (k .inv .2 ∙ ap wide-enough (digits-next _ (k .i) (k .n) (c .before .before .before .before .before .if1 .left) (c .before .before .before .if2 .left) (c .before .before .if3 .left))))
 
 returns : tie.Need-returns Inv-loop μ-loop
-returns c = let k = c .before .loop in sym (k .inv .2 ∙ ap wide-enough (digits-end _ (k .i) (k .n) (c .if1 .taken)) ∙ within-fine 18446744073709551615 (k .n) (k .inv .1))
+returns c = let k = c .before .loop in sym (k .inv .2 ∙ ap wide-enough (digits-end _ (k .i) (k .n) (c .if1 .taken)) ∙ within-decimal 18446744073709551615 (k .n) (k .inv .1))
 
 returns-2 : tie.Need-returns-2 Inv-loop μ-loop
 returns-2 c = let k = c .before .before .before .loop in sym (k .inv .2 ∙ ap wide-enough (digits-low _ (k .i) (k .n) (c .before .before .if1 .left) (c .if2 .taken)))

@@ -5,7 +5,7 @@ use mathlib.Core.Logic.{⊎-elim}
 use mathlib.Core.Path.{_≡_, _∙_, sym, ap}
 use Rattle.sheet_law.specs.declared.Number.{Number}
 use Rattle.sheet_law.specs.Reading.{digits as digits-of, plain, within}
-use Rattle.sheet_law.specs.Widths.{within-fine, within-bad, within-is, within-less}
+use Rattle.sheet_law.specs.Widths.{within-decimal, within-bad, within-is, within-less}
 use Rattle.sheet_fields.proofs.Bytes.{plain-empty, plain-zero, plain-digits}
 use Rattle.sheet_fields.proofs.number.Statement.{statement}
 use Rattle.sheet_fields.proofs.number.Tie as tie
@@ -38,7 +38,7 @@ returns-4 : tie.Need-returns-4
 returns-4 c = rw (plain-is (c .before .before .before .before .before), within-is 18446744073709551615 (digits-of 0 (c .before .before .before .before .before .before .before .before .args .s .now)) (c .before .before .v .given .0 .0) (sym (c .before .before .before .before .digits .ensures) ∙ c .before .before .v .given .1)) (sym (within-bad (c .before .before .before .before .before .before .before .before .args .most) (c .before .before .v .given .0 .0) (c .if4 .taken)))
 
 returns-5 : tie.Need-returns-5
-returns-5 c = rw (plain-is (c .before .before .before .before .before), within-is 18446744073709551615 (digits-of 0 (c .before .before .before .before .before .before .before .before .args .s .now)) (c .before .before .v .given .0 .0) (sym (c .before .before .before .before .digits .ensures) ∙ c .before .before .v .given .1)) (sym (within-fine (c .before .before .before .before .before .before .before .before .args .most) (c .before .before .v .given .0 .0) (c .if4 .left)))
+returns-5 c = rw (plain-is (c .before .before .before .before .before), within-is 18446744073709551615 (digits-of 0 (c .before .before .before .before .before .before .before .before .args .s .now)) (c .before .before .v .given .0 .0) (sym (c .before .before .before .before .digits .ensures) ∙ c .before .before .v .given .1)) (sym (within-decimal (c .before .before .before .before .before .before .before .before .args .most) (c .before .before .v .given .0 .0) (c .if4 .left)))
 
 pub number-spec : {M : Type 1} → statement M
 number-spec =

@@ -5,7 +5,7 @@ use Prim.Native.Nat.{_-_}
 use mathlib.Core.Path.{sym, _∙_, ap}
 use Rattle.calls.specs.Numbers.{PITCH-HALF}
 use Rattle.calls.specs.PitchLaws.{pitch-back}
-use Rattle.sheet_law.specs.declared.Angle.the-variants.{At}
+use Rattle.sheet_law.specs.declared.Angle.the-variants.{Hundredths}
 use Rattle.sheet_law.specs.Reading.{plain, positive as positive-of}
 use Rattle.sheet_law.specs.Widths.{within-most}
 use Rattle.sheet_fields.proofs.positive.Statement.{statement}
@@ -27,7 +27,7 @@ above-requires : tie.Need-above-requires
 above-requires c κs = let a = within-most (PITCH-HALF - 1) (plain (c .before .before .before .before .before .args .s .now)) (c .before .v .given .0 .0) (sym (c .before .before .before .number .ensures) ∙ c .before .v .given .1) in omega (arith, a)
 
 returns-2 : tie.Need-returns-2
-returns-2 c = rw (pitch-back (c .above .result) (c .above .ok)) (ap At (c .above .ensures) ∙ sym (ap positive-of (sym (c .before .before .before .before .number .ensures) ∙ c .before .before .v .given .1)))
+returns-2 c = rw (pitch-back (c .above .result) (c .above .ok)) (ap Hundredths (c .above .ensures) ∙ sym (ap positive-of (sym (c .before .before .before .before .number .ensures) ∙ c .before .before .v .given .1)))
 
 pub positive-spec : {M : Type 1} → statement M
 positive-spec =

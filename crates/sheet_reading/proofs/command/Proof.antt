@@ -11,8 +11,8 @@ use Rattle.base.specs.Base.{pick}
 use Rattle.calls.specs.PitchLaws.{pitch-back}
 use Rattle.calls.specs.declared.Call.{Call}
 use Rattle.calls.specs.declared.Call.the-variants as call
-use Rattle.sheet_law.specs.declared.Number.the-variants.{Fine, Bad}
-use Rattle.sheet_law.specs.declared.Angle.the-variants.{At, Wrong}
+use Rattle.sheet_law.specs.declared.Number.the-variants.{Decimal, NoNumber}
+use Rattle.sheet_law.specs.declared.Angle.the-variants.{Hundredths, NoAngle}
 use Rattle.sheet_law.specs.declared.Command.the-variants.{Run}
 use Rattle.sheet_law.specs.declared.Line.the-variants.{Read, Unread}
 use Rattle.sheet_law.specs.Reading.{upToSpace, afterSpace, narrow as narrow-of, angle as angle-of, one, two, pitched}
@@ -25,14 +25,14 @@ use Rattle.sheet_reading.proofs.command.Tie as tie
 abbrev line : tie.After-pitch → List ℕ
 line c = c .before .before .before .before .before .before .before .before .before .args .s .now
 
-first-is : (c : tie.After-pitch) → narrow-of (upToSpace (line c)) ≡ pick (c .before .before .before .before .narrow2 .result .read) (Fine (c .before .before .before .before .narrow2 .result .value)) Bad
-first-is c = ap narrow-of (sym (c .before .before .before .before .before .before .before .cut .ensures .2)) ∙ c .before .before .before .before .narrow2 .ensures
+first-is : (c : tie.After-pitch) → narrow-of (upToSpace (line c)) ≡ pick (c .before .before .before .before .narrow2 .result .read) (Decimal (c .before .before .before .before .narrow2 .result .value)) NoNumber
+first-is c = ap narrow-of (sym (c .before .before .before .before .before .before .before .split-at-space .ensures .2)) ∙ c .before .before .before .before .narrow2 .ensures
 
-second-is : (c : tie.After-pitch) → narrow-of (afterSpace (line c)) ≡ pick (c .before .before .narrow3 .result .read) (Fine (c .before .before .narrow3 .result .value)) Bad
-second-is c = ap narrow-of (sym (tail-is (c .before .before .before .before .before .before .before .cut .result .next) (line c) _ (c .before .before .before .before .before .before .before .cut .ensures .3))) ∙ c .before .before .narrow3 .ensures
+second-is : (c : tie.After-pitch) → narrow-of (afterSpace (line c)) ≡ pick (c .before .before .narrow3 .result .read) (Decimal (c .before .before .narrow3 .result .value)) NoNumber
+second-is c = ap narrow-of (sym (tail-is (c .before .before .before .before .before .before .before .split-at-space .result .next) (line c) _ (c .before .before .before .before .before .before .before .split-at-space .ensures .3))) ∙ c .before .before .narrow3 .ensures
 
-pitch-is : (c : tie.After-pitch) → angle-of (afterSpace (line c)) ≡ pick (c .pitch .result .read) (At (c .pitch .result .value)) Wrong
-pitch-is c = ap angle-of (sym (tail-is (c .before .before .before .before .before .before .before .cut .result .next) (line c) _ (c .before .before .before .before .before .before .before .cut .ensures .3))) ∙ c .pitch .ensures
+pitch-is : (c : tie.After-pitch) → angle-of (afterSpace (line c)) ≡ pick (c .pitch .result .read) (Hundredths (c .pitch .result .value)) NoAngle
+pitch-is c = ap angle-of (sym (tail-is (c .before .before .before .before .before .before .before .split-at-space .result .next) (line c) _ (c .before .before .before .before .before .before .before .split-at-space .ensures .3))) ∙ c .pitch .ensures
 
 -- What each form of arguments gives, whatever the call.
 one-is : (c : tie.After-pitch) (build : ℕ → Call) → pick (c .before .before .before .before .before .before .narrow .result .read) (Read (Run (build (c .before .before .before .before .before .before .narrow .result .value)))) Unread ≡ one (line c) build
@@ -44,38 +44,38 @@ two-is c build = two-read (line c) build (c .before .before .before .before .nar
 pitched-is : (c : tie.After-pitch) (build : ℕ → ℤ → Call) → pick (c .before .before .before .before .narrow2 .result .read && c .pitch .result .read) (Read (Run (build (c .before .before .before .before .narrow2 .result .value) (c .pitch .result .value)))) Unread ≡ pitched (line c) build
 pitched-is c build = pitched-read (line c) build (c .before .before .before .before .narrow2 .result .read) (c .pitch .result .read) (c .before .before .before .before .narrow2 .result .value) (c .pitch .result .value) (first-is c) (pitch-is c)
 
-cut-requires : tie.Need-cut-requires
-cut-requires c κs = tt
+split-at-space-requires : tie.Need-split-at-space-requires
+split-at-space-requires c κs = tt
 
 narrow-requires : tie.Need-narrow-requires
 narrow-requires c κs = tt
 
 slice-aggregate-narrow : tie.Need-slice-aggregate-narrow
-slice-aggregate-narrow c = sym (length-take-le (c .before .before .cut .result .end) (c .before .before .before .before .args .s .now) (c .before .before .cut .ensures .0))
+slice-aggregate-narrow c = sym (length-take-le (c .before .before .split-at-space .result .end) (c .before .before .before .before .args .s .now) (c .before .before .split-at-space .ensures .0))
 
 narrow-requires-2 : tie.Need-narrow-requires-2
 narrow-requires-2 c κs = tt
 
 sub-narrow : tie.Need-sub-narrow
-sub-narrow c = omega (arith, c .before .before .before .cut .ensures .1)
+sub-narrow c = omega (arith, c .before .before .before .split-at-space .ensures .1)
 
 part-narrow-start : tie.Need-part-narrow-start
-part-narrow-start c = omega (arith, c .before .before .before .cut .ensures .1)
+part-narrow-start c = omega (arith, c .before .before .before .split-at-space .ensures .1)
 
 part-narrow-end : tie.Need-part-narrow-end
-part-narrow-end c = omega (arith, c .before .before .before .cut .ensures .1)
+part-narrow-end c = omega (arith, c .before .before .before .split-at-space .ensures .1)
 
 narrow-requires-3 : tie.Need-narrow-requires-3
 narrow-requires-3 c κs = tt
 
 sub-pitch : tie.Need-sub-pitch
-sub-pitch c = omega (arith, c .before .before .before .before .before .cut .ensures .1)
+sub-pitch c = omega (arith, c .before .before .before .before .before .split-at-space .ensures .1)
 
 part-pitch-start : tie.Need-part-pitch-start
-part-pitch-start c = omega (arith, c .before .before .before .before .before .cut .ensures .1)
+part-pitch-start c = omega (arith, c .before .before .before .before .before .split-at-space .ensures .1)
 
 part-pitch-end : tie.Need-part-pitch-end
-part-pitch-end c = omega (arith, c .before .before .before .before .before .cut .ensures .1)
+part-pitch-end c = omega (arith, c .before .before .before .before .before .split-at-space .ensures .1)
 
 pitch-requires : tie.Need-pitch-requires
 pitch-requires c κs = tt
@@ -83,8 +83,8 @@ pitch-requires c κs = tt
 enum-told : tie.Need-enum-told
 enum-told c = search needs
 
-making-requires : tie.Need-making-requires
-making-requires c κs = tt
+store-line-requires : tie.Need-store-line-requires
+store-line-requires c κs = tt
 
 enum-told-2 : tie.Need-enum-told-2
 enum-told-2 c = search needs
@@ -150,7 +150,7 @@ enum-told-12 : tie.Need-enum-told-12
 enum-told-12 c = search needs
 
 returns : tie.Need-returns
-returns c = rw (c .before .enum-told .given .1) (c .making .ensures)
+returns c = rw (c .before .enum-told .given .1) (c .store-line .ensures)
 
 returns-2 : tie.Need-returns-2
 returns-2 c = rw (c .before .enum-told2 .given .1) (c .run .ensures ∙ one-is (c .before .before .before) call.Enter)
@@ -189,7 +189,7 @@ pub command-spec : {M : Type 1} → statement M
 command-spec =
     tie.close
     (tie.spec
-    cut-requires
+    split-at-space-requires
     narrow-requires
     slice-aggregate-narrow
     narrow-requires-2
@@ -202,7 +202,7 @@ command-spec =
     part-pitch-end
     pitch-requires
     enum-told
-    making-requires
+    store-line-requires
     enum-told-2
     run-requires
     enum-told-3

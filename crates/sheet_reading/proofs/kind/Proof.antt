@@ -1,7 +1,7 @@
 -- Each row is the definition's, with the rows after it. Assumes nothing.
 use borrow.Author.Needs.{needs}
 use mathlib.Core.Path.{refl}
-use Rattle.sheet_law.specs.Reading.{named}
+use Rattle.sheet_law.specs.Reading.{namedIn}
 use Rattle.sheet_reading.proofs.kind.Statement.{statement}
 use Rattle.sheet_reading.proofs.kind.Tie as tie
 
@@ -18,7 +18,7 @@ kind-row-requires-2 : tie.Need-kind-row-requires-2
 kind-row-requires-2 c κs = tt
 
 returns : tie.Need-returns
-unfolding named
+unfolding namedIn
 returns c = rw (
   c .kind-row2 .ensures,
   c .before .before .kind-row .ensures,

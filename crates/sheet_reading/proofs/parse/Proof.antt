@@ -6,8 +6,8 @@ use Prim.Native.Nat.{ℕ, _-_}
 use mathlib.Core.Path.{_≡_, sym, _∙_, ap}
 use mathlib.Core.List.{List}
 use lib.Seq.{length-take-le}
-use Rattle.sheet_law.specs.declared.Word.{Word}
-use Rattle.sheet_law.specs.Reading.{upToSpace, afterSpace, word as word-of, command as command-of, inner}
+use Rattle.sheet_law.specs.declared.Keyword.{Keyword}
+use Rattle.sheet_law.specs.Reading.{upToSpace, afterSpace, keyword as keyword-of, command as command-of, inner}
 use Rattle.sheet_law.specs.Widths.{tail-is}
 use Rattle.sheet_law.specs.Reads.{over-80}
 use Rattle.sheet_reading.proofs.Lines.{line-brief, line-unopened, line-unclosed, line-whole, inner-is}
@@ -47,31 +47,31 @@ part-inner-start c = search needs
 part-inner-end : tie.Need-part-inner-end
 part-inner-end c = search needs
 
-cut-requires : tie.Need-cut-requires
-cut-requires c κs = tt
+split-at-space-requires : tie.Need-split-at-space-requires
+split-at-space-requires c κs = tt
 
-slice-aggregate-word : tie.Need-slice-aggregate-word
-slice-aggregate-word c = sym (length-take-le (c .before .cut .result .end) (take (length (c .before .before .before .before .before .before .before .before .before .before .args .line .now) - 1 - 1) (drop 1 (c .before .before .before .before .before .before .before .before .before .before .args .line .now))) (c .before .cut .ensures .0))
+slice-aggregate-keyword : tie.Need-slice-aggregate-keyword
+slice-aggregate-keyword c = sym (length-take-le (c .before .split-at-space .result .end) (take (length (c .before .before .before .before .before .before .before .before .before .before .args .line .now) - 1 - 1) (drop 1 (c .before .before .before .before .before .before .before .before .before .before .args .line .now))) (c .before .split-at-space .ensures .0))
 
-word-requires : tie.Need-word-requires
-word-requires c κs = tt
+keyword-requires : tie.Need-keyword-requires
+keyword-requires c κs = tt
 
 sub-command : tie.Need-sub-command
-sub-command c = omega (arith, c .before .before .cut .ensures .1)
+sub-command c = omega (arith, c .before .before .split-at-space .ensures .1)
 
 part-command-start : tie.Need-part-command-start
-part-command-start c = omega (arith, c .before .before .cut .ensures .1)
+part-command-start c = omega (arith, c .before .before .split-at-space .ensures .1)
 
 part-command-end : tie.Need-part-command-end
-part-command-end c = omega (arith, c .before .before .cut .ensures .1)
+part-command-end c = omega (arith, c .before .before .split-at-space .ensures .1)
 
 command-requires : tie.Need-command-requires
 command-requires c κs = tt
 
 returns-5 : tie.Need-returns-5
 returns-5 c = c .command .ensures
-    ∙ ap (λ (x : Word). command-of x (take (length (take (length (c .before .before .before .before .before .before .before .before .before .before .before .before .before .args .line .now) - 1 - 1) (drop 1 (c .before .before .before .before .before .before .before .before .before .before .before .before .before .args .line .now))) - c .before .before .before .before .cut .result .next) (drop (c .before .before .before .before .cut .result .next) (take (length (c .before .before .before .before .before .before .before .before .before .before .before .before .before .args .line .now) - 1 - 1) (drop 1 (c .before .before .before .before .before .before .before .before .before .before .before .before .before .args .line .now)))))) (c .before .before .word .ensures ∙ ap word-of (c .before .before .before .before .cut .ensures .2 ∙ ap upToSpace (between (c .before .before .before .before .before))))
-    ∙ ap (λ (k : List ℕ). command-of (word-of (upToSpace (inner (c .before .before .before .before .before .before .before .before .before .before .before .before .before .args .line .now)))) k) (tail-is (c .before .before .before .before .cut .result .next) (take (length (c .before .before .before .before .before .before .before .before .before .before .before .before .before .args .line .now) - 1 - 1) (drop 1 (c .before .before .before .before .before .before .before .before .before .before .before .before .before .args .line .now))) (afterSpace (inner (c .before .before .before .before .before .before .before .before .before .before .before .before .before .args .line .now))) (c .before .before .before .before .cut .ensures .3 ∙ ap afterSpace (between (c .before .before .before .before .before))))
+    ∙ ap (λ (x : Keyword). command-of x (take (length (take (length (c .before .before .before .before .before .before .before .before .before .before .before .before .before .args .line .now) - 1 - 1) (drop 1 (c .before .before .before .before .before .before .before .before .before .before .before .before .before .args .line .now))) - c .before .before .before .before .split-at-space .result .next) (drop (c .before .before .before .before .split-at-space .result .next) (take (length (c .before .before .before .before .before .before .before .before .before .before .before .before .before .args .line .now) - 1 - 1) (drop 1 (c .before .before .before .before .before .before .before .before .before .before .before .before .before .args .line .now)))))) (c .before .before .keyword .ensures ∙ ap keyword-of (c .before .before .before .before .split-at-space .ensures .2 ∙ ap upToSpace (between (c .before .before .before .before .before))))
+    ∙ ap (λ (k : List ℕ). command-of (keyword-of (upToSpace (inner (c .before .before .before .before .before .before .before .before .before .before .before .before .before .args .line .now)))) k) (tail-is (c .before .before .before .before .split-at-space .result .next) (take (length (c .before .before .before .before .before .before .before .before .before .before .before .before .before .args .line .now) - 1 - 1) (drop 1 (c .before .before .before .before .before .before .before .before .before .before .before .before .before .args .line .now))) (afterSpace (inner (c .before .before .before .before .before .before .before .before .before .before .before .before .before .args .line .now))) (c .before .before .before .before .split-at-space .ensures .3 ∙ ap afterSpace (between (c .before .before .before .before .before))))
     ∙ sym (line-whole (c .before .before .before .before .before .before .before .before .before .before .before .before .before .args .line .now) (c .before .before .before .before .before .before .before .before .before .before .before .if1 .left) (c .before .before .before .before .before .before .before .before .before .before .if2 .left) (c .before .before .before .before .before .before .before .before .if3 .left) (c .before .before .before .before .before .before .if4 .left))
 
 pub parse-spec : {M : Type 1} → statement M
@@ -88,9 +88,9 @@ parse-spec =
     sub-inner
     part-inner-start
     part-inner-end
-    cut-requires
-    slice-aggregate-word
-    word-requires
+    split-at-space-requires
+    slice-aggregate-keyword
+    keyword-requires
     sub-command
     part-command-start
     part-command-end

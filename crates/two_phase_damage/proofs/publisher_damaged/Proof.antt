@@ -3,7 +3,7 @@ use borrow.Author.Needs.{needs}
 use mathlib.Core.Path.{sym}
 use Rattle.layout.specs.Layout.{publisherAt}
 use borrow.Author.Tests.{lt-ltb, le-ltb}
-use Rattle.publication_law.specs.KindLaw.{publisher-idle, publisher-early, own-spoils, held-large, wrong-mark, waits-decide}
+use Rattle.publication_law.specs.KindLaw.{publisher-idle, publisher-early, extra-damages, held-large, wrong-mark, waits-decide}
 use Rattle.two_phase_law.specs.Safety.{law}
 use Rattle.two_phase_damage.proofs.publisher_damaged.Statement.{statement}
 use Rattle.two_phase_damage.proofs.publisher_damaged.Tie as tie
@@ -28,7 +28,7 @@ returns-3 : tie.Need-returns-3
 returns-3 c = λ rs. sym (publisher-early law rs (c .before .before .before .before .before .before .before .args .slots) (publisherAt (c .before .before .before .before .before .before .before .args .words .now) (c .before .before .before .before .before .before .before .args .p)) (rw (c .before .before .before .publisher-at .ensures) at (c .before .if2 .left)) (rw (c .before .before .before .before .before .publisher-place .ensures) at (c .if3 .taken)))
 
 returns-4 : tie.Need-returns-4
-returns-4 c = λ rs. sym (own-spoils law rs (c .before .before .before .before .before .before .before .before .args .slots) (publisherAt (c .before .before .before .before .before .before .before .before .args .words .now) (c .before .before .before .before .before .before .before .before .args .p)) (lt-ltb 38 ((publisherAt (c .before .before .before .before .before .before .before .before .args .words .now) (c .before .before .before .before .before .before .before .before .args .p)) .place) (rw (c .before .before .before .before .before .before .publisher-place .ensures) at (c .if4 .taken))))
+returns-4 c = λ rs. sym (extra-damages law rs (c .before .before .before .before .before .before .before .before .args .slots) (publisherAt (c .before .before .before .before .before .before .before .before .args .words .now) (c .before .before .before .before .before .before .before .before .args .p)) (lt-ltb 38 ((publisherAt (c .before .before .before .before .before .before .before .before .args .words .now) (c .before .before .before .before .before .before .before .before .args .p)) .place) (rw (c .before .before .before .before .before .before .publisher-place .ensures) at (c .if4 .taken))))
 
 returns-5 : tie.Need-returns-5
 returns-5 c = λ rs. sym (wrong-mark law rs (c .before .before .before .before .before .before .before .before .before .before .before .before .args .slots) (publisherAt (c .before .before .before .before .before .before .before .before .before .before .before .before .args .words .now) (c .before .before .before .before .before .before .before .before .before .before .before .before .args .p)) (rw (c .before .before .before .before .before .before .before .before .before .before .publisher-place .ensures) at (c .before .before .before .before .before .if3 .left)) (rw (c .before .before .before .before .before .before .before .before .publisher-at .ensures) at (c .if5 .taken)))

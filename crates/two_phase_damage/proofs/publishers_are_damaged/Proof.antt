@@ -11,7 +11,7 @@ use Rattle.two_phase_damage.proofs.publishers_are_damaged.Reads as read
 use Rattle.two_phase_damage.proofs.publishers_are_damaged.Lts as lts
 use Rattle.layout.proofs.publishers_of.Reads as publishers-of-reads
 use Rattle.layout.proofs.slots_of.Reads as slots-of-reads
-use Rattle.two_phase_damage.proofs.publishers_damaged.Reads as publishers-damaged-reads
+use Rattle.two_phase_damage.proofs.first_publishers_damaged.Reads as first-publishers-damaged-reads
 
 returns : tie.Need-returns
 returns c = λ es. rw (ne-eqb _ _ (c .if1 .taken)) refl
@@ -28,11 +28,11 @@ returns-2 c = λ es. rw (eq-eqb _ _ (c .before .before .if1 .left), rw (c .befor
 slots-of-requires : tie.Need-slots-of-requires
 slots-of-requires c κs = search needs
 
-publishers-damaged-requires : tie.Need-publishers-damaged-requires
-publishers-damaged-requires c κs = omega (arith, within 1 16 (c .before .before .publishers-of .result) (c .before .if2 .left))
+first-publishers-damaged-requires : tie.Need-first-publishers-damaged-requires
+first-publishers-damaged-requires c κs = omega (arith, within 1 16 (c .before .before .publishers-of .result) (c .before .if2 .left))
 
 returns-3 : tie.Need-returns-3
-returns-3 c = λ es. rw (eq-eqb _ _ (c .before .before .before .before .if1 .left), rw (c .before .before .before .publishers-of .ensures) at (c .before .before .if2 .left)) (rw (c .before .before .before .publishers-of .ensures, c .before .slots-of .ensures) at (c .publishers-damaged .ensures (readers (c .before .before .before .before .before .before .args .words .now))))
+returns-3 c = λ es. rw (eq-eqb _ _ (c .before .before .before .before .if1 .left), rw (c .before .before .before .publishers-of .ensures) at (c .before .before .if2 .left)) (rw (c .before .before .before .publishers-of .ensures, c .before .slots-of .ensures) at (c .first-publishers-damaged .ensures (readers (c .before .before .before .before .before .before .args .words .now))))
 
 pub publishers-are-damaged-spec : {M : Type 1} → statement M
 publishers-are-damaged-spec =
@@ -43,5 +43,5 @@ publishers-are-damaged-spec =
     cast-if2
     returns-2
     slots-of-requires
-    publishers-damaged-requires
+    first-publishers-damaged-requires
     returns-3)

@@ -7,7 +7,7 @@ use mathlib.Core.Logic.{⊎-elim}
 use Rattle.statement.specs.Machine.{state}
 use Rattle.publication_law.specs.Table.{damaged}
 use Rattle.publication_law.specs.Calls.{step-damaged, step-undamaged, damaged-head, damaged-publishers}
-use Rattle.publication_law.specs.Sound.{sound-of, entries-of}
+use Rattle.publication_law.specs.InBounds.{in-bounds-of, entries-of}
 use Rattle.two_phase_law.specs.Steps.{rules}
 use Rattle.two_phase_law.specs.Safety.{law}
 use Rattle.two_phase_law.specs.Calls.{scan-damaged, scan-undamaged}
@@ -26,8 +26,8 @@ clean c =
     let es = c .before .before .before .before .before .before .before .before .before .before .args .entries .now in
     scan-undamaged _ (sym (c .before .before .before .before .before .before .before .head-is-damaged .ensures es refl) ∙ c .before .before .before .before .before .before .if1 .left) (sym (c .before .before .before .before .readers-are-damaged .ensures es) ∙ c .before .before .before .if2 .left) (sym (c .before .publishers-are-damaged .ensures es) ∙ c .if3 .left)
 
-spoiled : (c : tie.Joined1) → let k = c .before .before .before .before .args in damaged rules (state (k .words .now) (k .entries .now)) ≡ true
-spoiled c =
+store-damaged : (c : tie.Joined1) → let k = c .before .before .before .before .args in damaged rules (state (k .words .now) (k .entries .now)) ≡ true
+store-damaged c =
     let es = c .before .before .before .before .args .entries .now in
     ⊎-elim (λ t. damaged-head rules _ (sym (c .before .head-is-damaged .ensures es refl) ∙ t .taken))
     (⊎-elim (λ a. scan-damaged _ (sym (a .2 .ensures es) ∙ a .3 .taken)) (λ a. damaged-publishers rules _ (sym (a .5 .ensures es) ∙ a .6 .taken)))
@@ -46,10 +46,10 @@ same-length : tie.Need-same-length
 same-length c = search needs
 
 returns : tie.Need-returns
-returns c = step-damaged rules _ (Write _ _) (spoiled c)
+returns c = step-damaged rules _ (Write _ _) (store-damaged c)
 
 write-entry-requires : tie.Need-write-entry-requires
-write-entry-requires c κs = (sound-of rules law _ (clean (c .before .before)), entries-of rules law _ (clean (c .before .before)))
+write-entry-requires c κs = (in-bounds-of rules law _ (clean (c .before .before)), entries-of rules law _ (clean (c .before .before)))
 
 same-length-2 : tie.Need-same-length-2
 same-length-2 c = search needs

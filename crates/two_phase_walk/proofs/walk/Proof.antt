@@ -8,7 +8,7 @@ use borrow.Author.Tests.{le-leb, lt-leb, lt-ltb}
 use Rattle.statement.specs.Machine.{state}
 use Rattle.publication_law.specs.Table.{damaged, step}
 use Rattle.publication_law.specs.Calls.{step-damaged, damaged-head, damaged-publishers, walk-is}
-use Rattle.publication_law.specs.Sound.{sound-of, Synchronising, synchronising-of}
+use Rattle.publication_law.specs.InBounds.{in-bounds-of, Synchronising, synchronising-of}
 use Rattle.two_phase_law.specs.Steps.{fixed, rules}
 use Rattle.two_phase_law.specs.Safety.{law}
 use Rattle.two_phase_law.specs.Calls.{scan-damaged, scan-undamaged, walks-at, walks-not, watched-low}
@@ -34,8 +34,8 @@ use Rattle.two_phase_walk.proofs.looked_at.Reads as looked-at-reads
 clean : (c : tie.Else3) → damaged rules (state (c .before .before .before .before .before .before .before .before .before .before .args .words .now) (c .before .before .before .before .before .before .before .before .before .before .args .entries .now)) ≡ false
 clean c = scan-undamaged (state (c .before .before .before .before .before .before .before .before .before .before .args .words .now) (c .before .before .before .before .before .before .before .before .before .before .args .entries .now)) (sym (c .before .before .before .before .before .before .before .head-is-damaged .ensures (c .before .before .before .before .before .before .before .before .before .before .args .entries .now) refl) ∙ c .before .before .before .before .before .before .if1 .left) (sym (c .before .before .before .before .readers-are-damaged .ensures (c .before .before .before .before .before .before .before .before .before .before .args .entries .now)) ∙ c .before .before .before .if2 .left) (sym (c .before .publishers-are-damaged .ensures (c .before .before .before .before .before .before .before .before .before .before .args .entries .now)) ∙ c .if3 .left)
 
-spoiled : (c : tie.Joined1) → damaged rules (state (c .before .before .before .before .args .words .now) (c .before .before .before .before .args .entries .now)) ≡ true
-spoiled c = ⊎-elim (λ t. damaged-head rules (state (c .before .before .before .before .args .words .now) (c .before .before .before .before .args .entries .now)) (sym (c .before .head-is-damaged .ensures (c .before .before .before .before .args .entries .now) refl) ∙ t .taken))
+store-damaged : (c : tie.Joined1) → damaged rules (state (c .before .before .before .before .args .words .now) (c .before .before .before .before .args .entries .now)) ≡ true
+store-damaged c = ⊎-elim (λ t. damaged-head rules (state (c .before .before .before .before .args .words .now) (c .before .before .before .before .args .entries .now)) (sym (c .before .head-is-damaged .ensures (c .before .before .before .before .args .entries .now) refl) ∙ t .taken))
     (⊎-elim (λ a. scan-damaged (state (c .before .before .before .before .args .words .now) (c .before .before .before .before .args .entries .now)) (sym (a .2 .ensures (c .before .before .before .before .args .entries .now)) ∙ a .3 .taken)) (λ a. damaged-publishers rules (state (c .before .before .before .before .args .words .now) (c .before .before .before .before .args .entries .now)) (sym (a .5 .ensures (c .before .before .before .before .args .entries .now)) ∙ a .6 .taken)))
     (c .if1 .came)
 
@@ -61,10 +61,10 @@ same-length : tie.Need-same-length
 same-length c = search needs
 
 returns : tie.Need-returns
-returns c = step-damaged rules _ (Walk _ _) (spoiled c)
+returns c = step-damaged rules _ (Walk _ _) (store-damaged c)
 
 publishers-of-requires : tie.Need-publishers-of-requires
-publishers-of-requires c κs = sound-of rules law _ (clean (c .before)) .long
+publishers-of-requires c κs = in-bounds-of rules law _ (clean (c .before)) .long
 
 same-length-2 : tie.Need-same-length-2
 same-length-2 c = search needs
@@ -74,7 +74,7 @@ unfolding step
 returns-2 c = rw (clean (c .before .before .before), le-leb _ _ (rw (c .before .publishers-of .ensures) at (c .if4 .taken))) refl
 
 publisher-at-requires : tie.Need-publisher-at-requires
-publisher-at-requires c κs = omega (arith, sound-of rules law _ (clean (c .before .before .before .before)), c .before .before .publishers-of .ensures)
+publisher-at-requires c κs = omega (arith, in-bounds-of rules law _ (clean (c .before .before .before .before)), c .before .before .publishers-of .ensures)
 
 sub-if5 : tie.Need-sub-if5
 sub-if5 c = search needs
@@ -90,13 +90,13 @@ looked-at-requires : tie.Need-looked-at-requires
 looked-at-requires c κs = search needs
 
 indicator-of-requires : tie.Need-indicator-of-requires
-indicator-of-requires c κs = (sound-of rules law _ (clean (c .before .before .before .before .before .before .before .before .before .before .before)) .long, rw (c .before .looked-at .ensures) (watched-low (c .before .before .before .before .before .before .publisher-at .result)))
+indicator-of-requires c κs = (in-bounds-of rules law _ (clean (c .before .before .before .before .before .before .before .before .before .before .before)) .long, rw (c .before .looked-at .ensures) (watched-low (c .before .before .before .before .before .before .publisher-at .result)))
 
 look-requires : tie.Need-look-requires
 look-requires c κs = (room (c .before .before .before), walker (c .before .before .before .before .before .before) .waits-low)
 
 end-walk-requires : tie.Need-end-walk-requires
-end-walk-requires c κs = (sound-of rules law _ (clean (c .before .before .before .before .before .before .before .before .before .before .before .before .before .before)), rw (c .before .before .before .before .before .before .before .before .before .before .before .before .publishers-of .ensures) at (c .before .before .before .before .before .before .before .before .before .before .before .if4 .left), c .before .before .before .before .before .before .before .before .before .publisher-at .ensures)
+end-walk-requires c κs = (in-bounds-of rules law _ (clean (c .before .before .before .before .before .before .before .before .before .before .before .before .before .before)), rw (c .before .before .before .before .before .before .before .before .before .before .before .before .publishers-of .ensures) at (c .before .before .before .before .before .before .before .before .before .before .before .if4 .left), c .before .before .before .before .before .before .before .before .before .publisher-at .ensures)
 
 same-length-4 : tie.Need-same-length-4
 same-length-4 c = search needs

@@ -1,0 +1,40 @@
+-- The number and values of each reply, as C gets them, three numbers of 64 bits: document 01's number for a refusal, ours from 100 up for the rest.
+use Prim.Native.Nat.{ℕ, _-_}
+use lib.IntN.{ℤ, pos, negsuc}
+use Rattle.calls.specs.declared.ReplyNumbers.{ReplyNumbers}
+use Rattle.calls.specs.declared.Reply.{Reply}
+use Rattle.calls.specs.declared.Reply.the-variants.{Made, At, Pitch, Left, Claimed, Written, Swapped, Synced, Raised, Shared, Walked, Freed, Refused}
+use Rattle.calls.specs.declared.WalkReply.{WalkReply}
+use Rattle.calls.specs.declared.WalkReply.the-variants.{Waiting, Spent, Quiet, Returned}
+use Rattle.calls.specs.Numbers.{NUMBER-MAX, CODE-MADE, CODE-AT, CODE-PITCH, CODE-LEFT, CODE-CLAIMED, CODE-WRITTEN, CODE-SWAPPED, CODE-SYNCED, CODE-RAISED, CODE-SHARED, CODE-WAITING, CODE-SPENT, CODE-QUIET, CODE-RETURNED, CODE-FREED}
+
+abbrev pub replyNumbers : ℕ → ℕ → ℕ → ReplyNumbers
+replyNumbers c a b = record { code = c; first = a; second = b }
+
+-- A pitch in 64 bits: v, and 2^64 + v where v is negative.
+abbrev pub pitchNumber : ℤ → ℕ
+pitchNumber (pos n) = n
+pitchNumber (negsuc n) = NUMBER-MAX - n
+
+-- An accepted reply has 100 and up, in document 01's order of replies.
+abbrev pub walkNumbers : WalkReply → ReplyNumbers
+walkNumbers (Waiting w) = replyNumbers CODE-WAITING w 0
+walkNumbers Spent = replyNumbers CODE-SPENT 0 0
+walkNumbers Quiet = replyNumbers CODE-QUIET 0 0
+walkNumbers (Returned l w) = replyNumbers CODE-RETURNED l w
+
+abbrev pub numbersOf : Reply → ReplyNumbers
+numbersOf Made = replyNumbers CODE-MADE 0 0
+numbersOf (At n) = replyNumbers CODE-AT n 0
+numbersOf (Pitch v) = replyNumbers CODE-PITCH (pitchNumber v) 0
+numbersOf Left = replyNumbers CODE-LEFT 0 0
+numbersOf (Claimed s) = replyNumbers CODE-CLAIMED s 0
+numbersOf (Written n) = replyNumbers CODE-WRITTEN n 0
+numbersOf (Swapped s) = replyNumbers CODE-SWAPPED s 0
+numbersOf (Synced m) = replyNumbers CODE-SYNCED m 0
+numbersOf Raised = replyNumbers CODE-RAISED 0 0
+numbersOf Shared = replyNumbers CODE-SHARED 0 0
+numbersOf (Walked o) = walkNumbers o
+numbersOf (Freed s n) = replyNumbers CODE-FREED s n
+-- A refusal has its number.
+numbersOf (Refused n) = replyNumbers n 0 0

@@ -1,0 +1,112 @@
+-- Two different replies, with pitches of 64 bits and refusals below 100, never have the same three numbers: a reply can be read back. Assumes nothing.
+use Prim.Native.Nat.{ℕ, _-_, _<_}
+use native.Mathlib.Omega.{arith}
+use mathlib.Core.Path.{_≡_, refl, sym, ap, _∙_}
+use lib.IntN.{ℤ, pos, negsuc}
+use lib.Dec.{eqb, ltb}
+use borrow.Author.Tests.{ne-eqb, lt-ltb, le-ltb}
+use Rattle.base.specs.Base.{pick}
+use Rattle.calls.specs.declared.ReplyNumbers.{ReplyNumbers}
+use Rattle.calls.specs.declared.Reply.{Reply}
+use Rattle.calls.specs.declared.Reply.the-variants.{Made, At, Pitch, Left, Claimed, Written, Swapped, Synced, Raised, Shared, Walked, Freed, Refused}
+use Rattle.calls.specs.declared.WalkReply.{WalkReply}
+use Rattle.calls.specs.declared.WalkReply.the-variants.{Waiting, Spent, Quiet, Returned}
+use Rattle.calls.specs.Numbers.{NUMBER-MAX}
+use Rattle.calls.specs.ReplyNumbers.{replyNumbers, numbersOf, walkNumbers, pitchNumber}
+
+-- 2^63
+abbrev HALF : ℕ
+HALF = 9223372036854775808
+
+abbrev pub pitchOf : ℕ → ℤ
+pitchOf n = pick (ltb n HALF) (pos n) (negsuc (NUMBER-MAX - n))
+
+-- The reply that an answer stands for.
+abbrev pub replyOf : ReplyNumbers → Reply
+replyOf a =
+    pick (eqb (a .code) 100) Made
+    (pick (eqb (a .code) 101) (At (a .first))
+    (pick (eqb (a .code) 102) (Pitch (pitchOf (a .first)))
+    (pick (eqb (a .code) 103) Left
+    (pick (eqb (a .code) 104) (Claimed (a .first))
+    (pick (eqb (a .code) 105) (Written (a .first))
+    (pick (eqb (a .code) 106) (Swapped (a .first))
+    (pick (eqb (a .code) 107) (Synced (a .first))
+    (pick (eqb (a .code) 108) Raised
+    (pick (eqb (a .code) 109) Shared
+    (pick (eqb (a .code) 110) (Walked (Waiting (a .first)))
+    (pick (eqb (a .code) 111) (Walked Spent)
+    (pick (eqb (a .code) 112) (Walked Quiet)
+    (pick (eqb (a .code) 113) (Walked (Returned (a .first) (a .second)))
+    (pick (eqb (a .code) 114) (Freed (a .first) (a .second))
+    (Refused (a .code))))))))))))))))
+
+-- A pitch of 64 bits, and a refusal below 100: what the code's types and document 01's table give.
+abbrev pub NarrowPitch : ℤ → Type 0
+NarrowPitch (pos n) = n < HALF
+NarrowPitch (negsuc n) = n < HALF
+
+abbrev pub Representable : Reply → Type 0
+Representable Made = Unit {0}
+Representable (At n) = Unit {0}
+Representable (Pitch v) = NarrowPitch v
+Representable Left = Unit {0}
+Representable (Claimed s) = Unit {0}
+Representable (Written n) = Unit {0}
+Representable (Swapped s) = Unit {0}
+Representable (Synced m) = Unit {0}
+Representable Raised = Unit {0}
+Representable Shared = Unit {0}
+Representable (Walked o) = Unit {0}
+Representable (Freed s n) = Unit {0}
+Representable (Refused n) = n < 100
+
+pitch-back : (v : ℤ) → NarrowPitch v → pitchOf (pitchNumber v) ≡ v
+pitch-back (pos n) l = rw (lt-ltb n HALF l) refl
+pitch-back (negsuc n) l =
+    let e : NUMBER-MAX - (NUMBER-MAX - n) ≡ n = omega arith in
+    rw (le-ltb (NUMBER-MAX - n) HALF (omega arith), e) refl
+
+walk-back : (o : WalkReply) → replyOf (walkNumbers o) ≡ Walked o
+walk-back (Waiting w) = refl
+walk-back Spent = refl
+walk-back Quiet = refl
+walk-back (Returned l w) = refl
+
+refused-back : (n : ℕ) → n < 100 → replyOf (replyNumbers n 0 0) ≡ Refused n
+refused-back n l =
+    rw (
+      ne-eqb n 100 (λ z. omega arith),
+      ne-eqb n 101 (λ z. omega arith),
+      ne-eqb n 102 (λ z. omega arith),
+      ne-eqb n 103 (λ z. omega arith),
+      ne-eqb n 104 (λ z. omega arith),
+      ne-eqb n 105 (λ z. omega arith),
+      ne-eqb n 106 (λ z. omega arith),
+      ne-eqb n 107 (λ z. omega arith),
+      ne-eqb n 108 (λ z. omega arith),
+      ne-eqb n 109 (λ z. omega arith),
+      ne-eqb n 110 (λ z. omega arith),
+      ne-eqb n 111 (λ z. omega arith),
+      ne-eqb n 112 (λ z. omega arith),
+      ne-eqb n 113 (λ z. omega arith),
+      ne-eqb n 114 (λ z. omega arith),
+    ) refl
+
+pub reply-back : (a : Reply) → Representable a → replyOf (numbersOf a) ≡ a
+reply-back Made h = refl
+reply-back (At n) h = refl
+reply-back (Pitch v) h = ap Pitch (pitch-back v h)
+reply-back Left h = refl
+reply-back (Claimed s) h = refl
+reply-back (Written n) h = refl
+reply-back (Swapped s) h = refl
+reply-back (Synced m) h = refl
+reply-back Raised h = refl
+reply-back Shared h = refl
+reply-back (Walked o) h = walk-back o
+reply-back (Freed s n) h = refl
+reply-back (Refused n) h = refused-back n h
+
+pub numbers-injective : (a b : Reply) → Representable a → Representable b → numbersOf a ≡ numbersOf b → a ≡ b
+numbers-injective a b p q e = sym (reply-back a p) ∙ (ap replyOf e ∙ reply-back b q)

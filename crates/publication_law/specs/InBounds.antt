@@ -1,0 +1,55 @@
+-- What the code that the kinds share asks of a store's words, and that every undamaged store has it. Assumes nothing.
+use Prim.Native.Nat.{ℕ, _*_, _<_, _≤_}
+use mathlib.Core.Path.{_≡_, sym, ap, _∙_}
+use mathlib.Core.Bool.{false}
+use mathlib.Core.List.{List}
+use lib.ListN.{length}
+use borrow.Author.Tests.{ltb-false}
+use Rattle.calls.specs.Numbers.{READERS-MAX, PUBLISHERS-MAX, SLOTS-MAX, TABLE}
+use Rattle.layout.specs.declared.Publisher.{Publisher}
+use Rattle.layout.specs.Layout.{WORDS, readers, publishers, slots, version, readerAt, publisherAt}
+use Rattle.statement.specs.Machine.{State}
+use Rattle.publication_law.specs.Steps.{Versions, upTo, reader, publisher}
+use Rattle.publication_law.specs.Damage.{DamageRules}
+use Rattle.publication_law.specs.DamageLaws.{Undamaged}
+use Rattle.publication_law.specs.KindLaw.{KindLaw, undamaged-publisher}
+use Rattle.publication_law.specs.Table.{Table, damaged}
+use Rattle.publication_law.specs.Calls.{undamaged-facts}
+
+pub record InBounds (w : List ℕ) : Type 0 where
+  pub long : length w ≡ WORDS
+  pub readers-high : readers w ≤ READERS-MAX
+  pub publishers-high : publishers w ≤ PUBLISHERS-MAX
+  pub slots-high : slots w ≤ SLOTS-MAX
+  pub picked-below : (r : ℕ) → r < readers w → readerAt w r .place ≡ 5 → readerAt w r .picked < slots w
+  pub held-below : (p : ℕ) → p < publishers w → 1 ≤ publisherAt w p .place → publisherAt w p .held < slots w
+
+pub in-bounds : (K : DamageRules) → KindLaw K → (s : State) → Undamaged K s → InBounds (s .words)
+in-bounds K law s f = record {
+  long = f .head .long;
+  readers-high = f .head .readers-high;
+  publishers-high = f .head .publishers-high;
+  slots-high = f .head .slots-high;
+  picked-below = λ r l e. law .reader-picked (readers (s .words)) (slots (s .words)) (reader s r) e (f .readers-undamaged r l);
+  held-below = λ p l e. undamaged-publisher law (readers (s .words)) (slots (s .words)) (publisher s p) (f .publishers-undamaged p l) .held-below e;
+}
+
+-- From 35 to 38 a publisher's mark is not 0, and it waited at most as often as it looked.
+pub record Synchronising (y : Publisher) : Type 0 where
+  pub mark-low : 1 ≤ y .walk .mark
+  pub waits-low : y .walk .waits ≤ y .walk .looks
+
+module _ (T : Table) (law : KindLaw (T .damage)) (s : State) (clean : damaged T s ≡ false) where
+  pub in-bounds-of : InBounds (s .words)
+  in-bounds-of = in-bounds (T .damage) law s (undamaged-facts T s clean)
+
+  pub entries-of : length (s .entries) ≡ slots (s .words) * TABLE
+  entries-of = undamaged-facts T s clean .head .entries-are
+
+  pub version-low : (last : ℕ) → T .damage .versions ≡ upTo last → version (s .words) ≤ last
+  version-low last up = ltb-false last (version (s .words)) (sym (ap (λ (vs : Versions). vs .tooLarge (version (s .words))) up) ∙ undamaged-facts T s clean .head .version-fits)
+
+  pub synchronising-of : (p : ℕ) → p < publishers (s .words) → 35 ≤ publisher s p .place → Synchronising (publisher s p)
+  synchronising-of p named late =
+      let f = undamaged-publisher law (readers (s .words)) (slots (s .words)) (publisher s p) (undamaged-facts T s clean .publishers-undamaged p named) in
+      record { mark-low = law .versions-law .mark-low _ (f .mark-fits late); waits-low = f .waits-low late }

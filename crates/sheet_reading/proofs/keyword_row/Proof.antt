@@ -1,0 +1,17 @@
+-- The test is the definition's. Assumes nothing.
+use borrow.Author.Needs.{needs}
+use mathlib.Core.Path.{refl, sym, _∙_}
+use Rattle.sheet_reading.proofs.keyword_row.Statement.{statement}
+use Rattle.sheet_reading.proofs.keyword_row.Tie as tie
+
+same-requires : tie.Need-same-requires
+same-requires c κs = tt
+
+returns : tie.Need-returns
+returns c = rw (sym (c .before .same .ensures) ∙ c .if1 .taken) refl
+
+returns-2 : tie.Need-returns-2
+returns-2 c = rw (sym (c .before .same .ensures) ∙ c .if1 .left) refl
+
+pub keyword-row-spec : {M : Type 1} → statement M
+keyword-row-spec = tie.close (tie.spec same-requires returns returns-2)
