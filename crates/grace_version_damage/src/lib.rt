@@ -97,7 +97,8 @@ fn publisher_damaged(words: &[u64], p: usize, readers: u64, slots: u64) -> bool
 // Whether one of the first n publishers is damaged.
 fn first_publishers_damaged(words: &[u64], n: u64, readers: u64, slots: u64) -> bool
     requires { ⌜ (length (now words) ≡ WORDS) × (n ≤ PUBLISHERS-MAX) ⌝ }
-    ensures { λ b. ⌜ b ≡ anyBelow (λ p. damageRules .publisherDamaged readers slots (publisherAt (now (words .entry)) p)) n ⌝ }
+    ensures { λ b. ⌜ b
+        ≡ anyBelow (λ p. damageRules .publisherDamaged readers slots (publisherAt (now (words .entry)) p)) n ⌝ }
 {
     for p in 0..n {
         if publisher_damaged(words, p as usize, readers, slots) {

@@ -72,7 +72,8 @@ fn advance(words: &mut [u64], r: usize) -> Reply
 
 // ENTER r: one place on. Replies with the place.
 pub fn enter(words: &mut [u64], entries: &[Pitch], r: u16) -> Reply
-    ensures { λ a. ⌜ outcome a (state (now (words .exit)) (now (entries .entry))) ≡ step rules (state (now (words .entry)) (now (entries .entry))) (Enter r) ⌝ }
+    ensures { λ a. ⌜ outcome a (state (now (words .exit)) (now (entries .entry)))
+        ≡ step rules (state (now (words .entry)) (now (entries .entry))) (Enter r) ⌝ }
 {
     if head_is_damaged(words, entries.len())
         || readers_are_damaged(words)
@@ -88,7 +89,8 @@ pub fn enter(words: &mut [u64], entries: &[Pitch], r: u16) -> Reply
 
 // LOOK r k (place 5): entry k of the picked slot.
 pub fn look(words: &[u64], entries: &[Pitch], r: u16, k: u16) -> Reply
-    ensures { λ a. ⌜ outcome a (state (now (words .entry)) (now (entries .entry))) ≡ step rules (state (now (words .entry)) (now (entries .entry))) (Look r k) ⌝ }
+    ensures { λ a. ⌜ outcome a (state (now (words .entry)) (now (entries .entry)))
+        ≡ step rules (state (now (words .entry)) (now (entries .entry))) (Look r k) ⌝ }
 {
     if head_is_damaged(words, entries.len())
         || readers_are_damaged(words)
@@ -101,7 +103,8 @@ pub fn look(words: &[u64], entries: &[Pitch], r: u16, k: u16) -> Reply
 
 // LEAVE r (places 4, 5): to 0, and NOT_READING is published.
 pub fn leave(words: &mut [u64], entries: &[Pitch], r: u16) -> Reply
-    ensures { λ a. ⌜ outcome a (state (now (words .exit)) (now (entries .entry))) ≡ step rules (state (now (words .entry)) (now (entries .entry))) (Leave r) ⌝ }
+    ensures { λ a. ⌜ outcome a (state (now (words .exit)) (now (entries .entry)))
+        ≡ step rules (state (now (words .entry)) (now (entries .entry))) (Leave r) ⌝ }
 {
     if head_is_damaged(words, entries.len())
         || readers_are_damaged(words)

@@ -67,7 +67,8 @@ fn looks(words: &[u64], n: u64, walk: WalkRecord, b: u16) -> Progress
 
 // WALK p b (place 37): up to b looks at the readers that are still to pass.
 pub fn walk(words: &mut [u64], entries: &[Pitch], p: u16, b: u16) -> Reply
-    ensures { λ a. ⌜ outcome a (state (now (words .exit)) (now (entries .entry))) ≡ step rules (state (now (words .entry)) (now (entries .entry))) (WALK p b) ⌝ }
+    ensures { λ a. ⌜ outcome a (state (now (words .exit)) (now (entries .entry)))
+        ≡ step rules (state (now (words .entry)) (now (entries .entry))) (WALK p b) ⌝ }
 {
     if head_is_damaged(words, entries.len())
         || readers_are_damaged(words)

@@ -24,7 +24,8 @@ pub fn make(
     slots: u16,
     version: u64,
 ) -> Reply
-    ensures { λ a. ⌜ outcome a (state (now (words .exit)) (now (entries .exit))) ≡ anyMaking kind (given readers publishers slots version) (state (now (words .entry)) (now (entries .entry))) ⌝ }
+    ensures { λ a. ⌜ outcome a (state (now (words .exit)) (now (entries .exit)))
+        ≡ anyMaking kind (given readers publishers slots version) (state (now (words .entry)) (now (entries .entry))) ⌝ }
 {
     let number = kind as u64;
     match number {
@@ -40,7 +41,8 @@ pub fn make(
 
 // ENTER r: one place on. Replies with the place.
 pub fn enter(words: &mut [u64], entries: &[Pitch], r: u16) -> Reply
-    ensures { λ a. ⌜ outcome a (state (now (words .exit)) (now (entries .entry))) ≡ anyStep (state (now (words .entry)) (now (entries .entry))) (Enter r) ⌝ }
+    ensures { λ a. ⌜ outcome a (state (now (words .exit)) (now (entries .entry)))
+        ≡ anyStep (state (now (words .entry)) (now (entries .entry))) (Enter r) ⌝ }
 {
     if words.len() != WORDS {
         return Reply::Refused(DAMAGED);
@@ -55,7 +57,8 @@ pub fn enter(words: &mut [u64], entries: &[Pitch], r: u16) -> Reply
 
 // LOOK r k (place 5): entry k of the picked slot.
 pub fn look(words: &[u64], entries: &[Pitch], r: u16, k: u16) -> Reply
-    ensures { λ a. ⌜ outcome a (state (now (words .entry)) (now (entries .entry))) ≡ anyStep (state (now (words .entry)) (now (entries .entry))) (Look r k) ⌝ }
+    ensures { λ a. ⌜ outcome a (state (now (words .entry)) (now (entries .entry)))
+        ≡ anyStep (state (now (words .entry)) (now (entries .entry))) (Look r k) ⌝ }
 {
     if words.len() != WORDS {
         return Reply::Refused(DAMAGED);
@@ -70,7 +73,8 @@ pub fn look(words: &[u64], entries: &[Pitch], r: u16, k: u16) -> Reply
 
 // LEAVE r (places 4, 5): to 0.
 pub fn leave(words: &mut [u64], entries: &[Pitch], r: u16) -> Reply
-    ensures { λ a. ⌜ outcome a (state (now (words .exit)) (now (entries .entry))) ≡ anyStep (state (now (words .entry)) (now (entries .entry))) (Leave r) ⌝ }
+    ensures { λ a. ⌜ outcome a (state (now (words .exit)) (now (entries .entry)))
+        ≡ anyStep (state (now (words .entry)) (now (entries .entry))) (Leave r) ⌝ }
 {
     if words.len() != WORDS {
         return Reply::Refused(DAMAGED);
@@ -85,7 +89,8 @@ pub fn leave(words: &mut [u64], entries: &[Pitch], r: u16) -> Reply
 
 // CLAIM p s: 0 to 1, holds s.
 pub fn claim(words: &mut [u64], entries: &[Pitch], p: u16, slot: u16) -> Reply
-    ensures { λ a. ⌜ outcome a (state (now (words .exit)) (now (entries .entry))) ≡ anyStep (state (now (words .entry)) (now (entries .entry))) (Claim p slot) ⌝ }
+    ensures { λ a. ⌜ outcome a (state (now (words .exit)) (now (entries .entry)))
+        ≡ anyStep (state (now (words .entry)) (now (entries .entry))) (Claim p slot) ⌝ }
 {
     if words.len() != WORDS {
         return Reply::Refused(DAMAGED);
@@ -100,7 +105,8 @@ pub fn claim(words: &mut [u64], entries: &[Pitch], p: u16, slot: u16) -> Reply
 
 // WRITE p v: stores the next entry, and replies with the number written.
 pub fn write(words: &mut [u64], entries: &mut [Pitch], p: u16, v: Pitch) -> Reply
-    ensures { λ a. ⌜ outcome a (state (now (words .exit)) (now (entries .exit))) ≡ anyStep (state (now (words .entry)) (now (entries .entry))) (Write p v) ⌝ }
+    ensures { λ a. ⌜ outcome a (state (now (words .exit)) (now (entries .exit)))
+        ≡ anyStep (state (now (words .entry)) (now (entries .entry))) (Write p v) ⌝ }
 {
     if words.len() != WORDS {
         return Reply::Refused(DAMAGED);
@@ -115,7 +121,8 @@ pub fn write(words: &mut [u64], entries: &mut [Pitch], p: u16, v: Pitch) -> Repl
 
 // SWAP p: 33 to 34. Its slot becomes current; it holds the former one, and replies with that.
 pub fn swap(words: &mut [u64], entries: &[Pitch], p: u16) -> Reply
-    ensures { λ a. ⌜ outcome a (state (now (words .exit)) (now (entries .entry))) ≡ anyStep (state (now (words .entry)) (now (entries .entry))) (Swap p) ⌝ }
+    ensures { λ a. ⌜ outcome a (state (now (words .exit)) (now (entries .entry)))
+        ≡ anyStep (state (now (words .entry)) (now (entries .entry))) (Swap p) ⌝ }
 {
     if words.len() != WORDS {
         return Reply::Refused(DAMAGED);
@@ -130,7 +137,8 @@ pub fn swap(words: &mut [u64], entries: &[Pitch], p: u16) -> Reply
 
 // SYNC p: 34 to 35, with the mark one above the version.
 pub fn sync(words: &mut [u64], entries: &[Pitch], p: u16) -> Reply
-    ensures { λ a. ⌜ outcome a (state (now (words .exit)) (now (entries .entry))) ≡ anyStep (state (now (words .entry)) (now (entries .entry))) (Sync p) ⌝ }
+    ensures { λ a. ⌜ outcome a (state (now (words .exit)) (now (entries .entry)))
+        ≡ anyStep (state (now (words .entry)) (now (entries .entry))) (Sync p) ⌝ }
 {
     if words.len() != WORDS {
         return Reply::Refused(DAMAGED);
@@ -145,7 +153,8 @@ pub fn sync(words: &mut [u64], entries: &[Pitch], p: u16) -> Reply
 
 // RAISE p (new at 35, old at 36): the version becomes the mark, if it is one before it.
 pub fn raise(words: &mut [u64], entries: &[Pitch], p: u16) -> Reply
-    ensures { λ a. ⌜ outcome a (state (now (words .exit)) (now (entries .entry))) ≡ anyStep (state (now (words .entry)) (now (entries .entry))) (Raise p) ⌝ }
+    ensures { λ a. ⌜ outcome a (state (now (words .exit)) (now (entries .entry)))
+        ≡ anyStep (state (now (words .entry)) (now (entries .entry))) (Raise p) ⌝ }
 {
     if words.len() != WORDS {
         return Reply::Refused(DAMAGED);
@@ -160,7 +169,8 @@ pub fn raise(words: &mut [u64], entries: &[Pitch], p: u16) -> Reply
 
 // WALK p b: up to b looks (old: at most one).
 pub fn walk(words: &mut [u64], entries: &[Pitch], p: u16, b: u16) -> Reply
-    ensures { λ a. ⌜ outcome a (state (now (words .exit)) (now (entries .entry))) ≡ anyStep (state (now (words .entry)) (now (entries .entry))) (Walk p b) ⌝ }
+    ensures { λ a. ⌜ outcome a (state (now (words .exit)) (now (entries .entry)))
+        ≡ anyStep (state (now (words .entry)) (now (entries .entry))) (Walk p b) ⌝ }
 {
     if words.len() != WORDS {
         return Reply::Refused(DAMAGED);
@@ -175,7 +185,8 @@ pub fn walk(words: &mut [u64], entries: &[Pitch], p: u16, b: u16) -> Reply
 
 // RELEASE p: 38 to 0, which frees the held slot; one more release.
 pub fn release(words: &mut [u64], entries: &[Pitch], p: u16) -> Reply
-    ensures { λ a. ⌜ outcome a (state (now (words .exit)) (now (entries .entry))) ≡ anyStep (state (now (words .entry)) (now (entries .entry))) (Release p) ⌝ }
+    ensures { λ a. ⌜ outcome a (state (now (words .exit)) (now (entries .entry)))
+        ≡ anyStep (state (now (words .entry)) (now (entries .entry))) (Release p) ⌝ }
 {
     if words.len() != WORDS {
         return Reply::Refused(DAMAGED);
@@ -190,7 +201,8 @@ pub fn release(words: &mut [u64], entries: &[Pitch], p: u16) -> Reply
 
 // Any call, as a value.
 pub fn run(words: &mut [u64], entries: &mut [Pitch], call: Call) -> Reply
-    ensures { λ a. ⌜ outcome a (state (now (words .exit)) (now (entries .exit))) ≡ anyStep (state (now (words .entry)) (now (entries .entry))) call ⌝ }
+    ensures { λ a. ⌜ outcome a (state (now (words .exit)) (now (entries .exit)))
+        ≡ anyStep (state (now (words .entry)) (now (entries .entry))) call ⌝ }
 {
     match call {
         Call::Enter(r) => enter(words, entries, r),

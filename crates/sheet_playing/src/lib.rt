@@ -26,7 +26,8 @@ fn part(slots: u64, room: usize) -> usize
 
 // One command: a making, or a call on the made store.
 pub fn play(words: &mut [u64], room: &mut [Pitch], command: Command) -> Reply
-    ensures { λ a. ⌜ outcome a (state (now (words .exit)) (now (room .exit))) ≡ played (state (now (words .entry)) (now (room .entry))) command ⌝ }
+    ensures { λ a. ⌜ outcome a (state (now (words .exit)) (now (room .exit)))
+        ≡ played (state (now (words .entry)) (now (room .entry))) command ⌝ }
 {
     match command {
         Command::Make(kind, readers, publishers, slots, version) => {

@@ -53,7 +53,8 @@ impl TwoPhase {
         slots: u16,
         version: u64,
     ) -> Stepped
-        ensures { λ s. ⌜ outcome (s .reply) (state (s .store .words) (now (entries .exit))) ≡ making rules (given readers publishers slots version) (state (replicate WORDS 0) (now (entries .entry))) ⌝ }
+        ensures { λ s. ⌜ outcome (s .reply) (state (s .store .words) (now (entries .exit)))
+            ≡ making rules (given readers publishers slots version) (state (replicate WORDS 0) (now (entries .entry))) ⌝ }
     {
         let mut words = [0u64; WORDS];
         let reply = make(&mut words, entries, readers, publishers, slots, version);
@@ -64,7 +65,8 @@ impl TwoPhase {
     }
 
     pub fn enter(mut self, entries: &[Pitch], r: u16) -> Stepped
-        ensures { λ s. ⌜ outcome (s .reply) (state (s .store .words) (now (entries .entry))) ≡ step rules (state (self .words) (now (entries .entry))) (Enter r) ⌝ }
+        ensures { λ s. ⌜ outcome (s .reply) (state (s .store .words) (now (entries .entry)))
+            ≡ step rules (state (self .words) (now (entries .entry))) (Enter r) ⌝ }
     {
         let mut words = self.words;
         let reply = enter(&mut words, entries, r);
@@ -76,7 +78,8 @@ impl TwoPhase {
     }
 
     pub fn look(self, entries: &[Pitch], r: u16, k: u16) -> Stepped
-        ensures { λ s. ⌜ outcome (s .reply) (state (s .store .words) (now (entries .entry))) ≡ step rules (state (self .words) (now (entries .entry))) (Look r k) ⌝ }
+        ensures { λ s. ⌜ outcome (s .reply) (state (s .store .words) (now (entries .entry)))
+            ≡ step rules (state (self .words) (now (entries .entry))) (Look r k) ⌝ }
     {
         let words = self.words;
         let reply = look(&words, entries, r, k);
@@ -87,7 +90,8 @@ impl TwoPhase {
     }
 
     pub fn leave(mut self, entries: &[Pitch], r: u16) -> Stepped
-        ensures { λ s. ⌜ outcome (s .reply) (state (s .store .words) (now (entries .entry))) ≡ step rules (state (self .words) (now (entries .entry))) (Leave r) ⌝ }
+        ensures { λ s. ⌜ outcome (s .reply) (state (s .store .words) (now (entries .entry)))
+            ≡ step rules (state (self .words) (now (entries .entry))) (Leave r) ⌝ }
     {
         let mut words = self.words;
         let reply = leave(&mut words, entries, r);
@@ -99,7 +103,8 @@ impl TwoPhase {
     }
 
     pub fn claim(mut self, entries: &[Pitch], p: u16, slot: u16) -> Stepped
-        ensures { λ s. ⌜ outcome (s .reply) (state (s .store .words) (now (entries .entry))) ≡ step rules (state (self .words) (now (entries .entry))) (Claim p slot) ⌝ }
+        ensures { λ s. ⌜ outcome (s .reply) (state (s .store .words) (now (entries .entry)))
+            ≡ step rules (state (self .words) (now (entries .entry))) (Claim p slot) ⌝ }
     {
         let mut words = self.words;
         let reply = claim(&mut words, entries, p, slot);
@@ -111,7 +116,8 @@ impl TwoPhase {
     }
 
     pub fn write(mut self, entries: &mut [Pitch], p: u16, v: Pitch) -> Stepped
-        ensures { λ s. ⌜ outcome (s .reply) (state (s .store .words) (now (entries .exit))) ≡ step rules (state (self .words) (now (entries .entry))) (Write p v) ⌝ }
+        ensures { λ s. ⌜ outcome (s .reply) (state (s .store .words) (now (entries .exit)))
+            ≡ step rules (state (self .words) (now (entries .entry))) (Write p v) ⌝ }
     {
         let mut words = self.words;
         let reply = write(&mut words, entries, p, v);
@@ -123,7 +129,8 @@ impl TwoPhase {
     }
 
     pub fn swap(mut self, entries: &[Pitch], p: u16) -> Stepped
-        ensures { λ s. ⌜ outcome (s .reply) (state (s .store .words) (now (entries .entry))) ≡ step rules (state (self .words) (now (entries .entry))) (Swap p) ⌝ }
+        ensures { λ s. ⌜ outcome (s .reply) (state (s .store .words) (now (entries .entry)))
+            ≡ step rules (state (self .words) (now (entries .entry))) (Swap p) ⌝ }
     {
         let mut words = self.words;
         let reply = swap(&mut words, entries, p);
@@ -135,7 +142,8 @@ impl TwoPhase {
     }
 
     pub fn sync(mut self, entries: &[Pitch], p: u16) -> Stepped
-        ensures { λ s. ⌜ outcome (s .reply) (state (s .store .words) (now (entries .entry))) ≡ step rules (state (self .words) (now (entries .entry))) (Sync p) ⌝ }
+        ensures { λ s. ⌜ outcome (s .reply) (state (s .store .words) (now (entries .entry)))
+            ≡ step rules (state (self .words) (now (entries .entry))) (Sync p) ⌝ }
     {
         let mut words = self.words;
         let reply = sync(&mut words, entries, p);
@@ -147,7 +155,8 @@ impl TwoPhase {
     }
 
     pub fn raise(mut self, entries: &[Pitch], p: u16) -> Stepped
-        ensures { λ s. ⌜ outcome (s .reply) (state (s .store .words) (now (entries .entry))) ≡ step rules (state (self .words) (now (entries .entry))) (Raise p) ⌝ }
+        ensures { λ s. ⌜ outcome (s .reply) (state (s .store .words) (now (entries .entry)))
+            ≡ step rules (state (self .words) (now (entries .entry))) (Raise p) ⌝ }
     {
         let mut words = self.words;
         let reply = raise(&mut words, entries, p);
@@ -159,7 +168,8 @@ impl TwoPhase {
     }
 
     pub fn walk(mut self, entries: &[Pitch], p: u16, b: u16) -> Stepped
-        ensures { λ s. ⌜ outcome (s .reply) (state (s .store .words) (now (entries .entry))) ≡ step rules (state (self .words) (now (entries .entry))) (Walk p b) ⌝ }
+        ensures { λ s. ⌜ outcome (s .reply) (state (s .store .words) (now (entries .entry)))
+            ≡ step rules (state (self .words) (now (entries .entry))) (Walk p b) ⌝ }
     {
         let mut words = self.words;
         let reply = walk(&mut words, entries, p, b);
@@ -171,7 +181,8 @@ impl TwoPhase {
     }
 
     pub fn release(mut self, entries: &[Pitch], p: u16) -> Stepped
-        ensures { λ s. ⌜ outcome (s .reply) (state (s .store .words) (now (entries .entry))) ≡ step rules (state (self .words) (now (entries .entry))) (Release p) ⌝ }
+        ensures { λ s. ⌜ outcome (s .reply) (state (s .store .words) (now (entries .entry)))
+            ≡ step rules (state (self .words) (now (entries .entry))) (Release p) ⌝ }
     {
         let mut words = self.words;
         let reply = release(&mut words, entries, p);

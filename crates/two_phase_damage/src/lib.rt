@@ -33,7 +33,8 @@ pub const LAST: u64 = 9223372036854775807;
 // Whether one of the first n readers is damaged, or an indicator is unlike the number of them that added to it.
 fn first_readers_damaged(words: &[u64], n: u64, slots: u64) -> bool
     requires { ⌜ (length (now words) ≡ WORDS) × (n ≤ READERS-MAX) ⌝ }
-    ensures { λ b. ⌜ b ≡ (anyBelow (λ r. damageRules .readerDamaged n slots (readerAt (now (words .entry)) r)) n || (miscountedAt (now (words .entry)) n 0 || miscountedAt (now (words .entry)) n 1)) ⌝ }
+    ensures { λ b. ⌜ b
+        ≡ (anyBelow (λ r. damageRules .readerDamaged n slots (readerAt (now (words .entry)) r)) n || (miscountedAt (now (words .entry)) n 0 || miscountedAt (now (words .entry)) n 1)) ⌝ }
 {
     let mut counts = [0u64; 2];
     for r in 0..n {

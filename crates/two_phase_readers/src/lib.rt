@@ -49,7 +49,8 @@ fn advanced(mut x: Reader, version: u64, current: u64) -> Reader
 
 // ENTER r: one place on, and from 1 to 4 one more in the indicator of the loaded version's parity. Replies with the place.
 pub fn enter(words: &mut [u64], entries: &[Pitch], r: u16) -> Reply
-    ensures { λ a. ⌜ outcome a (state (now (words .exit)) (now (entries .entry))) ≡ step rules (state (now (words .entry)) (now (entries .entry))) (Enter r) ⌝ }
+    ensures { λ a. ⌜ outcome a (state (now (words .exit)) (now (entries .entry)))
+        ≡ step rules (state (now (words .entry)) (now (entries .entry))) (Enter r) ⌝ }
 {
     if head_is_damaged(words, entries.len())
         || readers_are_damaged(words)
@@ -78,7 +79,8 @@ pub fn enter(words: &mut [u64], entries: &[Pitch], r: u16) -> Reply
 
 // LOOK r k (place 5): entry k of the picked slot.
 pub fn look(words: &[u64], entries: &[Pitch], r: u16, k: u16) -> Reply
-    ensures { λ a. ⌜ outcome a (state (now (words .entry)) (now (entries .entry))) ≡ step rules (state (now (words .entry)) (now (entries .entry))) (Look r k) ⌝ }
+    ensures { λ a. ⌜ outcome a (state (now (words .entry)) (now (entries .entry)))
+        ≡ step rules (state (now (words .entry)) (now (entries .entry))) (Look r k) ⌝ }
 {
     if head_is_damaged(words, entries.len())
         || readers_are_damaged(words)
@@ -91,7 +93,8 @@ pub fn look(words: &[u64], entries: &[Pitch], r: u16, k: u16) -> Reply
 
 // LEAVE r (places 4, 5): to 0, and one less in the indicator that r added to.
 pub fn leave(words: &mut [u64], entries: &[Pitch], r: u16) -> Reply
-    ensures { λ a. ⌜ outcome a (state (now (words .exit)) (now (entries .entry))) ≡ step rules (state (now (words .entry)) (now (entries .entry))) (Leave r) ⌝ }
+    ensures { λ a. ⌜ outcome a (state (now (words .exit)) (now (entries .entry)))
+        ≡ step rules (state (now (words .entry)) (now (entries .entry))) (Leave r) ⌝ }
 {
     if head_is_damaged(words, entries.len())
         || readers_are_damaged(words)

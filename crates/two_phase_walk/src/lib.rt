@@ -74,7 +74,8 @@ fn look(count: u64, y: Publisher, b: u16) -> Progress
 
 // WALK p b (places 35, 37): at most one look, at an indicator.
 pub fn walk(words: &mut [u64], entries: &[Pitch], p: u16, b: u16) -> Reply
-    ensures { λ a. ⌜ outcome a (state (now (words .exit)) (now (entries .entry))) ≡ step rules (state (now (words .entry)) (now (entries .entry))) (WALK p b) ⌝ }
+    ensures { λ a. ⌜ outcome a (state (now (words .exit)) (now (entries .entry)))
+        ≡ step rules (state (now (words .entry)) (now (entries .entry))) (WALK p b) ⌝ }
 {
     if head_is_damaged(words, entries.len())
         || readers_are_damaged(words)
