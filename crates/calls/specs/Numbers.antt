@@ -1,4 +1,4 @@
--- Document 01's limits and refusal numbers by name, with the same values as the constants of src/.
+-- Document 01's limits, places and refusal numbers by name, with the same values as the constants of src/.
 use Prim.Native.Nat.{ℕ}
 use lib.IntN.{ℤ, pos, negℤ}
 
@@ -52,6 +52,51 @@ KIND-NEW = 1
 
 abbrev pub KIND-OLD : ℕ
 KIND-OLD = 2
+
+-- The places of a reader: 0 out; 1 the version loaded; 2 published; 3 loaded again (2 and 3 new only); 4 the section open; 5 the current slot picked.
+abbrev pub PLACE-OUT : ℕ
+PLACE-OUT = 0
+
+abbrev pub PLACE-LOADED : ℕ
+PLACE-LOADED = 1
+
+abbrev pub PLACE-PUBLISHED : ℕ
+PLACE-PUBLISHED = 2
+
+abbrev pub PLACE-LOADED-AGAIN : ℕ
+PLACE-LOADED-AGAIN = 3
+
+abbrev pub PLACE-OPEN : ℕ
+PLACE-OPEN = 4
+
+abbrev pub PLACE-PICKED : ℕ
+PLACE-PICKED = 5
+
+-- The places of a publisher: 0 idle; 1 to 32 claimed, with place - 1 entries written; 33 all written; 34 swapped; 35 synchronising;
+-- 36 quiet indicator seen empty (old only); 37 raised; 38 returned.
+abbrev pub PLACE-IDLE : ℕ
+PLACE-IDLE = 0
+
+abbrev pub PLACE-CLAIMED : ℕ
+PLACE-CLAIMED = 1
+
+abbrev pub PLACE-WRITTEN : ℕ
+PLACE-WRITTEN = 33
+
+abbrev pub PLACE-SWAPPED : ℕ
+PLACE-SWAPPED = 34
+
+abbrev pub PLACE-SYNCHRONISING : ℕ
+PLACE-SYNCHRONISING = 35
+
+abbrev pub PLACE-QUIET : ℕ
+PLACE-QUIET = 36
+
+abbrev pub PLACE-RAISED : ℕ
+PLACE-RAISED = 37
+
+abbrev pub PLACE-RETURNED : ℕ
+PLACE-RETURNED = 38
 
 -- Refusal numbers.
 abbrev pub DAMAGED : ℕ

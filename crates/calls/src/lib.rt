@@ -32,6 +32,36 @@ pub const KIND_NEW: u64 = 1;
 
 pub const KIND_OLD: u64 = 2;
 
+// The places of a reader. The section is open at 4 and 5; the old store has no 2 and 3.
+pub const PLACE_OUT: u64 = 0;
+
+pub const PLACE_LOADED: u64 = 1;
+
+pub const PLACE_PUBLISHED: u64 = 2;
+
+pub const PLACE_LOADED_AGAIN: u64 = 3;
+
+pub const PLACE_OPEN: u64 = 4;
+
+pub const PLACE_PICKED: u64 = 5;
+
+// The places of a publisher. At 1 to 32 place - 1 entries are written; the new store has no 36.
+pub const PLACE_IDLE: u64 = 0;
+
+pub const PLACE_CLAIMED: u64 = 1;
+
+pub const PLACE_WRITTEN: u64 = 33;
+
+pub const PLACE_SWAPPED: u64 = 34;
+
+pub const PLACE_SYNCHRONISING: u64 = 35;
+
+pub const PLACE_QUIET: u64 = 36;
+
+pub const PLACE_RAISED: u64 = 37;
+
+pub const PLACE_RETURNED: u64 = 38;
+
 // Refusal numbers.
 pub const DAMAGED: u64 = 1;
 
