@@ -16,55 +16,55 @@ pub data Event : Type 0 where
 -- Every call that is not refused is accepted.
 abbrev pub accepted : Reply → Bool
 accepted Made = true
-accepted (At n) = true
+accepted (At place) = true
 accepted (Pitch v) = true
 accepted Left = true
-accepted (Claimed s) = true
+accepted (Claimed slot) = true
 accepted (Written n) = true
-accepted (Swapped s) = true
-accepted (Synced m) = true
+accepted (Swapped slot) = true
+accepted (Synced mark) = true
 accepted Raised = true
 accepted Shared = true
-accepted (Walked o) = true
-accepted (Freed s n) = true
+accepted (Walked walked) = true
+accepted (Freed slot n) = true
 accepted (Refused n) = false
 
 -- The place that an ENTER replies.
 abbrev pub placeOf : Reply → Option ℕ
 placeOf Made = none
-placeOf (At n) = some n
+placeOf (At place) = some place
 placeOf (Pitch v) = none
 placeOf Left = none
-placeOf (Claimed s) = none
+placeOf (Claimed slot) = none
 placeOf (Written n) = none
-placeOf (Swapped s) = none
-placeOf (Synced m) = none
+placeOf (Swapped slot) = none
+placeOf (Synced mark) = none
 placeOf Raised = none
 placeOf Shared = none
-placeOf (Walked o) = none
-placeOf (Freed s n) = none
+placeOf (Walked walked) = none
+placeOf (Freed slot n) = none
 placeOf (Refused n) = none
 
 -- What a WALK replies.
 abbrev pub walkOf : Reply → Option WalkReply
 walkOf Made = none
-walkOf (At n) = none
+walkOf (At place) = none
 walkOf (Pitch v) = none
 walkOf Left = none
-walkOf (Claimed s) = none
+walkOf (Claimed slot) = none
 walkOf (Written n) = none
-walkOf (Swapped s) = none
-walkOf (Synced m) = none
+walkOf (Swapped slot) = none
+walkOf (Synced mark) = none
 walkOf Raised = none
 walkOf Shared = none
-walkOf (Walked o) = some o
-walkOf (Freed s n) = none
+walkOf (Walked walked) = some walked
+walkOf (Freed slot n) = none
 walkOf (Refused n) = none
 
 -- A fold over events, of which only the accepted ones move it.
 abbrev pub moved : {A : Type 0} → (A → Call → Reply → A) → A → Event → A
-moved f x (c ⇒ a) = pick (accepted a) (f x c a) x
+moved f now (c ⇒ a) = pick (accepted a) (f now c a) now
 
 abbrev pub foldEvents : {A : Type 0} → (A → Call → Reply → A) → A → List Event → A
-foldEvents f x [] = x
-foldEvents f x (e ∷ es) = foldEvents f (moved f x e) es
+foldEvents f now [] = now
+foldEvents f now (e ∷ es) = foldEvents f (moved f now e) es

@@ -8,18 +8,18 @@ use lib.IntN.{ℤ}
 use lib.ListN.{length, replicate}
 use Rattle.calls.specs.Model.{entry}
 
-pub entry-old : (d e : List ℤ) (k : ℕ) → k < length d → entry (d ++ e) k ≡ entry d k
-entry-old [] e k l = absurd (omega arith)
-entry-old (x ∷ d) e zero l = refl
-entry-old (x ∷ d) e (suc k) l = entry-old d e k (omega arith)
+pub entry-old : (draft more : List ℤ) (k : ℕ) → k < length draft → entry (draft ++ more) k ≡ entry draft k
+entry-old [] more k lt = absurd (omega arith)
+entry-old (v ∷ draft) more zero lt = refl
+entry-old (v ∷ draft) more (suc k) lt = entry-old draft more k (omega arith)
 
-pub entry-new : (d : List ℤ) (v : ℤ) (k : ℕ) → length d ≡ k → entry (d ++ (v ∷ [])) k ≡ some v
-entry-new [] v zero l = refl
-entry-new [] v (suc k) l = absurd (omega arith)
-entry-new (x ∷ d) v zero l = absurd (omega arith)
-entry-new (x ∷ d) v (suc k) l = entry-new d v k (omega arith)
+pub entry-new : (draft : List ℤ) (v : ℤ) (k : ℕ) → length draft ≡ k → entry (draft ++ (v ∷ [])) k ≡ some v
+entry-new [] v zero long = refl
+entry-new [] v (suc k) long = absurd (omega arith)
+entry-new (first ∷ draft) v zero long = absurd (omega arith)
+entry-new (first ∷ draft) v (suc k) long = entry-new draft v k (omega arith)
 
 pub entry-same : (n k : ℕ) (v : ℤ) → k < n → entry (replicate n v) k ≡ some v
-entry-same zero k v l = absurd (omega arith)
-entry-same (suc n) zero v l = refl
-entry-same (suc n) (suc k) v l = entry-same n k v (omega arith)
+entry-same zero k v lt = absurd (omega arith)
+entry-same (suc n) zero v lt = refl
+entry-same (suc n) (suc k) v lt = entry-same n k v (omega arith)

@@ -34,7 +34,7 @@ pitch-back v l = toZ-ofZ PITCH-WIDTH v (record { sfits = l })
 
 -- What a cast to u64 asks.
 abbrev Cast : ℤ → Type 0
-Cast z = T (nonNeg z) × Fits w64 (natAbs z)
+Cast v = T (nonNeg v) × Fits w64 (natAbs v)
 
 -- A pitch below 0, taken from 0.
 record Away (v : ℤ) : Type 0 where

@@ -9,7 +9,7 @@ use Rattle.calls.specs.declared.WalkReply.the-variants.{Waiting, Spent, 
 use Rattle.calls.specs.Numbers.{NUMBER-MAX, CODE-MADE, CODE-AT, CODE-PITCH, CODE-LEFT, CODE-CLAIMED, CODE-WRITTEN, CODE-SWAPPED, CODE-SYNCED, CODE-RAISED, CODE-SHARED, CODE-WAITING, CODE-SPENT, CODE-QUIET, CODE-RETURNED, CODE-FREED}
 
 abbrev pub replyNumbers : ℕ → ℕ → ℕ → ReplyNumbers
-replyNumbers c a b = record { code = c; first = a; second = b }
+replyNumbers code first second = record { code = code; first = first; second = second }
 
 -- A pitch in 64 bits: v, and 2^64 + v where v is negative.
 abbrev pub pitchNumber : ℤ → ℕ
@@ -18,23 +18,23 @@ pitchNumber (negsuc n) = NUMBER-MAX - n
 
 -- An accepted reply has 100 and up, in document 01's order of replies.
 abbrev pub walkNumbers : WalkReply → ReplyNumbers
-walkNumbers (Waiting w) = replyNumbers CODE-WAITING w 0
+walkNumbers (Waiting awaited) = replyNumbers CODE-WAITING awaited 0
 walkNumbers Spent = replyNumbers CODE-SPENT 0 0
 walkNumbers Quiet = replyNumbers CODE-QUIET 0 0
-walkNumbers (Returned l w) = replyNumbers CODE-RETURNED l w
+walkNumbers (Returned looks waits) = replyNumbers CODE-RETURNED looks waits
 
 abbrev pub numbersOf : Reply → ReplyNumbers
 numbersOf Made = replyNumbers CODE-MADE 0 0
-numbersOf (At n) = replyNumbers CODE-AT n 0
+numbersOf (At place) = replyNumbers CODE-AT place 0
 numbersOf (Pitch v) = replyNumbers CODE-PITCH (pitchNumber v) 0
 numbersOf Left = replyNumbers CODE-LEFT 0 0
-numbersOf (Claimed s) = replyNumbers CODE-CLAIMED s 0
+numbersOf (Claimed slot) = replyNumbers CODE-CLAIMED slot 0
 numbersOf (Written n) = replyNumbers CODE-WRITTEN n 0
-numbersOf (Swapped s) = replyNumbers CODE-SWAPPED s 0
-numbersOf (Synced m) = replyNumbers CODE-SYNCED m 0
+numbersOf (Swapped slot) = replyNumbers CODE-SWAPPED slot 0
+numbersOf (Synced mark) = replyNumbers CODE-SYNCED mark 0
 numbersOf Raised = replyNumbers CODE-RAISED 0 0
 numbersOf Shared = replyNumbers CODE-SHARED 0 0
-numbersOf (Walked o) = walkNumbers o
-numbersOf (Freed s n) = replyNumbers CODE-FREED s n
+numbersOf (Walked walked) = walkNumbers walked
+numbersOf (Freed slot n) = replyNumbers CODE-FREED slot n
 -- A refusal has its number.
 numbersOf (Refused n) = replyNumbers n 0 0

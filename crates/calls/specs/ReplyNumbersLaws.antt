@@ -21,25 +21,25 @@ HALF = 9223372036854775808
 abbrev pub pitchOf : ℕ → ℤ
 pitchOf n = pick (ltb n HALF) (pos n) (negsuc (NUMBER-MAX - n))
 
--- The reply that an answer stands for.
+-- The reply that three numbers stand for.
 abbrev pub replyOf : ReplyNumbers → Reply
-replyOf a =
-    pick (eqb (a .code) 100) Made
-    (pick (eqb (a .code) 101) (At (a .first))
-    (pick (eqb (a .code) 102) (Pitch (pitchOf (a .first)))
-    (pick (eqb (a .code) 103) Left
-    (pick (eqb (a .code) 104) (Claimed (a .first))
-    (pick (eqb (a .code) 105) (Written (a .first))
-    (pick (eqb (a .code) 106) (Swapped (a .first))
-    (pick (eqb (a .code) 107) (Synced (a .first))
-    (pick (eqb (a .code) 108) Raised
-    (pick (eqb (a .code) 109) Shared
-    (pick (eqb (a .code) 110) (Walked (Waiting (a .first)))
-    (pick (eqb (a .code) 111) (Walked Spent)
-    (pick (eqb (a .code) 112) (Walked Quiet)
-    (pick (eqb (a .code) 113) (Walked (Returned (a .first) (a .second)))
-    (pick (eqb (a .code) 114) (Freed (a .first) (a .second))
-    (Refused (a .code))))))))))))))))
+replyOf numbers =
+    pick (eqb (numbers .code) 100) Made
+    (pick (eqb (numbers .code) 101) (At (numbers .first))
+    (pick (eqb (numbers .code) 102) (Pitch (pitchOf (numbers .first)))
+    (pick (eqb (numbers .code) 103) Left
+    (pick (eqb (numbers .code) 104) (Claimed (numbers .first))
+    (pick (eqb (numbers .code) 105) (Written (numbers .first))
+    (pick (eqb (numbers .code) 106) (Swapped (numbers .first))
+    (pick (eqb (numbers .code) 107) (Synced (numbers .first))
+    (pick (eqb (numbers .code) 108) Raised
+    (pick (eqb (numbers .code) 109) Shared
+    (pick (eqb (numbers .code) 110) (Walked (Waiting (numbers .first)))
+    (pick (eqb (numbers .code) 111) (Walked Spent)
+    (pick (eqb (numbers .code) 112) (Walked Quiet)
+    (pick (eqb (numbers .code) 113) (Walked (Returned (numbers .first) (numbers .second)))
+    (pick (eqb (numbers .code) 114) (Freed (numbers .first) (numbers .second))
+    (Refused (numbers .code))))))))))))))))
 
 -- A pitch of 64 bits, and a refusal below 100: what the code's types and document 01's table give.
 abbrev pub NarrowPitch : ℤ → Type 0
@@ -48,17 +48,17 @@ NarrowPitch (negsuc n) = n < HALF
 
 abbrev pub Representable : Reply → Type 0
 Representable Made = Unit {0}
-Representable (At n) = Unit {0}
+Representable (At place) = Unit {0}
 Representable (Pitch v) = NarrowPitch v
 Representable Left = Unit {0}
-Representable (Claimed s) = Unit {0}
+Representable (Claimed slot) = Unit {0}
 Representable (Written n) = Unit {0}
-Representable (Swapped s) = Unit {0}
-Representable (Synced m) = Unit {0}
+Representable (Swapped slot) = Unit {0}
+Representable (Synced mark) = Unit {0}
 Representable Raised = Unit {0}
 Representable Shared = Unit {0}
-Representable (Walked o) = Unit {0}
-Representable (Freed s n) = Unit {0}
+Representable (Walked walked) = Unit {0}
+Representable (Freed slot n) = Unit {0}
 Representable (Refused n) = n < 100
 
 pitch-back : (v : ℤ) → NarrowPitch v → pitchOf (pitchNumber v) ≡ v
@@ -67,11 +67,11 @@ pitch-back (negsuc n) l =
     let e : NUMBER-MAX - (NUMBER-MAX - n) ≡ n = omega arith in
     rw (le-ltb (NUMBER-MAX - n) HALF (omega arith), e) refl
 
-walk-back : (o : WalkReply) → replyOf (walkNumbers o) ≡ Walked o
-walk-back (Waiting w) = refl
+walk-back : (walked : WalkReply) → replyOf (walkNumbers walked) ≡ Walked walked
+walk-back (Waiting awaited) = refl
 walk-back Spent = refl
 walk-back Quiet = refl
-walk-back (Returned l w) = refl
+walk-back (Returned looks waits) = refl
 
 refused-back : (n : ℕ) → n < 100 → replyOf (replyNumbers n 0 0) ≡ Refused n
 refused-back n l =
@@ -95,18 +95,18 @@ refused-back n l =
 
 pub reply-back : (a : Reply) → Representable a → replyOf (numbersOf a) ≡ a
 reply-back Made h = refl
-reply-back (At n) h = refl
+reply-back (At place) h = refl
 reply-back (Pitch v) h = ap Pitch (pitch-back v h)
 reply-back Left h = refl
-reply-back (Claimed s) h = refl
+reply-back (Claimed slot) h = refl
 reply-back (Written n) h = refl
-reply-back (Swapped s) h = refl
-reply-back (Synced m) h = refl
+reply-back (Swapped slot) h = refl
+reply-back (Synced mark) h = refl
 reply-back Raised h = refl
 reply-back Shared h = refl
-reply-back (Walked o) h = walk-back o
-reply-back (Freed s n) h = refl
+reply-back (Walked walked) h = walk-back walked
+reply-back (Freed slot n) h = refl
 reply-back (Refused n) h = refused-back n h
 
-pub numbers-injective : (a b : Reply) → Representable a → Representable b → numbersOf a ≡ numbersOf b → a ≡ b
-numbers-injective a b p q e = sym (reply-back a p) ∙ (ap replyOf e ∙ reply-back b q)
+pub numbers-injective : (a a′ : Reply) → Representable a → Representable a′ → numbersOf a ≡ numbersOf a′ → a ≡ a′
+numbers-injective a a′ h h′ e = sym (reply-back a h) ∙ (ap replyOf e ∙ reply-back a′ h′)

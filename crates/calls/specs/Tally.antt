@@ -10,6 +10,7 @@ use Rattle.calls.specs.declared.Call.the-variants.{Enter, Look, Leave, C
 use Rattle.calls.specs.declared.Reply.{Reply}
 use Rattle.calls.specs.declared.WalkReply.{WalkReply}
 use Rattle.calls.specs.declared.WalkReply.the-variants.{Waiting, Spent, Quiet, Returned}
+use Rattle.calls.specs.Numbers.{PLACE-OUT, PLACE-IDLE, PLACE-CLAIMED, PLACE-SWAPPED, PLACE-SYNCHRONISING, PLACE-QUIET, PLACE-RAISED, PLACE-RETURNED}
 use Rattle.calls.specs.Events.{Event, placeOf, walkOf, foldEvents}
 
 -- What a publisher did last, of CLAIM, SWAP, SYNC, a WALK that replied quiet, RAISE, a WALK that returned and RELEASE; idle after a RELEASE, and if nothing yet.
@@ -22,18 +23,18 @@ pub data Phase : Type 0 where
   raised : Phase
   returned : Phase
 
--- The place with which a phase begins; whether a phase is x.
+-- The place with which a phase begins; whether a phase is that one.
 abbrev pub firstPlace : Phase → ℕ
-firstPlace idle = 0
-firstPlace writing = 1
-firstPlace swapped = 34
-firstPlace synchronising = 35
-firstPlace quiet = 36
-firstPlace raised = 37
-firstPlace returned = 38
+firstPlace idle = PLACE-IDLE
+firstPlace writing = PLACE-CLAIMED
+firstPlace swapped = PLACE-SWAPPED
+firstPlace synchronising = PLACE-SYNCHRONISING
+firstPlace quiet = PLACE-QUIET
+firstPlace raised = PLACE-RAISED
+firstPlace returned = PLACE-RETURNED
 
 abbrev pub inPhase : Phase → Phase → Bool
-inPhase x y = eqb (firstPlace y) (firstPlace x)
+inPhase that phase = eqb (firstPlace phase) (firstPlace that)
 
 pub record Tally : Type 0 where
   -- the place that a reader's last ENTER replied, and 0 at the start and after a LEAVE
@@ -45,39 +46,39 @@ pub record Tally : Type 0 where
   pub releases : ℕ
 
 abbrev pub tally₀ : Tally
-tally₀ = record { place = λ r. 0; phase = λ p. idle; waits = λ p. 0; releases = 0 }
+tally₀ = record { place = λ r. PLACE-OUT; phase = λ p. idle; waits = λ p. 0; releases = 0 }
 
 abbrev pub withPlace : Tally → ℕ → Option ℕ → Tally
-withPlace y r none = y
-withPlace y r (some n) = record { place = upd (y .place) r n; phase = y .phase; waits = y .waits; releases = y .releases }
+withPlace u r none = u
+withPlace u r (some place) = record { place = upd (u .place) r place; phase = u .phase; waits = u .waits; releases = u .releases }
 
 abbrev pub withPhase : Tally → ℕ → Phase → Tally
-withPhase y p x = record { place = y .place; phase = upd (y .phase) p x; waits = y .waits; releases = y .releases }
+withPhase u p phase = record { place = u .place; phase = upd (u .phase) p phase; waits = u .waits; releases = u .releases }
 
 abbrev pub withWaits : Tally → ℕ → ℕ → Tally
-withWaits y p n = record { place = y .place; phase = y .phase; waits = upd (y .waits) p n; releases = y .releases }
+withWaits u p n = record { place = u .place; phase = u .phase; waits = upd (u .waits) p n; releases = u .releases }
 
 abbrev pub withReleases : Tally → ℕ → Tally
-withReleases y n = record { place = y .place; phase = y .phase; waits = y .waits; releases = n }
+withReleases u n = record { place = u .place; phase = u .phase; waits = u .waits; releases = n }
 
 abbrev pub withWalk : Tally → ℕ → Option WalkReply → Tally
-withWalk y p none = y
-withWalk y p (some (Waiting w)) = withWaits y p (suc (y .waits p))
-withWalk y p (some Spent) = y
-withWalk y p (some Quiet) = withPhase y p quiet
-withWalk y p (some (Returned l w)) = withPhase y p returned
+withWalk u p none = u
+withWalk u p (some (Waiting awaited)) = withWaits u p (suc (u .waits p))
+withWalk u p (some Spent) = u
+withWalk u p (some Quiet) = withPhase u p quiet
+withWalk u p (some (Returned looks waits)) = withPhase u p returned
 
 abbrev pub tally : Tally → Call → Reply → Tally
-tally y (Enter r) a = withPlace y r (placeOf a)
-tally y (Look r k) a = y
-tally y (Leave r) a = withPlace y r (some 0)
-tally y (Claim p s) a = withPhase y p writing
-tally y (Write p v) a = y
-tally y (Swap p) a = withPhase y p swapped
-tally y (Sync p) a = withWaits (withPhase y p synchronising) p 0
-tally y (Raise p) a = withPhase y p raised
-tally y (Walk p b) a = withWalk y p (walkOf a)
-tally y (Release p) a = withReleases (withPhase y p idle) (suc (y .releases))
+tally u (Enter r) a = withPlace u r (placeOf a)
+tally u (Look r k) a = u
+tally u (Leave r) a = withPlace u r (some PLACE-OUT)
+tally u (Claim p slot) a = withPhase u p writing
+tally u (Write p v) a = u
+tally u (Swap p) a = withPhase u p swapped
+tally u (Sync p) a = withWaits (withPhase u p synchronising) p 0
+tally u (Raise p) a = withPhase u p raised
+tally u (Walk p b) a = withWalk u p (walkOf a)
+tally u (Release p) a = withReleases (withPhase u p idle) (suc (u .releases))
 
 abbrev pub tallyOf : List Event → Tally
 tallyOf es = foldEvents tally tally₀ es

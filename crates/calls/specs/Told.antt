@@ -9,6 +9,7 @@ use Rattle.base.specs.Base.{pick, upd, is}
 use Rattle.calls.specs.declared.Call.{Call}
 use Rattle.calls.specs.declared.Call.the-variants.{Enter, Look, Leave, Claim, Write, Swap, Sync, Raise, Walk, Release}
 use Rattle.calls.specs.declared.Reply.{Reply}
+use Rattle.calls.specs.Numbers.{PLACE-OPEN, PLACE-PICKED}
 use Rattle.calls.specs.Events.{Event, placeOf, foldEvents}
 
 pub record Told : Type 0 where
@@ -26,13 +27,13 @@ pub record Told : Type 0 where
 
 -- Slot 0 is current at first.
 abbrev pub told₀ : Told
-told₀ = record { inside = λ r. false; picked = λ r. none; current = some 0; claim = λ p. none; writing = λ p x. false; former = λ p x. false }
+told₀ = record { inside = λ r. false; picked = λ r. none; current = some 0; claim = λ p. none; writing = λ p slot. false; former = λ p slot. false }
 
 -- A reader's section, and what it picked in it.
 abbrev pub withSection : Told → ℕ → Bool → Option ℕ → Told
-withSection t r i x = record {
-  inside = upd (t .inside) r i;
-  picked = upd (t .picked) r x;
+withSection t r inside picked = record {
+  inside = upd (t .inside) r inside;
+  picked = upd (t .picked) r picked;
   current = t .current;
   claim = t .claim;
   writing = t .writing;
@@ -41,16 +42,16 @@ withSection t r i x = record {
 
 -- A section is open from the ENTER that replies place 4. Its pick is the ENTER that replies place 5, and takes the slot then current.
 abbrev pub entered : Told → ℕ → Option ℕ → Told
-entered t r place = pick (is place 4) (withSection t r true none) (pick (is place 5) (withSection t r (t .inside r) (t .current)) t)
+entered t r place = pick (is place PLACE-OPEN) (withSection t r true none) (pick (is place PLACE-PICKED) (withSection t r (t .inside r) (t .current)) t)
 
 -- A publisher holds a slot from its accepted CLAIM ..
 abbrev pub claimed : Told → ℕ → ℕ → Told
-claimed t p s = record {
+claimed t p slot = record {
   inside = t .inside;
   picked = t .picked;
   current = t .current;
-  claim = upd (t .claim) p (some s);
-  writing = upd (t .writing) p (λ x. eqb s x || t .writing p x);
+  claim = upd (t .claim) p (some slot);
+  writing = upd (t .writing) p (λ x. eqb slot x || t .writing p x);
   former = t .former;
 }
 
@@ -62,8 +63,8 @@ swapped t p = record {
   picked = t .picked;
   current = t .claim p;
   claim = t .claim;
-  writing = upd (t .writing) p (λ x. false);
-  former = upd (t .former) p (λ x. is (t .current) x || t .former p x);
+  writing = upd (t .writing) p (λ slot. false);
+  former = upd (t .former) p (λ slot. is (t .current) slot || t .former p slot);
 }
 
 -- .. until its next accepted RELEASE.
@@ -74,14 +75,14 @@ released t p = record {
   current = t .current;
   claim = t .claim;
   writing = t .writing;
-  former = upd (t .former) p (λ x. false);
+  former = upd (t .former) p (λ slot. false);
 }
 
 abbrev pub tell : Told → Call → Reply → Told
 tell t (Enter r) a = entered t r (placeOf a)
 tell t (Look r k) a = t
 tell t (Leave r) a = withSection t r false none
-tell t (Claim p s) a = claimed t p s
+tell t (Claim p slot) a = claimed t p slot
 tell t (Write p v) a = t
 tell t (Swap p) a = swapped t p
 tell t (Sync p) a = t
@@ -94,7 +95,7 @@ abbrev pub toldBy : List Event → Told
 toldBy es = foldEvents tell told₀ es
 
 abbrev pub holds : Told → ℕ → ℕ → Bool
-holds t p x = t .writing p x || t .former p x
+holds t p slot = t .writing p slot || t .former p slot
 
 -- A slot's role: current, held by a publisher, or free. Every slot that is neither of the first two is free.
 pub data Role : Type 0 where
@@ -103,6 +104,6 @@ pub data Role : Type 0 where
   free : Role
 
 abbrev pub Has : Told → ℕ → Role → Type 0
-Has t x current = is (t .current) x ≡ true
-Has t x (heldBy p) = holds t p x ≡ true
-Has t x free = (is (t .current) x ≡ false) × ((p : ℕ) → holds t p x ≡ false)
+Has t slot current = is (t .current) slot ≡ true
+Has t slot (heldBy p) = holds t p slot ≡ true
+Has t slot free = (is (t .current) slot ≡ false) × ((p : ℕ) → holds t p slot ≡ false)
