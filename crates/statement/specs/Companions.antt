@@ -13,7 +13,7 @@ use Rattle.calls.specs.declared.Call.the-variants.{Enter, Look, Leave, Claim, W
 use Rattle.calls.specs.declared.Reply.{Reply}
 use Rattle.calls.specs.declared.Reply.the-variants.{Made, At, Left, Claimed, Written, Swapped, Walked, Freed, Refused}
 use Rattle.calls.specs.declared.WalkReply.the-variants.{Returned}
-use Rattle.calls.specs.Numbers.{READERS-MAX, PUBLISHERS-MAX, SLOTS-MIN, SLOTS-MAX, TABLE, PITCH-LOW, PITCH-HIGH, FEATHERED, NUMBER-MAX, MODULUS, DAMAGED, BUSY}
+use Rattle.calls.specs.Numbers.{READERS-MAX, PUBLISHERS-MAX, SLOTS-MIN, SLOTS-MAX, TABLE, PITCH-LOW, PITCH-HIGH, FEATHERED, NUMBER-MAX, MODULUS, PLACE-OPEN, PLACE-PICKED, DAMAGED, BUSY}
 use Rattle.calls.specs.Events.{Event, accepted}
 use Rattle.calls.specs.Events.Event.{_⇒_}
 use Rattle.calls.specs.Model.{Model, modelOf}
@@ -52,8 +52,8 @@ pub record GraceTraits : Type 0 where
 
 -- A making with every argument in its range, and lent words and entries of the right lengths, is accepted.
 abbrev pub MakingAccepts : Machine → Traits → Type 0
-MakingAccepts M T = (g : Given) (s : State) → length (s .words) ≡ WORDS → 1 ≤ g .readers → g .readers ≤ READERS-MAX → 1 ≤ g .publishers → g .publishers ≤ PUBLISHERS-MAX
-    → SLOTS-MIN ≤ g .slots → g .slots ≤ SLOTS-MAX → length (s .entries) ≡ g .slots * TABLE → g .version ≤ T .last → M .making g s .reply ≡ Made
+MakingAccepts M T = (z : Given) (s : State) → length (s .words) ≡ WORDS → 1 ≤ z .readers → z .readers ≤ READERS-MAX → 1 ≤ z .publishers → z .publishers ≤ PUBLISHERS-MAX
+    → SLOTS-MIN ≤ z .slots → z .slots ≤ SLOTS-MAX → length (s .entries) ≡ z .slots * TABLE → z .version ≤ T .last → M .making z s .reply ≡ Made
 
 -- A fresh store, to the letter: every entry feathered, slot 0 current, readers and publishers at place 0, published versions NOT_READING, the version and the sizes as given
 -- and every other number 0.
@@ -76,76 +76,76 @@ MakesFresh M = (s : State) (f : Fresh M s) → IsFresh (f .arguments) s
 -- A refused call changes neither the store nor the entries, and a refused making leaves both as lent.
 pub record RefusedLeaves (M : Machine) : Type 0 where
   pub step : (s : State) (c : Call) (n : ℕ) → M .step s c .reply ≡ Refused n → M .step s c .after ≡ s
-  pub making : (g : Given) (s : State) (n : ℕ) → M .making g s .reply ≡ Refused n → M .making g s .after ≡ s
+  pub making : (z : Given) (s : State) (n : ℕ) → M .making z s .reply ≡ Refused n → M .making z s .after ≡ s
 
 -- The turn of each call, by what the calls told: a reader's place, a publisher's phase and its draft.
 abbrev pub InTurn : Traits → Model → Tally → Call → Type 0
-InTurn T h y (Enter r) = y .place r < 5
-InTurn T h y (Look r k) = y .place r ≡ 5
-InTurn T h y (Leave r) = 4 ≤ y .place r
-InTurn T h y (Claim p x) = y .phase p ≡ idle
-InTurn T h y (Write p v) = (y .phase p ≡ writing) × (length (h .draft p) < TABLE)
-InTurn T h y (Swap p) = (y .phase p ≡ writing) × (length (h .draft p) ≡ TABLE)
-InTurn T h y (Sync p) = y .phase p ≡ swapped
-InTurn T h y (Raise p) = T .raisesIn (y .phase p) ≡ true
-InTurn T h y (Walk p b) = T .walksIn (y .phase p) ≡ true
-InTurn T h y (Release p) = y .phase p ≡ returned
+InTurn T h u (Enter r) = u .place r < PLACE-PICKED
+InTurn T h u (Look r k) = u .place r ≡ PLACE-PICKED
+InTurn T h u (Leave r) = PLACE-OPEN ≤ u .place r
+InTurn T h u (Claim p slot) = u .phase p ≡ idle
+InTurn T h u (Write p v) = (u .phase p ≡ writing) × (length (h .draft p) < TABLE)
+InTurn T h u (Swap p) = (u .phase p ≡ writing) × (length (h .draft p) ≡ TABLE)
+InTurn T h u (Sync p) = u .phase p ≡ swapped
+InTurn T h u (Raise p) = T .raisesIn (u .phase p) ≡ true
+InTurn T h u (Walk p b) = T .walksIn (u .phase p) ≡ true
+InTurn T h u (Release p) = u .phase p ≡ returned
 
--- What holds of a state after a list of calls that told h, t and y.
-pub record StateCompanions (M : Machine) (T : Traits) (g : Given) (h : Model) (t : Told) (y : Tally) (s : State) : Type 0 where
+-- What holds of a state after a list of calls that told h, t and u.
+pub record StateCompanions (M : Machine) (T : Traits) (z : Given) (h : Model) (t : Told) (u : Tally) (s : State) : Type 0 where
   -- never damaged: no call that the kind has is refused with 1, and every call that it lacks is, and changes nothing
   pub undamaged : (c : Call) → T .lacks c ≡ false → M .step s c .reply ≢ Refused DAMAGED
   pub lacked : (c : Call) → T .lacks c ≡ true → M .step s c ≡ outcome (Refused DAMAGED) s
   -- order: a call is accepted in its turn alone
-  pub in-turn : (c : Call) → accepted (M .step s c .reply) ≡ true → InTurn T h y c
+  pub in-turn : (c : Call) → accepted (M .step s c .reply) ≡ true → InTurn T h u c
   -- LOOK is accepted after the pick
-  pub looks : (r k : ℕ) → r < g .readers → k < TABLE → y .place r ≡ 5 → accepted (M .step s (Look r k) .reply) ≡ true
+  pub looks : (r k : ℕ) → r < z .readers → k < TABLE → u .place r ≡ PLACE-PICKED → accepted (M .step s (Look r k) .reply) ≡ true
   -- a claim of a slot told free by an idle publisher, both in range, is accepted (exclusive: if every other one is idle too, else 31)
-  pub claims : (p x : ℕ) → p < g .publishers → x < g .slots → Has t x free → y .phase p ≡ idle
-      → (T .exclusive ≡ true → (q : ℕ) → q ≢ p → y .phase q ≡ idle) → M .step s (Claim p x) .reply ≡ Claimed x
-  pub busy : T .exclusive ≡ true → (p x q : ℕ) → p < g .publishers → x < g .slots → y .phase p ≡ idle → q ≢ p → y .phase q ≢ idle
-      → M .step s (Claim p x) .reply ≡ Refused BUSY
+  pub claims : (p slot : ℕ) → p < z .publishers → slot < z .slots → Has t slot free → u .phase p ≡ idle
+      → (T .exclusive ≡ true → (q : ℕ) → q ≢ p → u .phase q ≡ idle) → M .step s (Claim p slot) .reply ≡ Claimed slot
+  pub busy : T .exclusive ≡ true → (p slot q : ℕ) → p < z .publishers → slot < z .slots → u .phase p ≡ idle → q ≢ p → u .phase q ≢ idle
+      → M .step s (Claim p slot) .reply ≡ Refused BUSY
   -- who is told to hold nothing is idle: so claims speaks of every publisher that holds nothing
-  pub idle-if : (p : ℕ) → ((x : ℕ) → holds t p x ≡ false) → y .phase p ≡ idle
+  pub idle-if : (p : ℕ) → ((slot : ℕ) → holds t p slot ≡ false) → u .phase p ≡ idle
   -- a publisher gets on: it writes 32 entries, then swaps
-  pub writes : (p : ℕ) (v : ℤ) → p < g .publishers → y .phase p ≡ writing → length (h .draft p) < TABLE → ltZ v PITCH-LOW ≡ false → ltZ PITCH-HIGH v ≡ false
+  pub writes : (p : ℕ) (v : ℤ) → p < z .publishers → u .phase p ≡ writing → length (h .draft p) < TABLE → ltZ v PITCH-LOW ≡ false → ltZ PITCH-HIGH v ≡ false
       → M .step s (Write p v) .reply ≡ Written (length (h .draft p) + 1)
-  pub swaps : (p : ℕ) → p < g .publishers → y .phase p ≡ writing → length (h .draft p) ≡ TABLE → (x : ℕ) × (t .current ≡ some x) × (M .step s (Swap p) .reply ≡ Swapped x)
+  pub swaps : (p : ℕ) → p < z .publishers → u .phase p ≡ writing → length (h .draft p) ≡ TABLE → (slot : ℕ) × (t .current ≡ some slot) × (M .step s (Swap p) .reply ≡ Swapped slot)
 
 -- What holds of it besides, in a kind with sections and grace periods.
-pub record GraceStateCompanions (M : Machine) (T : GraceTraits) (g : Given) (h : Model) (t : Told) (y : Tally) (s : State) : Type 0 where
+pub record GraceStateCompanions (M : Machine) (T : GraceTraits) (z : Given) (h : Model) (t : Told) (u : Tally) (s : State) : Type 0 where
   -- readers never wait: the next ENTER replies the next place, whatever stands between; LEAVE is accepted in an open section
-  pub enters : (r : ℕ) → r < g .readers → y .place r < 5 → M .step s (Enter r) .reply ≡ At (T .onward (y .place r))
-  pub leaves : (r : ℕ) → r < g .readers → 4 ≤ y .place r → M .step s (Leave r) .reply ≡ Left
+  pub enters : (r : ℕ) → r < z .readers → u .place r < PLACE-PICKED → M .step s (Enter r) .reply ≡ At (T .onward (u .place r))
+  pub leaves : (r : ℕ) → r < z .readers → PLACE-OPEN ≤ u .place r → M .step s (Leave r) .reply ≡ Left
   -- who is idle is told to hold nothing: so busy speaks of every other publisher that holds a slot; with idle-if, told idle is told to hold nothing
-  pub idle-only-if : (p : ℕ) → y .phase p ≡ idle → (x : ℕ) → holds t p x ≡ false
+  pub idle-only-if : (p : ℕ) → u .phase p ≡ idle → (slot : ℕ) → holds t p slot ≡ false
   -- a publisher gets on: after its SWAP it synchronises unless the version is the last,
   -- raises and walks each in its phases, a WALK unless its looks could pass 2^64 - 1 (33), and releases what it held
-  pub syncs : (p : ℕ) → p < g .publishers → y .phase p ≡ swapped → version (s .words) < T .every .last → accepted (M .step s (Sync p) .reply) ≡ true
-  pub raises : (p : ℕ) → p < g .publishers → T .every .raisesIn (y .phase p) ≡ true → accepted (M .step s (Raise p) .reply) ≡ true
-  pub walks : (p b : ℕ) → p < g .publishers → T .every .walksIn (y .phase p) ≡ true → publisherAt (s .words) p .walk .looks + b ≤ NUMBER-MAX → accepted (M .step s (Walk p b) .reply) ≡ true
-  pub frees : (p : ℕ) → p < g .publishers → y .phase p ≡ returned
-      → (x : ℕ) × (t .former p x ≡ true) × (M .step s (Release p) .reply ≡ Freed x ((y .releases + 1) % MODULUS))
+  pub syncs : (p : ℕ) → p < z .publishers → u .phase p ≡ swapped → version (s .words) < T .every .last → accepted (M .step s (Sync p) .reply) ≡ true
+  pub raises : (p : ℕ) → p < z .publishers → T .every .raisesIn (u .phase p) ≡ true → accepted (M .step s (Raise p) .reply) ≡ true
+  pub walks : (p b : ℕ) → p < z .publishers → T .every .walksIn (u .phase p) ≡ true → publisherAt (s .words) p .walk .looks + b ≤ NUMBER-MAX → accepted (M .step s (Walk p b) .reply) ≡ true
+  pub frees : (p : ℕ) → p < z .publishers → u .phase p ≡ returned
+      → (slot : ℕ) × (t .former p slot ≡ true) × (M .step s (Release p) .reply ≡ Freed slot ((u .releases + 1) % MODULUS))
   -- releases is the number of accepted RELEASEs modulo 2^64
-  pub counted : releases (s .words) ≡ y .releases % MODULUS
+  pub counted : releases (s .words) ≡ u .releases % MODULUS
 
 -- What stands beside demand 3 after every list of calls on a fresh state ..
-pub record ListCompanions (M : Machine) (T : Traits) (g : Given) (s : State) (cs : List Call) : Type 0 where
-  pub state-companions : StateCompanions M T g (modelOf (T .first g) (events M s cs)) (toldBy (events M s cs)) (tallyOf (events M s cs)) (afterAll M s cs)
+pub record ListCompanions (M : Machine) (T : Traits) (z : Given) (s : State) (cs : List Call) : Type 0 where
+  pub state-companions : StateCompanions M T z (modelOf (T .first z) (events M s cs)) (toldBy (events M s cs)) (tallyOf (events M s cs)) (afterAll M s cs)
   -- whole tables: the model's table always has 32 entries
-  pub tables : length (modelOf (T .first g) (events M s cs) .table) ≡ TABLE
+  pub tables : length (modelOf (T .first z) (events M s cs) .table) ≡ TABLE
 
 -- .. and in a kind with sections and grace periods.
-pub record GraceListCompanions (M : Machine) (T : GraceTraits) (g : Given) (s : State) (cs : List Call) : Type 0 where
-  pub every : ListCompanions M (T .every) g s cs
-  pub state-companions : GraceStateCompanions M T g (modelOf (T .every .first g) (events M s cs)) (toldBy (events M s cs)) (tallyOf (events M s cs)) (afterAll M s cs)
+pub record GraceListCompanions (M : Machine) (T : GraceTraits) (z : Given) (s : State) (cs : List Call) : Type 0 where
+  pub every : ListCompanions M (T .every) z s cs
+  pub state-companions : GraceStateCompanions M T z (modelOf (T .every .first z) (events M s cs)) (toldBy (events M s cs)) (tallyOf (events M s cs)) (afterAll M s cs)
   -- order: of a publisher's CLAIM, SWAP, SYNC, quiet, RAISE, return and RELEASE the last one before a return is a RAISE ..
-  pub returns-after : (pre post : List Event) (p b l w : ℕ) → events M s cs ≡ pre ++ (Walk p b ⇒ Walked (Returned l w)) ∷ post → tallyOf pre .phase p ≡ raised
+  pub returns-after : (pre post : List Event) (p b looks waits : ℕ) → events M s cs ≡ pre ++ (Walk p b ⇒ Walked (Returned looks waits)) ∷ post → tallyOf pre .phase p ≡ raised
   -- .. and the last one before an accepted RELEASE is a return
   pub releases-after : (pre post : List Event) (p : ℕ) (a : Reply) → events M s cs ≡ pre ++ (Release p ⇒ a) ∷ post → accepted a ≡ true → tallyOf pre .phase p ≡ returned
   -- counts: a return has looks = readers + waits (new) or 2 + waits (old); waits is how often p's WALK replied waiting since its SYNC
-  pub looks-are : (pre post : List Event) (p b l w : ℕ) → events M s cs ≡ pre ++ (Walk p b ⇒ Walked (Returned l w)) ∷ post → l ≡ T .passes g + w
-  pub waits-are : (pre post : List Event) (p b l w : ℕ) → events M s cs ≡ pre ++ (Walk p b ⇒ Walked (Returned l w)) ∷ post → w ≡ tallyOf pre .waits p
+  pub looks-are : (pre post : List Event) (p b looks waits : ℕ) → events M s cs ≡ pre ++ (Walk p b ⇒ Walked (Returned looks waits)) ∷ post → looks ≡ T .passes z + waits
+  pub waits-are : (pre post : List Event) (p b looks waits : ℕ) → events M s cs ≡ pre ++ (Walk p b ⇒ Walked (Returned looks waits)) ∷ post → waits ≡ tallyOf pre .waits p
 
 abbrev pub Companions : Machine → Traits → Type 0
 Companions M T = (s : State) (f : Fresh M s) (cs : List Call) → ListCompanions M T (f .arguments) s cs

@@ -38,7 +38,7 @@ change (currentTo n) s = state (withCurrent (s .words) n) (s .entries)
 change (versionTo n) s = state (withVersion (s .words) n) (s .entries)
 change (indicatorTo i n) s = state (withIndicator (s .words) i n) (s .entries)
 change (entriesTo n) s = state (s .words) (replicate n (pos 0))
-change (readerTo r x) s = state (withReader (s .words) r x) (s .entries)
+change (readerTo r reader) s = state (withReader (s .words) r reader) (s .entries)
 change (publisherTo p y) s = state (withPublisher (s .words) p y) (s .entries)
 
 abbrev pub changed : List Change → State → State
@@ -52,10 +52,10 @@ pub data Case : Type 0 where
 -- Cases as examples: of changes to one state, and to the fresh one.
 abbrev pub casesOn : Machine → State → List Case → List Example
 casesOn M s [] = []
-casesOn M s (on ds c a ∷ xs) = each M (changed ds s) (c ∷ []) (a ∷ []) ∷ casesOn M s xs
+casesOn M s (on ds c a ∷ rest) = each M (changed ds s) (c ∷ []) (a ∷ []) ∷ casesOn M s rest
 
 abbrev pub cases : Machine → List Case → List Example
-cases M xs = casesOn M (freshOf M small) xs
+cases M list = casesOn M (freshOf M small) list
 
 -- That fresh store, with its kind word, written out: the head, 64 readers, 16 publishers; and its entries. It is quicker to compute with.
 abbrev times : ℕ → List ℕ → List ℕ

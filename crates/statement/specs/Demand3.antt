@@ -28,19 +28,19 @@ pub record LeftIn (r : ℕ) (es : List Event) : Type 0 where
 -- Each slot is exactly one of current, free, or held by one publisher, and the store records it so;
 -- what each reader at place 5 picked is the slot told by the calls.
 pub record Slots (t : Told) (s : State) : Type 0 where
-  pub role : (x : ℕ) → (ρ : Role) × Has t x ρ × ((σ : Role) → Has t x σ → σ ≡ ρ)
+  pub role : (slot : ℕ) → (ρ : Role) × Has t slot ρ × ((σ : Role) → Has t slot σ → σ ≡ ρ)
   pub current : t .current ≡ some (currentSlot s)
-  pub held : (p x : ℕ) → heldSlot s p x ≡ holds t p x
+  pub held : (p slot : ℕ) → heldSlot s p slot ≡ holds t p slot
   pub picked : (r : ℕ) → pickedSlot s r ≡ t .picked r
 
 -- No slot that a reader picked in a section still open is free, nor any that a reader has picked and not yet dropped. A pick is dropped when its section is left.
 abbrev pub Picks : Told → Type 0
-Picks t = (r x : ℕ) → t .picked r ≡ some x → ¬ Has t x free
+Picks t = (r slot : ℕ) → t .picked r ≡ some slot → ¬ Has t slot free
 
 -- Each synchronise that returned did so after every section open at its call had been left.
 abbrev pub Returns : Machine → State → List Call → Type 0
-Returns M s cs = (pre mid post : List Event) (p b l w r : ℕ) (a : Reply)
-    → events M s cs ≡ pre ++ (Sync p ⇒ a) ∷ (mid ++ (Walk p b ⇒ Walked (Returned l w)) ∷ post) → accepted a ≡ true
+Returns M s cs = (pre mid post : List Event) (p b looks waits r : ℕ) (a : Reply)
+    → events M s cs ≡ pre ++ (Sync p ⇒ a) ∷ (mid ++ (Walk p b ⇒ Walked (Returned looks waits)) ∷ post) → accepted a ≡ true
     → toldBy pre .inside r ≡ true → LeftIn r mid
 
 -- What is due after the list cs of calls on the fresh state s, where `first` is the first table.
@@ -52,8 +52,8 @@ pub record Due (M : Machine) (first : List ℤ) (s : State) (cs : List Call) : T
   pub slots : Slots (toldBy (events M s cs)) (afterAll M s cs)
   pub picks : Picks (toldBy (events M s cs))
   -- By the calls alone: no accepted CLAIM is of a slot that a reader has picked and not yet dropped.
-  pub claims : (pre post : List Event) (p x r : ℕ) (a : Reply) → events M s cs ≡ pre ++ (Claim p x ⇒ a) ∷ post → accepted a ≡ true
-      → ¬ (toldBy pre .picked r ≡ some x)
+  pub claims : (pre post : List Event) (p slot r : ℕ) (a : Reply) → events M s cs ≡ pre ++ (Claim p slot ⇒ a) ∷ post → accepted a ≡ true
+      → ¬ (toldBy pre .picked r ≡ some slot)
 
 -- A store fresh from an accepted making, and any list of its calls, accepted and refused. The first table may depend on the making.
 abbrev pub Demand3 : Machine → (Given → List ℤ) → Type 0

@@ -17,7 +17,7 @@ use Rattle.statement.specs.Machine.{State, state, Given, given, Machine,
 
 -- What is lent to the making of an example: words of the right length and as many entries as asked, all 0.
 abbrev pub lentFor : Given → State
-lentFor g = state (replicate WORDS 0) (replicate (g .slots * TABLE) (pos 0))
+lentFor z = state (replicate WORDS 0) (replicate (z .slots * TABLE) (pos 0))
 
 -- The replies to calls.
 abbrev pub replies : Machine → State → List Call → List Reply
@@ -31,7 +31,7 @@ repliesAfter M ok s (d ∷ ds) cs = let o = M .step s d in repliesAfter M (ok &&
 
 -- The same from the making on, whose reply is the first.
 abbrev pub played : Machine → Given → List Call → List Call → List Reply
-played M g ds cs = let o = M .making g (lentFor g) in o .reply ∷ repliesAfter M true (o .after) ds cs
+played M z ds cs = let o = M .making z (lentFor z) in o .reply ∷ repliesAfter M true (o .after) ds cs
 
 -- The reply to each of some calls on one and the same state.
 abbrev pub answers : Machine → State → List Call → List Reply
@@ -47,31 +47,31 @@ pub data Example : Type 0 where
   each : Machine → State → List Call → List Reply → Example
 
 abbrev pub leadTo : Machine → Given → List Call → State
-leadTo M g ds = afterAll M (M .making g (lentFor g) .after) ds
+leadTo M z ds = afterAll M (M .making z (lentFor z) .after) ds
 
 abbrev pub Holds : Example → Type 0
-Holds (shows M g ds cs due) = played M g ds cs ≡ due
-Holds (unchanged M g ds c a) = (played M g ds (c ∷ []) ≡ Made ∷ a ∷ []) × (M .step (leadTo M g ds) c .after ≡ leadTo M g ds)
-Holds (makes M g s a) = M .making g s .reply ≡ a
+Holds (shows M z ds cs due) = played M z ds cs ≡ due
+Holds (unchanged M z ds c a) = (played M z ds (c ∷ []) ≡ Made ∷ a ∷ []) × (M .step (leadTo M z ds) c .after ≡ leadTo M z ds)
+Holds (makes M z s a) = M .making z s .reply ≡ a
 Holds (each M s cs due) = answers M s cs ≡ due
 
 abbrev pub AllHold : List Example → Type 0
 AllHold [] = Unit {0}
-AllHold (e ∷ es) = Holds e × AllHold es
+AllHold (example ∷ rest) = Holds example × AllHold rest
 
-pub all-hold-append : (es fs : List Example) → AllHold es → AllHold fs → AllHold (es ++ fs)
-all-hold-append [] fs a b = b
-all-hold-append (e ∷ es) fs a b = (a .0, all-hold-append es fs (a .1) b)
+pub all-hold-append : (first more : List Example) → AllHold first → AllHold more → AllHold (first ++ more)
+all-hold-append [] more f f′ = f′
+all-hold-append (example ∷ first) more f f′ = (f .0, all-hold-append first more (f .1) f′)
 
 -- n ENTERs of reader r; a whole table of v by publisher p into slot x; the same swapped in.
 abbrev pub enters : ℕ → ℕ → List Call
 enters n r = replicate n (Enter r)
 
 abbrev pub claimAndWrite : ℕ → ℕ → ℤ → List Call
-claimAndWrite p x v = Claim p x ∷ replicate TABLE (Write p v)
+claimAndWrite p slot v = Claim p slot ∷ replicate TABLE (Write p v)
 
 abbrev pub publication : ℕ → ℕ → ℤ → List Call
-publication p x v = claimAndWrite p x v ++ (Swap p ∷ [])
+publication p slot v = claimAndWrite p slot v ++ (Swap p ∷ [])
 
 -- A whole table of 32 different pitches by publisher p into slot x: v, v + 1 and so on.
 abbrev pub writesFrom : ℕ → ℕ → ℕ → List Call
@@ -79,7 +79,7 @@ writesFrom p v zero = []
 writesFrom p v (suc n) = Write p (pos v) ∷ writesFrom p (v + 1) n
 
 abbrev pub tableFrom : ℕ → ℕ → ℕ → List Call
-tableFrom p x v = Claim p x ∷ writesFrom p v TABLE
+tableFrom p slot v = Claim p slot ∷ writesFrom p v TABLE
 
 -- Examples that name no kind.
 -- P9: pitches -500, 9500 accepted; -501, 9501 get 14.

@@ -21,7 +21,7 @@ abbrev pub readerNamed : Call → Option ℕ
 readerNamed (Enter r) = some r
 readerNamed (Look r k) = some r
 readerNamed (Leave r) = some r
-readerNamed (Claim p s) = none
+readerNamed (Claim p slot) = none
 readerNamed (Write p v) = none
 readerNamed (Swap p) = none
 readerNamed (Sync p) = none
@@ -33,7 +33,7 @@ abbrev pub publisherNamed : Call → Option ℕ
 publisherNamed (Enter r) = none
 publisherNamed (Look r k) = none
 publisherNamed (Leave r) = none
-publisherNamed (Claim p s) = some p
+publisherNamed (Claim p slot) = some p
 publisherNamed (Write p v) = some p
 publisherNamed (Swap p) = some p
 publisherNamed (Sync p) = some p
@@ -44,31 +44,31 @@ publisherNamed (Release p) = some p
 -- The words of the head that a call may move: SWAP the current slot, RAISE the version, RELEASE the releases;
 -- ENTER and LEAVE an indicator, in a kind that does not publish readers' versions but counts readers there.
 abbrev pub headNamed : Bool → Call → ℕ → Bool
-headNamed publishes (Enter r) k = not publishes && ltb RELEASES-AT k
-headNamed publishes (Look r j) k = false
-headNamed publishes (Leave r) k = not publishes && ltb RELEASES-AT k
-headNamed publishes (Claim p x) k = false
-headNamed publishes (Write p v) k = false
-headNamed publishes (Swap p) k = eqb k CURRENT-AT
-headNamed publishes (Sync p) k = false
-headNamed publishes (Raise p) k = eqb k VERSION-AT
-headNamed publishes (Walk p b) k = false
-headNamed publishes (Release p) k = eqb k RELEASES-AT
+headNamed publishes (Enter r) i = not publishes && ltb RELEASES-AT i
+headNamed publishes (Look r k) i = false
+headNamed publishes (Leave r) i = not publishes && ltb RELEASES-AT i
+headNamed publishes (Claim p slot) i = false
+headNamed publishes (Write p v) i = false
+headNamed publishes (Swap p) i = eqb i CURRENT-AT
+headNamed publishes (Sync p) i = false
+headNamed publishes (Raise p) i = eqb i VERSION-AT
+headNamed publishes (Walk p b) i = false
+headNamed publishes (Release p) i = eqb i RELEASES-AT
 
 -- Of the head at most one word moved.
 abbrev pub One : List ℕ → List ℕ → Type 0
-One w w′ = (j : ℕ) × ((k : ℕ) → k < HEAD → k ≢ j → getD w′ k 0 ≡ getD w k 0)
+One w w′ = (j : ℕ) × ((i : ℕ) → i < HEAD → i ≢ j → getD w′ i 0 ≡ getD w i 0)
 
 -- Of a reader's numbers its place, which is its first word, and at most one more moved.
 abbrev pub PlaceAndOne : Reader → Reader → Type 0
-PlaceAndOne x x′ = (j : ℕ) × ((k : ℕ) → k ≢ 0 → k ≢ j → getD (readerWords x′) k 0 ≡ getD (readerWords x) k 0)
+PlaceAndOne reader reader′ = (j : ℕ) × ((i : ℕ) → i ≢ 0 → i ≢ j → getD (readerWords reader′) i 0 ≡ getD (readerWords reader) i 0)
 
 -- LEAVE, in a kind that publishes readers' versions or does not.
-pub record LeaveStays (publishes : Bool) (x x′ : Reader) : Type 0 where
-  pub first : x′ .first ≡ x .first
-  pub second : x′ .second ≡ x .second
-  pub published : publishes ≡ false → x′ .published ≡ x .published
-  pub picked : x′ .picked ≡ x .picked
+pub record LeaveStays (publishes : Bool) (reader reader′ : Reader) : Type 0 where
+  pub first : reader′ .first ≡ reader .first
+  pub second : reader′ .second ≡ reader .second
+  pub published : publishes ≡ false → reader′ .published ≡ reader .published
+  pub picked : reader′ .picked ≡ reader .picked
 
 -- A publisher of which only the place moved.
 pub record HeldAndWalkStay (y y′ : Publisher) : Type 0 where
@@ -82,7 +82,7 @@ abbrev pub OwnStays : Bool → Call → List ℕ → List ℕ → Type 0
 OwnStays publishes (Enter r) w w′ = PlaceAndOne (readerAt w r) (readerAt w′ r)
 OwnStays publishes (Look r k) w w′ = readerAt w′ r ≡ readerAt w r
 OwnStays publishes (Leave r) w w′ = LeaveStays publishes (readerAt w r) (readerAt w′ r)
-OwnStays publishes (Claim p x) w w′ = publisherAt w′ p .walk ≡ publisherAt w p .walk
+OwnStays publishes (Claim p slot) w w′ = publisherAt w′ p .walk ≡ publisherAt w p .walk
 OwnStays publishes (Write p v) w w′ = HeldAndWalkStay (publisherAt w p) (publisherAt w′ p)
 OwnStays publishes (Swap p) w w′ = publisherAt w′ p .walk ≡ publisherAt w p .walk
 OwnStays publishes (Sync p) w w′ = publisherAt w′ p .held ≡ publisherAt w p .held
@@ -96,7 +96,7 @@ pub record Framed (publishes : Bool) (c : Call) (w w′ : List ℕ) : Type 0 whe
   pub readers : (r : ℕ) → readerNamed c ≢ some r → readerAt w′ r ≡ readerAt w r
   pub publishers : (p : ℕ) → publisherNamed c ≢ some p → publisherAt w′ p ≡ publisherAt w p
   pub own-stays : OwnStays publishes c w w′
-  pub head : (k : ℕ) → k < HEAD → headNamed publishes c k ≡ false → getD w′ k 0 ≡ getD w k 0
+  pub head : (i : ℕ) → i < HEAD → headNamed publishes c i ≡ false → getD w′ i 0 ≡ getD w i 0
   pub one : One w w′
 
 -- The entry that a WRITE of publisher p stores: the next one of the slot held. Entry k of slot s is at s × 32 + k.

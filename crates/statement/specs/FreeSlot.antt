@@ -13,9 +13,9 @@ use Rattle.statement.specs.Machine.{State, Given, Machine, Fresh, events
 use Rattle.statement.specs.Alike.{Alike, fresh-alike, after-alike, events-alike}
 
 -- A slot of the store that is told free, and of which a CLAIM by publisher p is accepted.
-pub record FreeSlot (M : Machine) (g : Given) (t : Told) (s : State) (p : ℕ) : Type 0 where
+pub record FreeSlot (M : Machine) (z : Given) (t : Told) (s : State) (p : ℕ) : Type 0 where
   pub slot : ℕ
-  pub below : slot < g .slots
+  pub below : slot < z .slots
   pub is-free : Has t slot free
   pub claimed : M .step s (Claim p slot) .reply ≡ Claimed slot
 
@@ -26,10 +26,10 @@ FindsFreeSlot M = (s : State) (f : Fresh M s) (cs : List Call) → f .arguments 
     → FreeSlot M (f .arguments) (toldBy (events M s cs)) (afterAll M s cs) p
 
 pub finds-free-slot-alike : (M N : Machine) → Alike M N → FindsFreeSlot M → FindsFreeSlot N
-finds-free-slot-alike M N A d s f cs room p pn idle-now =
-    let x = d s (fresh-alike M N A s f) cs room p pn (rw (events-alike M N A s f cs) at idle-now) in record {
-      slot = x .slot;
-      below = x .below;
-      is-free = rw (events-alike M N A s f cs) (x .is-free);
-      claimed = rw (after-alike M N A s f cs, A .steps s (fresh-alike M N A s f) cs (Claim p (x .slot))) (x .claimed);
+finds-free-slot-alike M N like promise s f cs room p pn idle-now =
+    let found = promise s (fresh-alike M N like s f) cs room p pn (rw (events-alike M N like s f cs) at idle-now) in record {
+      slot = found .slot;
+      below = found .below;
+      is-free = rw (events-alike M N like s f cs) (found .is-free);
+      claimed = rw (after-alike M N like s f cs, like .steps s (fresh-alike M N like s f) cs (Claim p (found .slot))) (found .claimed);
     }

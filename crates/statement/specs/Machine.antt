@@ -10,6 +10,7 @@ use Rattle.base.specs.Base.{pick}
 use Rattle.calls.specs.declared.Call.{Call}
 use Rattle.calls.specs.declared.Reply.{Reply}
 use Rattle.calls.specs.declared.Reply.the-variants.{Made}
+use Rattle.calls.specs.Numbers.{PLACE-IDLE, PLACE-PICKED}
 use Rattle.calls.specs.Events.{Event}
 use Rattle.calls.specs.Events.Event.{_⇒_}
 use Rattle.layout.specs.Layout.{current, readerAt, publisherAt}
@@ -20,7 +21,7 @@ pub record State : Type 0 where
   pub entries : List ℤ
 
 abbrev pub state : List ℕ → List ℤ → State
-state w es = record { words = w; entries = es }
+state w entries = record { words = w; entries = entries }
 
 -- Each call takes the store and hands it back with a reply.
 pub record Outcome : Type 0 where
@@ -38,7 +39,7 @@ pub record Given : Type 0 where
   pub version : ℕ
 
 abbrev pub given : ℕ → ℕ → ℕ → ℕ → Given
-given rs ps ss v = record { readers = rs; publishers = ps; slots = ss; version = v }
+given readers publishers slots version = record { readers = readers; publishers = publishers; slots = slots; version = version }
 
 -- A kind gives its making and its step, and nothing else.
 pub record Machine : Type 0 where
@@ -67,7 +68,7 @@ abbrev pub currentSlot : State → ℕ
 currentSlot s = current (s .words)
 
 abbrev pub heldSlot : State → ℕ → ℕ → Bool
-heldSlot s p x = not (eqb (publisherAt (s .words) p .place) 0) && eqb (publisherAt (s .words) p .held) x
+heldSlot s p slot = not (eqb (publisherAt (s .words) p .place) PLACE-IDLE) && eqb (publisherAt (s .words) p .held) slot
 
 abbrev pub pickedSlot : State → ℕ → Option ℕ
-pickedSlot s r = pick (eqb (readerAt (s .words) r .place) 5) (some (readerAt (s .words) r .picked)) none
+pickedSlot s r = pick (eqb (readerAt (s .words) r .place) PLACE-PICKED) (some (readerAt (s .words) r .picked)) none

@@ -71,13 +71,13 @@ syncRows M last = shows M (given 1 1 2 last) (claimAndWrite 0 1 (pos 100)) (Sync
 
 -- States put together by hand: a fresh store, and what is changed in it.
 abbrev pub freshOf : Machine → Given → State
-freshOf M g = M .making g (lentFor g) .after
+freshOf M z = M .making z (lentFor z) .after
 
 abbrev pub withPublisherAs : State → ℕ → Publisher → State
 withPublisherAs s p y = state (withPublisher (s .words) p y) (s .entries)
 
 abbrev pub withCurrentAs : State → ℕ → State
-withCurrentAs s x = state (withCurrent (s .words) x) (s .entries)
+withCurrentAs s slot = state (withCurrent (s .words) slot) (s .entries)
 
 abbrev pub small : Given
 small = given 1 1 2 0
