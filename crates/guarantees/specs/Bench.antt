@@ -8,7 +8,7 @@ use mathlib.Core.List.{List, [], _∷_, _++_}
 use lib.Seq.{getD-set-other}
 use Rattle.calls.specs.Numbers.{KIND-NEW, KIND-OLD}
 use Rattle.layout.specs.declared.Publisher.{Publisher}
-use Rattle.layout.specs.Layout.{READERS-AT, PUBLISHERS-AT, SLOTS-AT, CURRENT-AT, VERSION-AT, INDICATORS-AT, kind}
+use Rattle.layout.specs.Layout.{READERS-AT, PUBLISHERS-AT, SLOTS-AT, CURRENT-AT, VERSION-AT, INDICATORS-AT, kind as kindWord}
 use Rattle.layout.specs.Laws.{head-reader, head-publisher, fresh-head}
 use Rattle.statement.specs.Machine.{State}
 use Rattle.statement.specs.Examples.{Example, AllHold, all-hold-append}
@@ -57,24 +57,24 @@ abbrev pub inOrder : List Example
 inOrder = allBy (store KIND-NEW) new-order.inOrder ++ allBy (store KIND-OLD) old-order.inOrder
 
 -- The kind word of a fresh store; a state put together from one by hand has it too, and so its kind's own steps.
-new-kind : kind (freshOf (storeOf new) small .words) ≡ kindNumber new
+new-kind : kindWord (freshOf (storeOf new) small .words) ≡ kindNumber new
 unfolding making
 new-kind = fresh-head KIND-NEW 1 1 2 0 _ 0 (omega arith)
 
-old-kind : kind (freshOf (storeOf old) small .words) ≡ kindNumber old
+old-kind : kindWord (freshOf (storeOf old) small .words) ≡ kindNumber old
 unfolding making
 old-kind = fresh-head KIND-OLD 1 1 2 0 _ 0 (omega arith)
 
-one-claimed-kind : kind (old-order.oneClaimed .words) ≡ kindNumber old
+one-claimed-kind : kindWord (old-order.oneClaimed .words) ≡ kindNumber old
 unfolding making
 one-claimed-kind = head-publisher _ 0 (old-order.claimed 1) 0 (omega arith) ∙ fresh-head KIND-OLD 1 3 4 0 _ 0 (omega arith)
 
-module _ (k : Kind) (s : State) (e : kind (s .words) ≡ kindNumber k) where
-  put-publisher : (p : ℕ) (y : Publisher) → SameAt (storeOf k) (store (kindNumber k)) (withPublisherAs s p y)
-  put-publisher p y c = step-named k (withPublisherAs s p y) c (head-publisher (s .words) p y 0 (omega arith) ∙ e)
+module _ (kind : Kind) (s : State) (e : kindWord (s .words) ≡ kindNumber kind) where
+  put-publisher : (p : ℕ) (y : Publisher) → SameAt (storeOf kind) (store (kindNumber kind)) (withPublisherAs s p y)
+  put-publisher p y c = step-named kind (withPublisherAs s p y) c (head-publisher (s .words) p y 0 (omega arith) ∙ e)
 
-  put-current : (x : ℕ) → SameAt (storeOf k) (store (kindNumber k)) (withCurrentAs s x)
-  put-current x c = step-named k (withCurrentAs s x) c (getD-set-other (s .words) CURRENT-AT 0 x 0 (λ z. omega arith) ∙ e)
+  put-current : (slot : ℕ) → SameAt (storeOf kind) (store (kindNumber kind)) (withCurrentAs s slot)
+  put-current slot c = step-named kind (withCurrentAs s slot) c (getD-set-other (s .words) CURRENT-AT 0 slot 0 (λ same. omega arith) ∙ e)
 
 new-in-order : AllCarry (storeOf new) (store KIND-NEW) new-order.inOrder
 unfolding new-order.inOrder
@@ -98,24 +98,24 @@ abbrev pub clauses : List Example
 clauses = allBy (store KIND-NEW) (cases (storeOf new) new-cases.clauses) ++ allBy (store KIND-OLD) (cases (storeOf old) old-cases.clauses)
 
 -- No change by hand is one of the kind word.
-change-kind : (d : Change) (s : State) → kind (change d s .words) ≡ kind (s .words)
-change-kind (readersTo n) s = getD-set-other (s .words) READERS-AT 0 n 0 (λ z. omega arith)
-change-kind (publishersTo n) s = getD-set-other (s .words) PUBLISHERS-AT 0 n 0 (λ z. omega arith)
-change-kind (slotsTo n) s = getD-set-other (s .words) SLOTS-AT 0 n 0 (λ z. omega arith)
-change-kind (currentTo n) s = getD-set-other (s .words) CURRENT-AT 0 n 0 (λ z. omega arith)
-change-kind (versionTo n) s = getD-set-other (s .words) VERSION-AT 0 n 0 (λ z. omega arith)
-change-kind (indicatorTo i n) s = getD-set-other (s .words) (INDICATORS-AT + i) 0 n 0 (λ z. omega arith)
+change-kind : (d : Change) (s : State) → kindWord (change d s .words) ≡ kindWord (s .words)
+change-kind (readersTo n) s = getD-set-other (s .words) READERS-AT 0 n 0 (λ same. omega arith)
+change-kind (publishersTo n) s = getD-set-other (s .words) PUBLISHERS-AT 0 n 0 (λ same. omega arith)
+change-kind (slotsTo n) s = getD-set-other (s .words) SLOTS-AT 0 n 0 (λ same. omega arith)
+change-kind (currentTo n) s = getD-set-other (s .words) CURRENT-AT 0 n 0 (λ same. omega arith)
+change-kind (versionTo n) s = getD-set-other (s .words) VERSION-AT 0 n 0 (λ same. omega arith)
+change-kind (indicatorTo i n) s = getD-set-other (s .words) (INDICATORS-AT + i) 0 n 0 (λ same. omega arith)
 change-kind (entriesTo n) s = refl
-change-kind (readerTo r x) s = head-reader (s .words) r x 0 (omega arith)
+change-kind (readerTo r reader) s = head-reader (s .words) r reader 0 (omega arith)
 change-kind (publisherTo p y) s = head-publisher (s .words) p y 0 (omega arith)
 
-changed-kind : (ds : List Change) (s : State) → kind (changed ds s .words) ≡ kind (s .words)
+changed-kind : (ds : List Change) (s : State) → kindWord (changed ds s .words) ≡ kindWord (s .words)
 changed-kind [] s = refl
 changed-kind (d ∷ ds) s = changed-kind ds (change d s) ∙ change-kind d s
 
-cases-carry : (k : Kind) (s : State) → kind (s .words) ≡ kindNumber k → (xs : List Case) → AllCarry (storeOf k) (store (kindNumber k)) (casesOn (storeOf k) s xs)
-cases-carry k s e [] = tt
-cases-carry k s e (on ds c a ∷ xs) = ((refl, λ d. step-named k (changed ds s) d (changed-kind ds s ∙ e)), cases-carry k s e xs)
+cases-carry : (kind : Kind) (s : State) → kindWord (s .words) ≡ kindNumber kind → (rest : List Case) → AllCarry (storeOf kind) (store (kindNumber kind)) (casesOn (storeOf kind) s rest)
+cases-carry kind s e [] = tt
+cases-carry kind s e (on ds c a ∷ rest) = ((refl, λ call. step-named kind (changed ds s) call (changed-kind ds s ∙ e)), cases-carry kind s e rest)
 
 pub damage-cases : AllHold clauses
 damage-cases = all-hold-append (allBy (store KIND-NEW) (cases (storeOf new) new-cases.clauses)) (allBy (store KIND-OLD) (cases (storeOf old) old-cases.clauses))

@@ -35,61 +35,61 @@ use Rattle.kinds_law.specs.Calls.{number-own, step-named, making-named, making-
 
 -- A kind by itself.
 abbrev pub storeOf : Kind → Machine
-storeOf k = machine (tableOf k)
+storeOf kind = machine (tableOf kind)
 
 abbrev pub traits : Kind → GraceTraits
 traits new = new-traits.traits
 traits old = old-traits.traits
 
-pub kind-promises : (k : Kind) → Promises (tableOf k) (traits k)
+pub kind-promises : (kind : Kind) → Promises (tableOf kind) (traits kind)
 kind-promises new = new-store.new-promises
 kind-promises old = old-store.old-promises
 
-pub kind-demand3 : (k : Kind) → Demand3 (storeOf k) (λ z. firstTable)
+pub kind-demand3 : (kind : Kind) → Demand3 (storeOf kind) (λ z. firstTable)
 kind-demand3 new = new-store.new-demand3
 kind-demand3 old = old-store.old-demand3
 
 -- The store of a kind's number is alike.
-pub alike : (k : Kind) → Alike (storeOf k) (store (kindNumber k))
-alike k = record {
-  makings = λ g s. making-named k g s;
-  steps = λ s f cs c. step-named k (afterAll (storeOf k) s cs) c (undamaged-facts (tableOf k) (afterAll (storeOf k) s cs) (kind-promises k .never-damaged s f cs) .head .kind-is ∙ number-own k);
+pub alike : (kind : Kind) → Alike (storeOf kind) (store (kindNumber kind))
+alike kind = record {
+  makings = λ z s. making-named kind z s;
+  steps = λ s f cs c. step-named kind (afterAll (storeOf kind) s cs) c (undamaged-facts (tableOf kind) (afterAll (storeOf kind) s cs) (kind-promises kind .never-damaged s f cs) .head .kind-is ∙ number-own kind);
 }
 
 -- A number that names no kind has no fresh store.
-no-store : (n : ℕ) → ((g : Given) (s : State) → accepted (store n .making g s .reply) ≡ false) → (s : State) → Fresh (store n) s → ⊥
+no-store : (n : ℕ) → ((z : Given) (s : State) → accepted (store n .making z s .reply) ≡ false) → (s : State) → Fresh (store n) s → ⊥
 no-store n e s f = clash (sym (ap (λ (o : Outcome). accepted (o .reply)) (f .made)) ∙ e (f .arguments) (f .lent))
 
 -- What holds of the store of each kind's number, and of a number with no fresh store, holds of every number.
-pub by-number : (Q : ℕ → Type 0) → ((k : Kind) → Q (kindNumber k)) → ((n : ℕ) → ((s : State) → Fresh (store n) s → ⊥) → Q n) → (n : ℕ) → Q n
-by-number Q f g n = go (eqb n KIND-NEW) (eqb n KIND-OLD) refl refl
+pub by-number : (Q : ℕ → Type 0) → ((kind : Kind) → Q (kindNumber kind)) → ((n : ℕ) → ((s : State) → Fresh (store n) s → ⊥) → Q n) → (n : ℕ) → Q n
+by-number Q each otherwise n = go (eqb n KIND-NEW) (eqb n KIND-OLD) refl refl
   where
-    go : (a b : Bool) → eqb n KIND-NEW ≡ a → eqb n KIND-OLD ≡ b → Q n
-    go true b d e = subst Q (sym (eqb-true n KIND-NEW d)) (f new)
-    go false true d e = subst Q (sym (eqb-true n KIND-OLD e)) (f old)
-    go false false d e = g n (no-store n (λ z s. ap (λ (o : Outcome). accepted (o .reply)) (sym (making-unknown n z s (eqb-false n KIND-NEW d) (eqb-false n KIND-OLD e)))))
+    go : (is-new is-old : Bool) → eqb n KIND-NEW ≡ is-new → eqb n KIND-OLD ≡ is-old → Q n
+    go true is-old d e = subst Q (sym (eqb-true n KIND-NEW d)) (each new)
+    go false true d e = subst Q (sym (eqb-true n KIND-OLD e)) (each old)
+    go false false d e = otherwise n (no-store n (λ z s. ap (λ (o : Outcome). accepted (o .reply)) (sym (making-unknown n z s (eqb-false n KIND-NEW d) (eqb-false n KIND-OLD e)))))
 
 -- What holds of every state: of each kind's own step and making, and of words of no kind, where all is refused.
 abbrev pub Chosen : Option Kind → Machine
-Chosen o = record { making = makingOf o; step = stepOf o }
+Chosen chosen = record { making = makingOf chosen; step = stepOf chosen }
 
-pub chosen-leaves : (o : Option Kind) (s : State) (c : Call) (n : ℕ) → stepOf o s c .reply ≡ Refused n → stepOf o s c .after ≡ s
+pub chosen-leaves : (chosen : Option Kind) (s : State) (c : Call) (n : ℕ) → stepOf chosen s c .reply ≡ Refused n → stepOf chosen s c .after ≡ s
 chosen-leaves none s c n e = refl
-chosen-leaves (some k) s c n e = kind-promises k .refused-leaves .step s c n e
+chosen-leaves (some kind) s c n e = kind-promises kind .refused-leaves .step s c n e
 
 -- Whether readers publish versions; words of no kind have none.
 abbrev pub publishesOf : Option Kind → Bool
 publishesOf none = false
-publishesOf (some k) = traits k .publishes
+publishesOf (some kind) = traits kind .publishes
 
-pub chosen-frame : (o : Option Kind) → Frame (λ s. publishesOf o) (Chosen o)
+pub chosen-frame : (chosen : Option Kind) → Frame (λ s. publishesOf chosen) (Chosen chosen)
 chosen-frame none = record { words = λ s c. same-framed false c (s .words); entries = λ s c ne. refl; writes = λ s p v. record { stored = λ ok. clash (sym ok); others = λ j ne. refl; long = refl } }
-chosen-frame (some k) = kind-promises k .frame
+chosen-frame (some kind) = kind-promises kind .frame
 
-pub chosen-representable : (o : Option Kind) (s : State) (c : Call) → ((j : ℕ) → NarrowPitch (getD (s .entries) j (pos 0))) → Representable (stepOf o s c .reply)
+pub chosen-representable : (chosen : Option Kind) (s : State) (c : Call) → ((j : ℕ) → NarrowPitch (getD (s .entries) j (pos 0))) → Representable (stepOf chosen s c .reply)
 chosen-representable none s c h = omega arith
-chosen-representable (some k) s c h = kind-promises k .representable s c h
+chosen-representable (some kind) s c h = kind-promises kind .representable s c h
 
-pub chosen-representable-making : (o : Option Kind) (g : Given) (s : State) → Representable (makingOf o g s .reply)
-chosen-representable-making none g s = omega arith
-chosen-representable-making (some k) g s = kind-promises k .representable-making g s
+pub chosen-representable-making : (chosen : Option Kind) (z : Given) (s : State) → Representable (makingOf chosen z s .reply)
+chosen-representable-making none z s = omega arith
+chosen-representable-making (some kind) z s = kind-promises kind .representable-making z s

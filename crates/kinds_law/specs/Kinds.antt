@@ -7,7 +7,7 @@ use Rattle.base.specs.Base.{pick}
 use Rattle.calls.specs.declared.Call.{Call}
 use Rattle.calls.specs.declared.Reply.the-variants.{Refused}
 use Rattle.calls.specs.Numbers.{KIND-NEW, KIND-OLD, DAMAGED}
-use Rattle.layout.specs.Layout.{kind}
+use Rattle.layout.specs.Layout.{kind as kindWord}
 use Rattle.statement.specs.Machine.{State, Outcome, outcome, Given, Machine}
 use Rattle.publication_law.specs.Table.{Table, step, making}
 use Rattle.grace_version_law.specs.Steps as new-store
@@ -35,25 +35,25 @@ kindOfNumber n = pick (eqb n KIND-NEW) (some new) (pick (eqb n KIND-OLD) (some o
 -- A call is its kind's own step; words of no kind are damaged, and every call on them gets 1.
 abbrev pub stepOf : Option Kind → State → Call → Outcome
 stepOf none s c = outcome (Refused DAMAGED) s
-stepOf (some k) s c = step (tableOf k) s c
+stepOf (some kind) s c = step (tableOf kind) s c
 
 -- Each call takes the words, whatever kind they are, and hands them back with a reply.
 unfoldable pub anyStep : State → Call → Outcome
-anyStep s c = stepOf (kindOfNumber (kind (s .words))) s c
+anyStep s c = stepOf (kindOfNumber (kindWord (s .words))) s c
 
 -- Whether the words' kind lacks a call. Words of no kind lack none: each gets 1.
 abbrev pub lackedBy : Option Kind → Call → Bool
 lackedBy none c = false
-lackedBy (some k) c = tableOf k .lacks c
+lackedBy (some kind) c = tableOf kind .lacks c
 
 -- Making is its kind's own; a number that no kind has gets 1 before all else, and words and entries stay as lent.
 abbrev pub makingOf : Option Kind → Given → State → Outcome
-makingOf none g s = outcome (Refused DAMAGED) s
-makingOf (some k) g s = making (tableOf k) g s
+makingOf none z s = outcome (Refused DAMAGED) s
+makingOf (some kind) z s = making (tableOf kind) z s
 
 -- Making a store of the kind with this number.
 unfoldable pub anyMaking : ℕ → Given → State → Outcome
-anyMaking n g s = makingOf (kindOfNumber n) g s
+anyMaking n z s = makingOf (kindOfNumber n) z s
 
 -- What an executive has: a store made of the kind with this number, and calls that are told the kind by the kind word alone.
 abbrev pub store : ℕ → Machine

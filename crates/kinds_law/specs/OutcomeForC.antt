@@ -5,9 +5,9 @@ use Rattle.calls.specs.declared.Reply.{Reply}
 use Rattle.calls.specs.ReplyNumbers.{numbersOf}
 use Rattle.statement.specs.Machine.{State, Outcome, outcome}
 
-pub record OutcomeForC (a : ReplyNumbers) (s : State) (o : Outcome) : Type 0 where
-  pub numbers-are : a ≡ numbersOf (o .reply)
+pub record OutcomeForC (numbers : ReplyNumbers) (s : State) (o : Outcome) : Type 0 where
+  pub numbers-are : numbers ≡ numbersOf (o .reply)
   pub after-is : s ≡ o .after
 
-pub outcome-for-c : (a : ReplyNumbers) (r : Reply) (s : State) (o : Outcome) → a ≡ numbersOf r → outcome r s ≡ o → OutcomeForC a s o
-outcome-for-c a r s o e f = record { numbers-are = e ∙ ap (λ (x : Outcome). numbersOf (x .reply)) f; after-is = ap (λ (x : Outcome). x .after) f }
+pub outcome-for-c : (numbers : ReplyNumbers) (a : Reply) (s : State) (o : Outcome) → numbers ≡ numbersOf a → outcome a s ≡ o → OutcomeForC numbers s o
+outcome-for-c numbers a s o e f = record { numbers-are = e ∙ ap (λ (o′ : Outcome). numbersOf (o′ .reply)) f; after-is = ap (λ (o′ : Outcome). o′ .after) f }
