@@ -10,6 +10,7 @@ use Rattle.calls.specs.declared.Call.{Call}
 use Rattle.calls.specs.declared.Call.the-variants.{Enter, Look, Sync, Raise, Walk}
 use Rattle.calls.specs.declared.Reply.{Reply}
 use Rattle.calls.specs.declared.Reply.the-variants.{Made, At, Pitch, Left, Claimed, Written, Swapped, Synced, Raised, Shared, Walked, Freed, Refused}
+use Rattle.calls.specs.Numbers.{PLACE-PUBLISHED, PLACE-OPEN}
 use Rattle.calls.specs.Events.{Event}
 use Rattle.calls.specs.Events.Event.{_⇒_}
 use Rattle.calls.specs.Model.{firstTable}
@@ -36,17 +37,17 @@ start = making rules small (lentFor small) .after
 -- A LOOK that always says 9000.
 feathered : Reply → Reply
 feathered Made = Made
-feathered (At n) = At n
+feathered (At place) = At place
 feathered (Pitch v) = Pitch (pos 9000)
 feathered Left = Left
-feathered (Claimed s) = Claimed s
+feathered (Claimed slot) = Claimed slot
 feathered (Written n) = Written n
-feathered (Swapped s) = Swapped s
-feathered (Synced m) = Synced m
+feathered (Swapped slot) = Swapped slot
+feathered (Synced mark) = Synced mark
 feathered Raised = Raised
 feathered Shared = Shared
-feathered (Walked o) = Walked o
-feathered (Freed s n) = Freed s n
+feathered (Walked walked) = Walked walked
+feathered (Freed slot n) = Freed slot n
 feathered (Refused n) = Refused n
 
 pub AlwaysFeathered : Machine
@@ -54,21 +55,21 @@ unfolding feathered
 AlwaysFeathered = record { making = making rules; step = λ s c. outcome (feathered (step rules s c .reply)) (step rules s c .after) }
 
 other-pitch : (v : ℤ) → Pitch (pos 9000) ≡ Pitch v → some (pos 100) ≡ some v → ⊥
-other-pitch v e q = let z : _≡_ {A = ℕ} 9000 100 = cc in omega arith
+other-pitch v e q = let same : _≡_ {A = ℕ} 9000 100 = cc in omega arith
 
 pub always-9000-refuted : Demand3 AlwaysFeathered (λ z. firstTable) → ⊥
 unfolding AlwaysFeathered start small readerAt publisherAt withReader withPublisher withReaders fresh anyBelow damaged onward looksFrom step making
-always-9000-refuted d =
+always-9000-refuted promise =
     let cs : List Call = publication 0 1 (pos 100) ++ enters 5 0 in
-    let x = d start (record { arguments = small; lent = lentFor small; made = refl }) (cs ++ (Look 0 7 ∷ [])) .looks (events AlwaysFeathered start cs) [] 0 7 (Pitch (pos 9000)) refl refl in
-    other-pitch (x .0) (x .1) (x .2)
+    let shown = promise start (record { arguments = small; lent = lentFor small; made = refl }) (cs ++ (Look 0 7 ∷ [])) .looks (events AlwaysFeathered start cs) [] 0 7 (Pitch (pos 9000)) refl refl in
+    other-pitch (shown .0) (shown .1) (shown .2)
 
 -- A walk that passes every reader: it tests against 0 in place of its mark.
 passesAllRules : Rules
 passesAllRules = varied fixed (fixed .exclusive) (λ s p b.
-    let k = publisher s p .walk in
-    let q = looksFrom (s .words) (readers (s .words)) 0 (k .waits) b (k .next) (k .looks) in
-    walkResult (k .mark) (q .walk .next) (q .walk .looks) (q .walk .waits) (q .reply))
+    let walk = publisher s p .walk in
+    let result = looksFrom (s .words) (readers (s .words)) 0 (walk .waits) b (walk .next) (walk .looks) in
+    walkResult (walk .mark) (result .walk .next) (result .walk .looks) (result .walk .waits) (result .reply))
 
 pub PassesAll : Machine
 unfolding passesAllRules
@@ -76,21 +77,21 @@ PassesAll = machine (tableBy passesAllRules)
 
 pub passes-all-refuted : Demand3 PassesAll (λ z. firstTable) → ⊥
 unfolding PassesAll passesAllRules start small someLeave readerAt publisherAt withReader withPublisher withReaders fresh anyBelow damaged onward looksFrom step making
-passes-all-refuted d =
+passes-all-refuted promise =
     let cs : List Call = enters 5 0 ++ publication 0 1 (pos 100) in
     let mid : List Event = (Raise 0 ⇒ Raised) ∷ [] in
     not-left 0 mid refl
-    (d start (record { arguments = small; lent = lentFor small; made = refl }) (cs ++ (Sync 0 ∷ Raise 0 ∷ Walk 0 9 ∷ [])) .returns (events PassesAll start cs) mid [] 0 9 1 0 0 (Synced 1) refl refl refl)
+    (promise start (record { arguments = small; lent = lentFor small; made = refl }) (cs ++ (Sync 0 ∷ Raise 0 ∷ Walk 0 9 ∷ [])) .returns (events PassesAll start cs) mid [] 0 9 1 0 0 (Synced 1) refl refl refl)
 
 -- Counting a section as open from its first publishing, the ENTER that replies 2: P4's run breaks it for the new store.
-pub early-sections-refuted : ReturnsFrom 2 GraceVersion → ⊥
+pub early-sections-refuted : ReturnsFrom PLACE-PUBLISHED GraceVersion → ⊥
 unfolding start small someLeave readerAt publisherAt withReader withPublisher withReaders fresh anyBelow damaged onward looksFrom step making
-early-sections-refuted d =
+early-sections-refuted promise =
     let cs : List Call = enters 2 0 ++ publication 0 1 (pos 100) in
     let mid : List Event = (Raise 0 ⇒ Raised) ∷ (Enter 0 ⇒ At 3) ∷ (Enter 0 ⇒ At 4) ∷ [] in
     not-left 0 mid refl
-    (d start (record { arguments = small; lent = lentFor small; made = refl }) (cs ++ (Sync 0 ∷ Raise 0 ∷ Enter 0 ∷ Enter 0 ∷ Walk 0 1 ∷ [])) (events GraceVersion start cs) mid [] 0 1 1 0 0 (Synced 1) refl refl refl)
+    (promise start (record { arguments = small; lent = lentFor small; made = refl }) (cs ++ (Sync 0 ∷ Raise 0 ∷ Enter 0 ∷ Enter 0 ∷ Walk 0 1 ∷ [])) (events GraceVersion start cs) mid [] 0 1 1 0 0 (Synced 1) refl refl refl)
 
 -- From the ENTER that replies 4 it holds: that is demand 3's own word.
-pub sections-from-4 : ReturnsFrom 4 GraceVersion
+pub sections-from-4 : ReturnsFrom PLACE-OPEN GraceVersion
 sections-from-4 = returns-from-4 GraceVersion (λ z. firstTable) new-demand3

@@ -6,6 +6,7 @@ use mathlib.Core.List.{List, [], _∷_, _++_}
 use Rattle.base.specs.Rows.{anyBelow, countBelow}
 use Rattle.calls.specs.declared.Call.the-variants.{Claim}
 use Rattle.calls.specs.declared.Reply.the-variants.{Made, Claimed, Refused}
+use Rattle.calls.specs.Numbers.{PLACE-CLAIMED}
 use Rattle.layout.specs.declared.Publisher.{Publisher}
 use Rattle.layout.specs.Layout.{indicator, readerAt, publisherAt, withReader, withPublisher, withReaders, noPublisher, fresh}
 use Rattle.layout.specs.Records.{_atPlace_, _held≔_}
@@ -20,9 +21,9 @@ use Rattle.two_phase_law.specs.Steps.{rules, TwoPhase, onward, lookAt}
 abbrev pub busyRows : Example
 busyRows = shows TwoPhase (given 1 2 3 0) [] (Claim 1 0 ∷ Claim 0 1 ∷ Claim 1 0 ∷ []) (Made ∷ Refused 30 ∷ Claimed 1 ∷ Refused 31 ∷ [])
 
--- A publisher that has claimed slot x.
+-- A publisher that has claimed this slot.
 abbrev pub claimed : ℕ → Publisher
-claimed x = noPublisher atPlace 1 held≔ x
+claimed slot = noPublisher atPlace PLACE-CLAIMED held≔ slot
 
 -- An old store of 3 publishers and 4 slots, put together by hand since 31 keeps calls from leading there: publishers 0 and 1 have both claimed.
 -- It is not damaged.

@@ -12,6 +12,7 @@ use Rattle.calls.specs.declared.Call.{Call}
 use Rattle.calls.specs.declared.Call.the-variants.{Enter, Look, Leave, Claim, Write, Swap, Sync, Raise, Walk, Release}
 use Rattle.calls.specs.declared.Reply.the-variants.{Synced, Raised, Walked}
 use Rattle.calls.specs.declared.WalkReply.the-variants.{Spent, Returned}
+use Rattle.calls.specs.Numbers.{PLACE-SYNCHRONISING, PLACE-RAISED}
 use Rattle.calls.specs.Events.{Event}
 use Rattle.calls.specs.Events.Event.{_⇒_}
 use Rattle.calls.specs.Model.{firstTable}
@@ -35,7 +36,7 @@ several = varied fixed false (fixed .looks)
 -- Line 21: while the first indicator is not empty, a walk whose version has become its mark breaks off the first wait; the second one follows.
 breaksOff : State → ℕ → Bool
 unfolding several
-breaksOff s p = not (damaged (tableBy several) s) && (ltb p (publishers (s .words)) && (eqb (publisher s p .place) 35
+breaksOff s p = not (damaged (tableBy several) s) && (ltb p (publishers (s .words)) && (eqb (publisher s p .place) PLACE-SYNCHRONISING
     && (not (eqb (indicator (s .words) (watched (publisher s p))) 0) && eqb (version (s .words)) (publisher s p .walk .mark))))
 
 publishedStep : State → Call → Outcome
@@ -43,12 +44,12 @@ unfolding several breaksOff
 publishedStep s (Enter r) = step (tableBy several) s (Enter r)
 publishedStep s (Look r k) = step (tableBy several) s (Look r k)
 publishedStep s (Leave r) = step (tableBy several) s (Leave r)
-publishedStep s (Claim p x) = step (tableBy several) s (Claim p x)
+publishedStep s (Claim p slot) = step (tableBy several) s (Claim p slot)
 publishedStep s (Write p v) = step (tableBy several) s (Write p v)
 publishedStep s (Swap p) = step (tableBy several) s (Swap p)
 publishedStep s (Sync p) = step (tableBy several) s (Sync p)
 publishedStep s (Raise p) = step (tableBy several) s (Raise p)
-publishedStep s (Walk p b) = pick (breaksOff s p) (outcome (Walked Spent) (putPublisher s p (publisher s p atPlace 37))) (step (tableBy several) s (Walk p b))
+publishedStep s (Walk p b) = pick (breaksOff s p) (outcome (Walked Spent) (putPublisher s p (publisher s p atPlace PLACE-RAISED))) (step (tableBy several) s (Walk p b))
 publishedStep s (Release p) = step (tableBy several) s (Release p)
 
 pub Published : Machine
@@ -92,8 +93,8 @@ start-fresh = record { arguments = small; lent = lentFor small; made = refl }
 -- .. and nobody leaves before U returns.
 pub published-refuted : Demand3 Published (λ z. firstTable) → ⊥
 unfolding someLeave trapped
-published-refuted d =
+published-refuted promise =
     let mid : List Event = (Raise 0 ⇒ Raised) ∷ (Walk 1 1 ⇒ Walked Spent) ∷ [] in
     not-left 0 mid refl
-    (d start start-fresh (before ++ trap) .returns (events Published start before) mid [] 1 1 1 0 0 (Synced 2)
+    (promise start start-fresh (before ++ trap) .returns (events Published start before) mid [] 1 1 1 0 0 (Synced 2)
     (events-append Published start before trap ∙ ap (λ (es : List Event). events Published start before ++ es) trap-events) refl reader-inside)
