@@ -27,7 +27,7 @@ use Rattle.sheet_law.specs.Decimals.{plain-decimal, decimal-up-to-space,
 
 -- The text of a kind and of a pitch.
 abbrev pub kindText : ℕ → List ℕ
-kindText k = pick (eqb k KIND-NEW) (text "new") (text "old")
+kindText kind = pick (eqb kind KIND-NEW) (text "new") (text "old")
 
 abbrev pub angleText : ℤ → List ℕ
 angleText (pos n) = decimal n
@@ -38,7 +38,7 @@ abbrev pub callText : Call → List ℕ
 callText (call.Enter r) = withOne (text "enter ") r
 callText (call.Look r k) = withTwo (text "look ") r k
 callText (call.Leave r) = withOne (text "leave ") r
-callText (call.Claim p s) = withTwo (text "claim ") p s
+callText (call.Claim p slot) = withTwo (text "claim ") p slot
 callText (call.Write p v) = withOne (text "write ") p ++ (text " " ++ angleText v)
 callText (call.Swap p) = withOne (text "swap ") p
 callText (call.Sync p) = withOne (text "sync ") p
@@ -47,14 +47,14 @@ callText (call.Walk p b) = withTwo (text "walk ") p b
 callText (call.Release p) = withOne (text "release ") p
 
 abbrev pub storeText : ℕ → ℕ → ℕ → ℕ → ℕ → List ℕ
-storeText k rs ps ss v = kindText k ++ (text " " ++ (decimal rs ++ (text " " ++ (decimal ps ++ (text " " ++ (decimal ss ++ (text " " ++ decimal v)))))))
+storeText kind rs ps ss version = kindText kind ++ (text " " ++ (decimal rs ++ (text " " ++ (decimal ps ++ (text " " ++ (decimal ss ++ (text " " ++ decimal version)))))))
 
 abbrev pub innerText : Command → List ℕ
-innerText (Make k rs ps ss v) = text "store " ++ storeText k rs ps ss v
+innerText (Make kind rs ps ss version) = text "store " ++ storeText kind rs ps ss version
 innerText (Run c) = callText c
 
 abbrev pub inBrackets : List ℕ → List ℕ
-inBrackets w = text "(" ++ (w ++ text ")")
+inBrackets l = text "(" ++ (l ++ text ")")
 
 abbrev pub commandText : Command → List ℕ
 commandText c = inBrackets (innerText c)
@@ -74,7 +74,7 @@ abbrev pub FitsCall : Call → Type 0
 FitsCall (call.Enter r) = FitsNarrow r
 FitsCall (call.Look r k) = FitsNarrow r × FitsNarrow k
 FitsCall (call.Leave r) = FitsNarrow r
-FitsCall (call.Claim p s) = FitsNarrow p × FitsNarrow s
+FitsCall (call.Claim p slot) = FitsNarrow p × FitsNarrow slot
 FitsCall (call.Write p v) = FitsNarrow p × FitsAngle v
 FitsCall (call.Swap p) = FitsNarrow p
 FitsCall (call.Sync p) = FitsNarrow p
@@ -83,20 +83,20 @@ FitsCall (call.Walk p b) = FitsNarrow p × FitsNarrow b
 FitsCall (call.Release p) = FitsNarrow p
 
 abbrev pub Fits : Command → Type 0
-Fits (Make k rs ps ss v) = ((k ≡ KIND-NEW) ⊎ (k ≡ KIND-OLD)) × FitsNarrow rs × FitsNarrow ps × FitsNarrow ss × FitsWide v
+Fits (Make kind rs ps ss version) = ((kind ≡ KIND-NEW) ⊎ (kind ≡ KIND-OLD)) × FitsNarrow rs × FitsNarrow ps × FitsNarrow ss × FitsWide version
 Fits (Run c) = FitsCall c
 
 -- A bracketed text is read as what stands between the brackets.
-bracketed-read : (w : List ℕ) → length w + 2 ≤ LINE-MAX → lineOf (inBrackets w) ≡ command (keyword (upToSpace w)) (afterSpace w)
+bracketed-read : (part : List ℕ) → length part + 2 ≤ LINE-MAX → lineOf (inBrackets part) ≡ command (keyword (upToSpace part)) (afterSpace part)
 unfolding lineOf
-bracketed-read w short =
-    let l : List ℕ = inBrackets w in
-    let long : length (w ++ text ")") ≡ length w + 1 = length-append w (text ")") in
+bracketed-read part short =
+    let l : List ℕ = inBrackets part in
+    let long : length (part ++ text ")") ≡ length part + 1 = length-append part (text ")") in
     rw (
       le-ltb LINE-MAX (length l) (omega arith),
       lt-ltb 1 (length l) (omega arith),
-      getD-at (text "(" ++ w) CLOSE [] 0 (length l - 1) (omega arith),
-      take-at w (text ")") (length l - 2) (omega arith),
+      getD-at (text "(" ++ part) CLOSE [] 0 (length l - 1) (omega arith),
+      take-at part (text ")") (length l - 2) (omega arith),
     ) refl
 
 -- Arguments are read back.
@@ -106,16 +106,16 @@ narrow-back n fits = rw (plain-decimal n, le-ltb NARROW-MAX n (omega arith)) ref
 wide-back : (n : ℕ) → FitsWide n → wide (decimal n) ≡ Decimal n
 wide-back n fits = rw (plain-decimal n, le-ltb NUMBER-MAX n (omega arith)) refl
 
-kind-back : (k : ℕ) → (k ≡ KIND-NEW) ⊎ (k ≡ KIND-OLD) → (l : List ℕ) → (kindNamed (upToSpace (kindText k ++ (SPACE ∷ l))) ≡ Decimal k) × (afterSpace (kindText k ++ (SPACE ∷ l)) ≡ l)
+kind-back : (kind : ℕ) → (kind ≡ KIND-NEW) ⊎ (kind ≡ KIND-OLD) → (l : List ℕ) → (kindNamed (upToSpace (kindText kind ++ (SPACE ∷ l))) ≡ Decimal kind) × (afterSpace (kindText kind ++ (SPACE ∷ l)) ≡ l)
 unfolding upToSpace afterSpace namedIn
-kind-back k (inl e) l = rw e (refl, refl)
-kind-back k (inr e) l = rw e (refl, refl)
+kind-back kind (inl e) l = rw e (refl, refl)
+kind-back kind (inr e) l = rw e (refl, refl)
 
 -- A pitch is a decimal that may have a minus before it, either within its width.
 angle-signed : (l : List ℕ) → angle l ≡ signed (within PITCH-HALF) (within (PITCH-HALF - 1)) l
 unfolding angle
 angle-signed [] = refl
-angle-signed (b ∷ l) = refl
+angle-signed (byte ∷ l) = refl
 
 angle-back : (v : ℤ) → FitsAngle v → angle (angleText v) ≡ Hundredths v
 unfolding angle
@@ -137,7 +137,7 @@ unfolding upToSpace afterSpace namedIn
 call-back (call.Enter r) f = one-back call.Enter r f
 call-back (call.Look r k) (f, g) = two-back call.Look r k f g
 call-back (call.Leave r) f = one-back call.Leave r f
-call-back (call.Claim p s) (f, g) = two-back call.Claim p s f g
+call-back (call.Claim p slot) (f, g) = two-back call.Claim p slot f g
 call-back (call.Write p v) (f, g) = pitched-back call.Write p v f g
 call-back (call.Swap p) f = one-back call.Swap p f
 call-back (call.Sync p) f = one-back call.Sync p f
@@ -145,30 +145,30 @@ call-back (call.Raise p) f = one-back call.Raise p f
 call-back (call.Walk p b) (f, g) = two-back call.Walk p b f g
 call-back (call.Release p) f = one-back call.Release p f
 
-store-back : (k rs ps ss v : ℕ) → Fits (Make k rs ps ss v) → storeLine (storeText k rs ps ss v) ≡ Read (Make k rs ps ss v)
-store-back k rs ps ss v (fk, fr, fp, fs, fv) =
-    let d : List ℕ = decimal v in
-    let c : List ℕ = decimal ss ++ (SPACE ∷ d) in
-    let b : List ℕ = decimal ps ++ (SPACE ∷ c) in
-    let a : List ℕ = decimal rs ++ (SPACE ∷ b) in
+store-back : (kind rs ps ss version : ℕ) → Fits (Make kind rs ps ss version) → storeLine (storeText kind rs ps ss version) ≡ Read (Make kind rs ps ss version)
+store-back kind rs ps ss version (fk, fr, fp, fs, fv) =
+    let after-slots : List ℕ = decimal version in
+    let after-publishers : List ℕ = decimal ss ++ (SPACE ∷ after-slots) in
+    let after-readers : List ℕ = decimal ps ++ (SPACE ∷ after-publishers) in
+    let after-kind : List ℕ = decimal rs ++ (SPACE ∷ after-readers) in
     rw (
-      kind-back k fk a .0,
-      kind-back k fk a .1,
-      decimal-up-to-space rs b,
-      decimal-after-space rs b,
-      decimal-up-to-space ps c,
-      decimal-after-space ps c,
-      decimal-up-to-space ss d,
-      decimal-after-space ss d,
+      kind-back kind fk after-kind .0,
+      kind-back kind fk after-kind .1,
+      decimal-up-to-space rs after-readers,
+      decimal-after-space rs after-readers,
+      decimal-up-to-space ps after-publishers,
+      decimal-after-space ps after-publishers,
+      decimal-up-to-space ss after-slots,
+      decimal-after-space ss after-slots,
       narrow-back rs fr,
       narrow-back ps fp,
       narrow-back ss fs,
-      wide-back v fv,
+      wide-back version fv,
     ) refl
 
 inner-back : (c : Command) → Fits c → command (keyword (upToSpace (innerText c))) (afterSpace (innerText c)) ≡ Read c
 unfolding upToSpace afterSpace namedIn
-inner-back (Make k rs ps ss v) f = store-back k rs ps ss v f
+inner-back (Make kind rs ps ss version) f = store-back kind rs ps ss version f
 inner-back (Run c) f = call-back c f
 
 -- A command's text is at most 50 bytes.
@@ -183,20 +183,20 @@ angle-length : (v : ℤ) → FitsAngle v → length (angleText v) ≤ 21
 angle-length (pos n) fits = let d = wide-length n (omega arith) in omega arith
 angle-length (negsuc n) fits = let d = wide-length (suc n) (omega arith) in omega arith
 
-kind-length : (k : ℕ) → length (kindText k) ≤ 3
-kind-length k = pick-split (λ x. length x ≤ 3) (eqb k KIND-NEW) (λ _. omega arith) (λ _. omega arith)
+kind-length : (kind : ℕ) → length (kindText kind) ≤ 3
+kind-length kind = pick-split (λ x. length x ≤ 3) (eqb kind KIND-NEW) (λ _. omega arith) (λ _. omega arith)
 
-spaced-length : (m n : ℕ) (a b : List ℕ) → length a ≤ m → length b ≤ n → length (a ++ (SPACE ∷ b)) ≤ m + 1 + n
-spaced-length m n a b la lb = omega (arith, length-append a (SPACE ∷ b))
+spaced-length : (m n : ℕ) (l l′ : List ℕ) → length l ≤ m → length l′ ≤ n → length (l ++ (SPACE ∷ l′)) ≤ m + 1 + n
+spaced-length m n l l′ le le′ = omega (arith, length-append l (SPACE ∷ l′))
 
 pair-length : (n m : ℕ) → FitsNarrow n → FitsNarrow m → length (decimal n ++ (SPACE ∷ decimal m)) ≤ 11
-pair-length n m a b = spaced-length 5 5 (decimal n) (decimal m) (narrow-length n a) (narrow-length m b)
+pair-length n m f g = spaced-length 5 5 (decimal n) (decimal m) (narrow-length n f) (narrow-length m g)
 
 call-length : (c : Call) → FitsCall c → length (callText c) ≤ 48
 call-length (call.Enter r) f = omega (arith, narrow-length r f)
 call-length (call.Look r k) (f, g) = omega (arith, pair-length r k f g)
 call-length (call.Leave r) f = omega (arith, narrow-length r f)
-call-length (call.Claim p s) (f, g) = omega (arith, pair-length p s f g)
+call-length (call.Claim p slot) (f, g) = omega (arith, pair-length p slot f g)
 call-length (call.Write p v) (f, g) = omega (arith, spaced-length 5 21 (decimal p) (angleText v) (narrow-length p f) (angle-length v g))
 call-length (call.Swap p) f = omega (arith, narrow-length p f)
 call-length (call.Sync p) f = omega (arith, narrow-length p f)
@@ -204,18 +204,18 @@ call-length (call.Raise p) f = omega (arith, narrow-length p f)
 call-length (call.Walk p b) (f, g) = omega (arith, pair-length p b f g)
 call-length (call.Release p) f = omega (arith, narrow-length p f)
 
-store-length : (k rs ps ss v : ℕ) → Fits (Make k rs ps ss v) → length (storeText k rs ps ss v) ≤ 42
-store-length k rs ps ss v (fk, fr, fp, fs, fv) =
-    let c : List ℕ = decimal ss ++ (SPACE ∷ decimal v) in
-    let b : List ℕ = decimal ps ++ (SPACE ∷ c) in
-    let a : List ℕ = decimal rs ++ (SPACE ∷ b) in
-    let lc = spaced-length 5 20 (decimal ss) (decimal v) (narrow-length ss fs) (wide-length v fv) in
-    let lb = spaced-length 5 26 (decimal ps) c (narrow-length ps fp) lc in
-    let la = spaced-length 5 32 (decimal rs) b (narrow-length rs fr) lb in
-    spaced-length 3 38 (kindText k) a (kind-length k) la
+store-length : (kind rs ps ss version : ℕ) → Fits (Make kind rs ps ss version) → length (storeText kind rs ps ss version) ≤ 42
+store-length kind rs ps ss version (fk, fr, fp, fs, fv) =
+    let after-publishers : List ℕ = decimal ss ++ (SPACE ∷ decimal version) in
+    let after-readers : List ℕ = decimal ps ++ (SPACE ∷ after-publishers) in
+    let after-kind : List ℕ = decimal rs ++ (SPACE ∷ after-readers) in
+    let le-publishers = spaced-length 5 20 (decimal ss) (decimal version) (narrow-length ss fs) (wide-length version fv) in
+    let le-readers = spaced-length 5 26 (decimal ps) after-publishers (narrow-length ps fp) le-publishers in
+    let le-kind = spaced-length 5 32 (decimal rs) after-readers (narrow-length rs fr) le-readers in
+    spaced-length 3 38 (kindText kind) after-kind (kind-length kind) le-kind
 
 inner-length : (c : Command) → Fits c → length (innerText c) ≤ 48
-inner-length (Make k rs ps ss v) f = omega (arith, store-length k rs ps ss v f)
+inner-length (Make kind rs ps ss version) f = omega (arith, store-length kind rs ps ss version f)
 inner-length (Run c) f = call-length c f
 
 pub text-length : (c : Command) → Fits c → length (commandText c) ≤ 50

@@ -34,9 +34,9 @@ one-or-more Q f n l one more = pick-split Q (eqb (n / 10) 0) (λ e. one (eqb-tru
 
 -- Fuel above the number is enough, whatever it is.
 fuel : (f g n : ℕ) (l : List ℕ) → n < f → n < g → digitsBefore f n l ≡ digitsBefore g n l
-fuel zero g n l a b = absurd (omega arith)
-fuel (suc f) zero n l a b = absurd (omega arith)
-fuel (suc f) (suc g) n l a b = one-or-more (λ k. k ≡ digitsBefore (suc g) n l) f n l
+fuel zero g n l lt lt′ = absurd (omega arith)
+fuel (suc f) zero n l lt lt′ = absurd (omega arith)
+fuel (suc f) (suc g) n l lt lt′ = one-or-more (λ k. k ≡ digitsBefore (suc g) n l) f n l
     (λ e. sym (spell-one g n l e))
     (λ e. fuel f g (n / 10) (lastDigit n ∷ l) (omega arith) (omega arith) ∙ sym (spell-more g n l e))
 
@@ -55,8 +55,8 @@ last-read : (m n : ℕ) (l : List ℕ) → m ≡ n / 10 → digits m (lastDigit 
 last-read m n l e = digit-read m (lastDigit n) l (omega arith) (omega arith) ∙ ap (λ k. digits k l) (omega arith)
 
 digits-before : (f n : ℕ) (l : List ℕ) → n < f → digits 0 (digitsBefore f n l) ≡ digits n l
-digits-before zero n l a = absurd (omega arith)
-digits-before (suc f) n l a = one-or-more (λ k. digits 0 k ≡ digits n l) f n l
+digits-before zero n l lt = absurd (omega arith)
+digits-before (suc f) n l lt = one-or-more (λ k. digits 0 k ≡ digits n l) f n l
     (λ e. last-read 0 n l (sym e))
     (λ e. digits-before f (n / 10) (lastDigit n ∷ l) (omega arith) ∙ last-read (n / 10) n l refl)
 
@@ -71,8 +71,8 @@ plain-digits b [] ne = refl
 plain-digits b (c ∷ l) ne = rw (ne-eqb b DIGIT-0 ne) refl
 
 plain-before : (f n : ℕ) (l : List ℕ) → n < f → n ≢ 0 → plain (digitsBefore f n l) ≡ digits 0 (digitsBefore f n l)
-plain-before zero n l a ne = absurd (omega arith)
-plain-before (suc f) n l a ne = one-or-more (λ k. plain k ≡ digits 0 k) f n l
+plain-before zero n l lt ne = absurd (omega arith)
+plain-before (suc f) n l lt ne = one-or-more (λ k. plain k ≡ digits 0 k) f n l
     (λ e. plain-digits (lastDigit n) l (λ z. omega arith))
     (λ e. plain-before f (n / 10) (lastDigit n ∷ l) (omega arith) e)
 
@@ -157,7 +157,7 @@ digit-is : (m b n : ℕ) (l : List ℕ) → digits m (b ∷ l) ≡ Decimal n →
 unfolding digits
 digit-is m b n l = pick-split (λ x. x ≡ Decimal n → (DIGIT-0 ≤ b) × (b ≤ DIGIT-9) × (digits (m * 10 + (b - DIGIT-0)) l ≡ Decimal n)) (outside DIGIT-0 DIGIT-9 b)
     (λ _ e. absurd (no-decimal n e))
-    (λ o e. let w = within DIGIT-0 DIGIT-9 b o in (w .0, w .1, e))
+    (λ d e. let q = within DIGIT-0 DIGIT-9 b d in (q .0, q .1, e))
 
 digits-only : (l : List ℕ) (m n : ℕ) → m ≢ 0 → digits m l ≡ Decimal n → decimal n ≡ decimal m ++ l
 unfolding digits
@@ -182,8 +182,8 @@ plain-only (b ∷ c ∷ l) n e = pick-split (λ x. x ≡ Decimal n → decimal n
 
 -- A number below 10 ^ f has at most f digits.
 before-length : (f n : ℕ) (l : List ℕ) → n < 10 ^ f → n ≢ 0 → length (digitsBefore (suc n) n l) ≤ f + length l
-before-length zero n l a ne = absurd (omega arith)
-before-length (suc f) n l a ne = go (n / 10) refl (before-length f (n / 10) (lastDigit n ∷ l))
+before-length zero n l lt ne = absurd (omega arith)
+before-length (suc f) n l lt ne = go (n / 10) refl (before-length f (n / 10) (lastDigit n ∷ l))
   where
     go : (t : ℕ) → n / 10 ≡ t → (n / 10 < 10 ^ f → n / 10 ≢ 0 → length (digitsBefore (suc (n / 10)) (n / 10) (lastDigit n ∷ l)) ≤ f + length (lastDigit n ∷ l)) → length (digitsBefore (suc n) n l) ≤ suc f + length l
     go zero e rec = rw (spell-last n l e) (omega arith)
@@ -191,5 +191,5 @@ before-length (suc f) n l a ne = go (n / 10) refl (before-length f (n / 10) (las
 
 pub decimal-length : (f n : ℕ) → n < 10 ^ f → 1 ≤ f → length (decimal n) ≤ f
 unfolding decimal digitsBefore
-decimal-length f zero a some = some
-decimal-length f (suc n) a some = let r = before-length f (suc n) [] a (λ z. omega arith) in omega arith
+decimal-length f zero lt some = some
+decimal-length f (suc n) lt some = let r = before-length f (suc n) [] lt (λ z. omega arith) in omega arith

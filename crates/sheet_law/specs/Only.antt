@@ -31,25 +31,25 @@ use Rattle.sheet_law.specs.Decimals.{plain-decimal, plain-only}
 use Rattle.sheet_law.specs.Canonical.{kindText, angleText, innerText, inBrackets, commandText, FitsNarrow, FitsWide, FitsAngle, Fits, text-length, reads-back}
 
 -- Two texts that are found the same are.
-same-only : (l k : List ℕ) → same l k ≡ true → l ≡ k
+same-only : (l l′ : List ℕ) → same l l′ ≡ true → l ≡ l′
 same-only [] [] e = refl
-same-only [] (b ∷ k) e = clash (sym e)
+same-only [] (b ∷ l′) e = clash (sym e)
 same-only (a ∷ l) [] e = clash (sym e)
-same-only (a ∷ l) (b ∷ k) e = let q = and-true (eqb a b) (same l k) e in ap₂ _∷_ (eqb-true a b (q .0)) (same-only l k (q .1))
+same-only (a ∷ l) (b ∷ l′) e = let q = and-true (eqb a b) (same l l′) e in ap₂ _∷_ (eqb-true a b (q .0)) (same-only l l′ (q .1))
 
 -- To show something of what a text names, it is shown for each row whose text it is, and for none.
 abbrev pub EachRow : {A : Type 0} → (A → Type 0) → A → List ℕ → List (Row A) → Type 0
-EachRow Q none w [] = Q none
-EachRow Q none w ((t names x) ∷ rows) = (text t ≡ w → Q x) × EachRow Q none w rows
+EachRow Q none word [] = Q none
+EachRow Q none word ((name names x) ∷ rows) = (text name ≡ word → Q x) × EachRow Q none word rows
 
 infixr 10 _else_
 pub _else_ : {A B : Type 0} → A → B → A × B
 a else b = (a, b)
 
-pub named-only : {A : Type 0} (Q : A → Type 0) (none : A) (w : List ℕ) (rows : List (Row A)) → EachRow Q none w rows → Q (namedIn rows none w)
+pub named-only : {A : Type 0} (Q : A → Type 0) (none : A) (word : List ℕ) (rows : List (Row A)) → EachRow Q none word rows → Q (namedIn rows none word)
 unfolding namedIn
-named-only Q none w [] h = h
-named-only Q none w ((t names x) ∷ rows) h = pick-split Q (same w (text t)) (λ e. h .0 (sym (same-only w (text t) e))) (λ _. named-only Q none w rows (h .1))
+named-only Q none word [] h = h
+named-only Q none word ((name names x) ∷ rows) h = pick-split Q (same word (text name)) (λ e. h .0 (sym (same-only word (text name) e))) (λ _. named-only Q none word rows (h .1))
 
 -- What a number that is read tells of its text.
 within-only : (most : ℕ) (l : List ℕ) (n : ℕ) → within most (plain l) ≡ Decimal n → (decimal n ≡ l) × (n ≤ most)
@@ -67,7 +67,7 @@ module _ (Q : Line → Type 0) (bad : Q Unread) where
   wide-only : (l : List ℕ) (f : ℕ → Line) → ((n : ℕ) → decimal n ≡ l → FitsWide n → Q (f n)) → Q (ifNumber (wide l) f)
   wide-only l f h = given-only (wide l) f (λ n e. let q = within-only NUMBER-MAX l n e in h n (q .0) (omega arith))
 
-  kind-only : (l : List ℕ) (f : ℕ → Line) → ((k : ℕ) → kindText k ≡ l → (k ≡ KIND-NEW) ⊎ (k ≡ KIND-OLD) → Q (f k)) → Q (ifNumber (kindNamed l) f)
+  kind-only : (l : List ℕ) (f : ℕ → Line) → ((kind : ℕ) → kindText kind ≡ l → (kind ≡ KIND-NEW) ⊎ (kind ≡ KIND-OLD) → Q (f kind)) → Q (ifNumber (kindNamed l) f)
   kind-only l f h = named-only (λ x. Q (ifNumber x f)) NoNumber l kinds ((λ e. h KIND-NEW e (inl refl)) else (λ e. h KIND-OLD e (inr refl)) else bad)
 
   negative-only : (x : Number) (f : ℤ → Line) → ((n : ℕ) → x ≡ Decimal (suc n) → Q (f (negsuc n))) → Q (ifAngle (negative x) f)
@@ -95,22 +95,22 @@ space-or-none (b ∷ l) = go (eqb b SPACE) refl (space-or-none l)
     go : (x : Bool) → eqb b SPACE ≡ x → (afterSpace l ≡ []) ⊎ (upToSpace l ++ (SPACE ∷ afterSpace l) ≡ l) → (afterSpace (b ∷ l) ≡ []) ⊎ (upToSpace (b ∷ l) ++ (SPACE ∷ afterSpace (b ∷ l)) ≡ b ∷ l)
     go true t r = rw t (inr (ap (λ c. c ∷ l) (sym (eqb-true b SPACE t))))
     go false t (inl e) = rw t (inl e)
-    go false t (inr e) = rw t (inr (ap (λ k. b ∷ k) e))
+    go false t (inr e) = rw t (inr (ap (λ rest. b ∷ rest) e))
 
-rejoined : (a b l : List ℕ) → a ≡ upToSpace l → b ≡ afterSpace l → b ≢ [] → a ++ (SPACE ∷ b) ≡ l
-rejoined a b l ea eb ne = go (space-or-none l)
+rejoined : (before after l : List ℕ) → before ≡ upToSpace l → after ≡ afterSpace l → after ≢ [] → before ++ (SPACE ∷ after) ≡ l
+rejoined before after l e d ne = go (space-or-none l)
   where
-    go : (afterSpace l ≡ []) ⊎ (upToSpace l ++ (SPACE ∷ afterSpace l) ≡ l) → a ++ (SPACE ∷ b) ≡ l
-    go (inl z) = absurd (ne (eb ∙ z))
-    go (inr z) = rw (ea, eb) z
+    go : (afterSpace l ≡ []) ⊎ (upToSpace l ++ (SPACE ∷ afterSpace l) ≡ l) → before ++ (SPACE ∷ after) ≡ l
+    go (inl z) = absurd (ne (d ∙ z))
+    go (inr z) = rw (e, d) z
 
 -- No argument is the empty text.
 cons-some : (b : ℕ) (l : List ℕ) → b ∷ l ≢ []
 cons-some b l e = let z : _≡_ {A = ℕ} 0 1 = cc in omega arith
 
-spaced-some : (a b : List ℕ) → a ++ (SPACE ∷ b) ≢ []
-spaced-some [] b = cons-some SPACE b
-spaced-some (c ∷ a) b = cons-some c (a ++ (SPACE ∷ b))
+spaced-some : (l l′ : List ℕ) → l ++ (SPACE ∷ l′) ≢ []
+spaced-some [] l′ = cons-some SPACE l′
+spaced-some (b ∷ l) l′ = cons-some b (l ++ (SPACE ∷ l′))
 
 decimal-some : (n : ℕ) → decimal n ≢ []
 unfolding plain
@@ -122,47 +122,47 @@ angle-some (negsuc n) = cons-some MINUS (decimal (suc n))
 
 -- Between the brackets: unread, or the command's own text.
 abbrev Inner : List ℕ → Line → Type 0
-Inner w Unread = Unit {0}
-Inner w (Read c) = (innerText c ≡ w) × Fits c
+Inner part Unread = Unit {0}
+Inner part (Read c) = (innerText c ≡ part) × Fits c
 
-module _ (w : List ℕ) where
+module _ (part : List ℕ) where
   -- A word with one number behind it, with two, and with a number and a pitch.
-  one-only : (v : List ℕ) → v ≡ upToSpace w → (build : ℕ → Call) → ((n : ℕ) → v ++ (SPACE ∷ decimal n) ≡ w → FitsNarrow n → Inner w (Read (Run (build n)))) → Inner w (one (afterSpace w) build)
-  one-only v e build h = narrow-only (Inner w) tt (afterSpace w) _ (λ n d fits. h n (rejoined v (decimal n) w e d (decimal-some n)) fits)
+  one-only : (word : List ℕ) → word ≡ upToSpace part → (build : ℕ → Call) → ((n : ℕ) → word ++ (SPACE ∷ decimal n) ≡ part → FitsNarrow n → Inner part (Read (Run (build n)))) → Inner part (one (afterSpace part) build)
+  one-only word e build h = narrow-only (Inner part) tt (afterSpace part) _ (λ n d fits. h n (rejoined word (decimal n) part e d (decimal-some n)) fits)
 
-  two-only : (v : List ℕ) → v ≡ upToSpace w → (build : ℕ → ℕ → Call)
-      → ((n m : ℕ) → v ++ (SPACE ∷ (decimal n ++ (SPACE ∷ decimal m))) ≡ w → FitsNarrow n → FitsNarrow m → Inner w (Read (Run (build n m)))) → Inner w (two (afterSpace w) build)
-  two-only v e build h = narrow-only (Inner w) tt (upToSpace (afterSpace w)) _ (λ n en fn. narrow-only (Inner w) tt (afterSpace (afterSpace w)) _ (λ m em fm.
-      h n m (rejoined v (decimal n ++ (SPACE ∷ decimal m)) w e (rejoined (decimal n) (decimal m) (afterSpace w) en em (decimal-some m)) (spaced-some (decimal n) (decimal m))) fn fm))
+  two-only : (word : List ℕ) → word ≡ upToSpace part → (build : ℕ → ℕ → Call)
+      → ((n m : ℕ) → word ++ (SPACE ∷ (decimal n ++ (SPACE ∷ decimal m))) ≡ part → FitsNarrow n → FitsNarrow m → Inner part (Read (Run (build n m)))) → Inner part (two (afterSpace part) build)
+  two-only word e build h = narrow-only (Inner part) tt (upToSpace (afterSpace part)) _ (λ n en fn. narrow-only (Inner part) tt (afterSpace (afterSpace part)) _ (λ m em fm.
+      h n m (rejoined word (decimal n ++ (SPACE ∷ decimal m)) part e (rejoined (decimal n) (decimal m) (afterSpace part) en em (decimal-some m)) (spaced-some (decimal n) (decimal m))) fn fm))
 
-  pitched-only : (v : List ℕ) → v ≡ upToSpace w → (build : ℕ → ℤ → Call)
-      → ((n : ℕ) (a : ℤ) → v ++ (SPACE ∷ (decimal n ++ (SPACE ∷ angleText a))) ≡ w → FitsNarrow n → FitsAngle a → Inner w (Read (Run (build n a)))) → Inner w (pitched (afterSpace w) build)
-  pitched-only v e build h = narrow-only (Inner w) tt (upToSpace (afterSpace w)) _ (λ n en fn. angle-only (Inner w) tt (afterSpace (afterSpace w)) _ (λ a ea fa.
-      h n a (rejoined v (decimal n ++ (SPACE ∷ angleText a)) w e (rejoined (decimal n) (angleText a) (afterSpace w) en ea (angle-some a)) (spaced-some (decimal n) (angleText a))) fn fa))
+  pitched-only : (word : List ℕ) → word ≡ upToSpace part → (build : ℕ → ℤ → Call)
+      → ((n : ℕ) (v : ℤ) → word ++ (SPACE ∷ (decimal n ++ (SPACE ∷ angleText v))) ≡ part → FitsNarrow n → FitsAngle v → Inner part (Read (Run (build n v)))) → Inner part (pitched (afterSpace part) build)
+  pitched-only word e build h = narrow-only (Inner part) tt (upToSpace (afterSpace part)) _ (λ n en fn. angle-only (Inner part) tt (afterSpace (afterSpace part)) _ (λ v ev fv.
+      h n v (rejoined word (decimal n ++ (SPACE ∷ angleText v)) part e (rejoined (decimal n) (angleText v) (afterSpace part) en ev (angle-some v)) (spaced-some (decimal n) (angleText v))) fn fv))
 
-  store-text : (k rs ps ss v : ℕ) → text "store" ≡ upToSpace w → kindText k ≡ upToSpace (afterSpace w) → decimal rs ≡ upToSpace (afterSpace (afterSpace w)) → decimal ps ≡ upToSpace (afterSpace (afterSpace (afterSpace w)))
-      → decimal ss ≡ upToSpace (afterSpace (afterSpace (afterSpace (afterSpace w)))) → decimal v ≡ afterSpace (afterSpace (afterSpace (afterSpace (afterSpace w)))) → innerText (Make k rs ps ss v) ≡ w
-  store-text k rs ps ss v e ek er ep es ev =
-      let l : List ℕ = afterSpace w in
-      let c : List ℕ = decimal ss ++ (SPACE ∷ decimal v) in
-      let b : List ℕ = decimal ps ++ (SPACE ∷ c) in
-      let a : List ℕ = decimal rs ++ (SPACE ∷ b) in
-      let ec = rejoined (decimal ss) (decimal v) (afterSpace (afterSpace (afterSpace l))) es ev (decimal-some v) in
-      let eb = rejoined (decimal ps) c (afterSpace (afterSpace l)) ep ec (spaced-some (decimal ss) (decimal v)) in
-      let ea = rejoined (decimal rs) b (afterSpace l) er eb (spaced-some (decimal ps) c) in
-      rejoined (text "store") (kindText k ++ (SPACE ∷ a)) w e (rejoined (kindText k) a l ek ea (spaced-some (decimal rs) b)) (spaced-some (kindText k) a)
+  store-text : (kind rs ps ss version : ℕ) → text "store" ≡ upToSpace part → kindText kind ≡ upToSpace (afterSpace part) → decimal rs ≡ upToSpace (afterSpace (afterSpace part)) → decimal ps ≡ upToSpace (afterSpace (afterSpace (afterSpace part)))
+      → decimal ss ≡ upToSpace (afterSpace (afterSpace (afterSpace (afterSpace part)))) → decimal version ≡ afterSpace (afterSpace (afterSpace (afterSpace (afterSpace part)))) → innerText (Make kind rs ps ss version) ≡ part
+  store-text kind rs ps ss version e ek er ep es ev =
+      let l : List ℕ = afterSpace part in
+      let after-publishers : List ℕ = decimal ss ++ (SPACE ∷ decimal version) in
+      let after-readers : List ℕ = decimal ps ++ (SPACE ∷ after-publishers) in
+      let after-kind : List ℕ = decimal rs ++ (SPACE ∷ after-readers) in
+      let e-publishers = rejoined (decimal ss) (decimal version) (afterSpace (afterSpace (afterSpace l))) es ev (decimal-some version) in
+      let e-readers = rejoined (decimal ps) after-publishers (afterSpace (afterSpace l)) ep e-publishers (spaced-some (decimal ss) (decimal version)) in
+      let e-kind = rejoined (decimal rs) after-readers (afterSpace l) er e-readers (spaced-some (decimal ps) after-publishers) in
+      rejoined (text "store") (kindText kind ++ (SPACE ∷ after-kind)) part e (rejoined (kindText kind) after-kind l ek e-kind (spaced-some (decimal rs) after-readers)) (spaced-some (kindText kind) after-kind)
 
-  store-only : text "store" ≡ upToSpace w → Inner w (storeLine (afterSpace w))
+  store-only : text "store" ≡ upToSpace part → Inner part (storeLine (afterSpace part))
   store-only e =
-      kind-only (Inner w) tt (upToSpace (afterSpace w)) _ (λ k ek fk.
-      narrow-only (Inner w) tt (upToSpace (afterSpace (afterSpace w))) _ (λ rs er fr.
-      narrow-only (Inner w) tt (upToSpace (afterSpace (afterSpace (afterSpace w)))) _ (λ ps ep fp.
-      narrow-only (Inner w) tt (upToSpace (afterSpace (afterSpace (afterSpace (afterSpace w))))) _ (λ ss es fs.
-      wide-only (Inner w) tt (afterSpace (afterSpace (afterSpace (afterSpace (afterSpace w))))) (λ v. Read (Make k rs ps ss v)) (λ v ev fv.
-      (store-text k rs ps ss v e ek er ep es ev, (fk, fr, fp, fs, fv)))))))
+      kind-only (Inner part) tt (upToSpace (afterSpace part)) _ (λ kind ek fk.
+      narrow-only (Inner part) tt (upToSpace (afterSpace (afterSpace part))) _ (λ rs er fr.
+      narrow-only (Inner part) tt (upToSpace (afterSpace (afterSpace (afterSpace part)))) _ (λ ps ep fp.
+      narrow-only (Inner part) tt (upToSpace (afterSpace (afterSpace (afterSpace (afterSpace part))))) _ (λ ss es fs.
+      wide-only (Inner part) tt (afterSpace (afterSpace (afterSpace (afterSpace (afterSpace part))))) (λ version. Read (Make kind rs ps ss version)) (λ version ev fv.
+      (store-text kind rs ps ss version e ek er ep es ev, (fk, fr, fp, fs, fv)))))))
 
-  command-only : Inner w (command (keyword (upToSpace w)) (afterSpace w))
-  command-only = named-only (λ x. Inner w (command x (afterSpace w))) Unknown (upToSpace w) keywords
+  command-only : Inner part (command (keyword (upToSpace part)) (afterSpace part))
+  command-only = named-only (λ x. Inner part (command x (afterSpace part))) Unknown (upToSpace part) keywords
       (store-only
       else (λ e. one-only _ e call.Enter (λ n d f. (d, f)))
       else (λ e. two-only _ e call.Look (λ n m d f g. (d, (f, g))))
@@ -179,35 +179,35 @@ module _ (w : List ℕ) where
 -- A line in brackets is what stands between them, in brackets.
 in-brackets : (l : List ℕ) → bracketed l ≡ true → inBrackets (inner l) ≡ l
 in-brackets [] e = clash (sym e)
-in-brackets (a ∷ k) e = go (length k) refl
+in-brackets (b ∷ rest) e = go (length rest) refl
   where
-    p : (ltb 1 (length (a ∷ k)) ≡ true) × (eqb a OPEN && eqb (getD (a ∷ k) (length (a ∷ k) - 1) 0) CLOSE ≡ true)
-    p = and-true (ltb 1 (length (a ∷ k))) (eqb a OPEN && eqb (getD (a ∷ k) (length (a ∷ k) - 1) 0) CLOSE) e
+    p : (ltb 1 (length (b ∷ rest)) ≡ true) × (eqb b OPEN && eqb (getD (b ∷ rest) (length (b ∷ rest) - 1) 0) CLOSE ≡ true)
+    p = and-true (ltb 1 (length (b ∷ rest))) (eqb b OPEN && eqb (getD (b ∷ rest) (length (b ∷ rest) - 1) 0) CLOSE) e
 
-    q : (eqb a OPEN ≡ true) × (eqb (getD (a ∷ k) (length (a ∷ k) - 1) 0) CLOSE ≡ true)
-    q = and-true (eqb a OPEN) (eqb (getD (a ∷ k) (length (a ∷ k) - 1) 0) CLOSE) (p .1)
+    q : (eqb b OPEN ≡ true) × (eqb (getD (b ∷ rest) (length (b ∷ rest) - 1) 0) CLOSE ≡ true)
+    q = and-true (eqb b OPEN) (eqb (getD (b ∷ rest) (length (b ∷ rest) - 1) 0) CLOSE) (p .1)
 
-    go : (n : ℕ) → length k ≡ n → inBrackets (inner (a ∷ k)) ≡ a ∷ k
-    go zero z = absurd (omega (arith, ltb-true 1 (length (a ∷ k)) (p .0)))
+    go : (n : ℕ) → length rest ≡ n → inBrackets (inner (b ∷ rest)) ≡ b ∷ rest
+    go zero z = absurd (omega (arith, ltb-true 1 (length (b ∷ rest)) (p .0)))
     go (suc j) z =
-        let i : length (a ∷ k) - 1 ≡ suc j = omega arith in
-        let m : length (a ∷ k) - 2 ≡ j = omega arith in
-        let last : getD k j 0 ≡ CLOSE = rw i at (eqb-true (getD (a ∷ k) (length (a ∷ k) - 1) 0) CLOSE (q .1)) in
-        let all : take (suc j) k ≡ k = ap (λ x. take x k) (sym z) ∙ take-length k in
-        let cut : take j k ++ (CLOSE ∷ []) ≡ k = ap (λ x. take j k ++ (x ∷ [])) (sym last) ∙ (sym (take-suc k j 0 (omega arith)) ∙ all) in
-        rw (m, cut) (ap (λ x. x ∷ k) (sym (eqb-true a OPEN (q .0))))
+        let i : length (b ∷ rest) - 1 ≡ suc j = omega arith in
+        let m : length (b ∷ rest) - 2 ≡ j = omega arith in
+        let last : getD rest j 0 ≡ CLOSE = rw i at (eqb-true (getD (b ∷ rest) (length (b ∷ rest) - 1) 0) CLOSE (q .1)) in
+        let all : take (suc j) rest ≡ rest = ap (λ x. take x rest) (sym z) ∙ take-length rest in
+        let cut : take j rest ++ (CLOSE ∷ []) ≡ rest = ap (λ x. take j rest ++ (x ∷ [])) (sym last) ∙ (sym (take-suc rest j 0 (omega arith)) ∙ all) in
+        rw (m, cut) (ap (λ x. x ∷ rest) (sym (eqb-true b OPEN (q .0))))
 
 -- A whole line: unread, or the command's own text.
 abbrev IsText : List ℕ → Line → Type 0
 IsText l Unread = Unit {0}
 IsText l (Read c) = (commandText c ≡ l) × Fits c
 
-is-text-inner : (l w : List ℕ) → inBrackets w ≡ l → (x : Line) → Inner w x → IsText l x
-is-text-inner l w e Unread i = tt
-is-text-inner l w e (Read c) i = (ap inBrackets (i .0) ∙ e, i .1)
+is-text-inner : (l part : List ℕ) → inBrackets part ≡ l → (x : Line) → Inner part x → IsText l x
+is-text-inner l part e Unread i = tt
+is-text-inner l part e (Read c) i = (ap inBrackets (i .0) ∙ e, i .1)
 
 is-text-bracketed : (l : List ℕ) → bracketed l ≡ true → IsText l (command (keyword (upToSpace (inner l))) (afterSpace (inner l)))
-is-text-bracketed l b = let w : List ℕ = inner l in is-text-inner l w (in-brackets l b) (command (keyword (upToSpace w)) (afterSpace w)) (command-only w)
+is-text-bracketed l e = let part : List ℕ = inner l in is-text-inner l part (in-brackets l e) (command (keyword (upToSpace part)) (afterSpace part)) (command-only part)
 
 is-text : (l : List ℕ) → IsText l (lineOf l)
 unfolding lineOf

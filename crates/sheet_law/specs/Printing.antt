@@ -10,35 +10,35 @@ use Rattle.sheet_law.specs.Text.{text, decimal}
 
 -- A word with one number, and with two.
 abbrev pub withOne : List ℕ → ℕ → List ℕ
-withOne w a = w ++ decimal a
+withOne word n = word ++ decimal n
 
 abbrev pub withTwo : List ℕ → ℕ → ℕ → List ℕ
-withTwo w a b = withOne w a ++ (text " " ++ decimal b)
+withTwo word n m = withOne word n ++ (text " " ++ decimal m)
 
 abbrev pub pitchText : ℤ → List ℕ
 pitchText (pos n) = withOne (text "pitch ") n
 pitchText (negsuc n) = withOne (text "pitch -") (suc n)
 
 abbrev pub walkText : WalkReply → List ℕ
-walkText (Waiting w) = withOne (text "waiting ") w
+walkText (Waiting awaited) = withOne (text "waiting ") awaited
 walkText Spent = text "spent"
 walkText Quiet = text "quiet"
-walkText (Returned l w) = withTwo (text "returned ") l w
+walkText (Returned looks waits) = withTwo (text "returned ") looks waits
 
 -- Replies: made; at place; pitch v; left; claimed s; written n; swapped s; synced m; raised; shared; waiting w; spent; quiet; returned looks waits; freed s releases; refused n.
 abbrev pub replyText : Reply → List ℕ
 replyText Made = text "made"
-replyText (At n) = withOne (text "at ") n
+replyText (At place) = withOne (text "at ") place
 replyText (Pitch v) = pitchText v
 replyText Left = text "left"
-replyText (Claimed s) = withOne (text "claimed ") s
+replyText (Claimed slot) = withOne (text "claimed ") slot
 replyText (Written n) = withOne (text "written ") n
-replyText (Swapped s) = withOne (text "swapped ") s
-replyText (Synced m) = withOne (text "synced ") m
+replyText (Swapped slot) = withOne (text "swapped ") slot
+replyText (Synced mark) = withOne (text "synced ") mark
 replyText Raised = text "raised"
 replyText Shared = text "shared"
-replyText (Walked o) = walkText o
-replyText (Freed s n) = withTwo (text "freed ") s n
+replyText (Walked walked) = walkText walked
+replyText (Freed slot n) = withTwo (text "freed ") slot n
 replyText (Refused n) = withOne (text "refused ") n
 
 -- No printed line is longer: the longest has three numbers of 20 digits beside `( returned  )` and its newline.

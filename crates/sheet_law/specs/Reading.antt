@@ -80,8 +80,8 @@ pub data Row (A : Type 0) : Type 0 where
   _names_ : String → A → Row A
 
 unfoldable pub namedIn : {A : Type 0} → List (Row A) → A → List ℕ → A
-namedIn [] none w = none
-namedIn ((t names x) ∷ rows) none w = pick (same w (text t)) x (namedIn rows none w)
+namedIn [] none word = none
+namedIn ((name names x) ∷ rows) none word = pick (same word (text name)) x (namedIn rows none word)
 
 -- Words are the calls in small letters and `store`.
 abbrev pub keywords : List (Row Keyword)
@@ -100,7 +100,7 @@ keywords =
     ∷ []
 
 abbrev pub keyword : List ℕ → Keyword
-keyword w = namedIn keywords Unknown w
+keyword word = namedIn keywords Unknown word
 
 -- `store`, whose kind is `new` or `old`.
 abbrev pub kinds : List (Row Number)
@@ -110,7 +110,7 @@ kinds =
     ∷ []
 
 abbrev pub kindNamed : List ℕ → Number
-kindNamed w = namedIn kinds NoNumber w
+kindNamed word = namedIn kinds NoNumber word
 
 -- A line with an argument that is not read is unread.
 abbrev pub ifNumber : Number → (ℕ → Line) → Line
@@ -133,14 +133,14 @@ pitched l build = ifNumber (narrow (upToSpace l)) (λ n. ifAngle (angle (afterSp
 
 -- (kind, readers, publishers, slots, first version)
 abbrev pub storeLineRest : ℕ → ℕ → List ℕ → Line
-storeLineRest k rs l =
+storeLineRest kind rs l =
     ifNumber (narrow (upToSpace l)) (λ ps.
     ifNumber (narrow (upToSpace (afterSpace l))) (λ ss.
-    ifNumber (wide (afterSpace (afterSpace l))) (λ v.
-    Read (Make k rs ps ss v))))
+    ifNumber (wide (afterSpace (afterSpace l))) (λ version.
+    Read (Make kind rs ps ss version))))
 
 abbrev pub storeLine : List ℕ → Line
-storeLine l = ifNumber (kindNamed (upToSpace l)) (λ k. ifNumber (narrow (upToSpace (afterSpace l))) (λ rs. storeLineRest k rs (afterSpace (afterSpace l))))
+storeLine l = ifNumber (kindNamed (upToSpace l)) (λ kind. ifNumber (narrow (upToSpace (afterSpace l))) (λ rs. storeLineRest kind rs (afterSpace (afterSpace l))))
 
 -- Each word: how its arguments are read, and the call that they make.
 abbrev pub command : Keyword → List ℕ → Line

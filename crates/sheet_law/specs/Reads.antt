@@ -17,15 +17,15 @@ use Rattle.sheet_law.specs.Reading.{LINE-MAX, lineOf}
 use Rattle.sheet_law.specs.Sheet.{unmade, lineFor, afterLine, nextLine, linesFrom, printedFor, sheet, SheetState, sheetState, start, joined, byte, saidAt, fed, printed, ending}
 
 -- Two texts after each other.
-pub fed-append : (d : SheetState) (t u : List ℕ) → fed d (t ++ u) ≡ fed (fed d t) u
+pub fed-append : (d : SheetState) (t t′ : List ℕ) → fed d (t ++ t′) ≡ fed (fed d t) t′
 unfolding fed
-fed-append d [] u = refl
-fed-append d (b ∷ t) u = fed-append (byte d b) t u
+fed-append d [] t′ = refl
+fed-append d (b ∷ t) t′ = fed-append (byte d b) t t′
 
-pub printed-append : (d : SheetState) (t u : List ℕ) → printed d (t ++ u) ≡ printed d t ++ printed (fed d t) u
+pub printed-append : (d : SheetState) (t t′ : List ℕ) → printed d (t ++ t′) ≡ printed d t ++ printed (fed d t) t′
 unfolding fed printed
-printed-append d [] u = refl
-printed-append d (b ∷ t) u = ap (λ x. saidAt d b ++ x) (printed-append (byte d b) t u) ∙ sym (append-assoc (saidAt d b) (printed (byte d b) t) (printed (fed (byte d b) t) u))
+printed-append d [] t′ = refl
+printed-append d (b ∷ t) t′ = ap (λ x. saidAt d b ++ x) (printed-append (byte d b) t t′) ∙ sym (append-assoc (saidAt d b) (printed (byte d b) t) (printed (fed (byte d b) t) t′))
 
 -- A line over 80 bytes is unread.
 pub over-80 : (l : List ℕ) → LINE-MAX < length l → lineOf l ≡ Unread
@@ -36,40 +36,40 @@ over-80 l long = rw (lt-ltb LINE-MAX (length l) long) refl
 abbrev pub KEPT : ℕ
 KEPT = LINE-MAX + 1
 
-kept-joined : (k : List ℕ) (b : ℕ) → joined (take KEPT k) b ≡ take KEPT (k ++ (b ∷ []))
-kept-joined k b = pick-split (λ x. x ≡ take KEPT (k ++ (b ∷ []))) (ltb LINE-MAX (length (take KEPT k)))
-    (λ e. sym (take-append-le KEPT k (b ∷ []) (omega (arith, ltb-true LINE-MAX (length (take KEPT k)) e, length-take KEPT k))))
-    (λ e. let short : length k ≤ LINE-MAX = omega (arith, ltb-false LINE-MAX (length (take KEPT k)) e, length-take KEPT k) in
-    ap (λ x. x ++ (b ∷ [])) (take-all KEPT k (omega arith)) ∙ sym (take-all KEPT (k ++ (b ∷ [])) (omega (arith, length-append k (b ∷ [])))))
+kept-joined : (begun : List ℕ) (b : ℕ) → joined (take KEPT begun) b ≡ take KEPT (begun ++ (b ∷ []))
+kept-joined begun b = pick-split (λ x. x ≡ take KEPT (begun ++ (b ∷ []))) (ltb LINE-MAX (length (take KEPT begun)))
+    (λ e. sym (take-append-le KEPT begun (b ∷ []) (omega (arith, ltb-true LINE-MAX (length (take KEPT begun)) e, length-take KEPT begun))))
+    (λ e. let short : length begun ≤ LINE-MAX = omega (arith, ltb-false LINE-MAX (length (take KEPT begun)) e, length-take KEPT begun) in
+    ap (λ x. x ++ (b ∷ [])) (take-all KEPT begun (omega arith)) ∙ sym (take-all KEPT (begun ++ (b ∷ [])) (omega (arith, length-append begun (b ∷ [])))))
 
-kept-read : (k : List ℕ) → lineOf (take KEPT k) ≡ lineOf k
-kept-read k = go (ltb LINE-MAX (length k)) refl
+kept-read : (begun : List ℕ) → lineOf (take KEPT begun) ≡ lineOf begun
+kept-read begun = go (ltb LINE-MAX (length begun)) refl
   where
-    go : (x : Bool) → ltb LINE-MAX (length k) ≡ x → lineOf (take KEPT k) ≡ lineOf k
-    go true e = let long = ltb-true LINE-MAX (length k) e in over-80 (take KEPT k) (omega (arith, length-take KEPT k)) ∙ sym (over-80 k long)
-    go false e = ap lineOf (take-all KEPT k (omega (arith, ltb-false LINE-MAX (length k) e)))
+    go : (x : Bool) → ltb LINE-MAX (length begun) ≡ x → lineOf (take KEPT begun) ≡ lineOf begun
+    go true e = let long = ltb-true LINE-MAX (length begun) e in over-80 (take KEPT begun) (omega (arith, length-take KEPT begun)) ∙ sym (over-80 begun long)
+    go false e = ap lineOf (take-all KEPT begun (omega (arith, ltb-false LINE-MAX (length begun) e)))
 
 -- All that a state prints for the rest of the input.
 abbrev printedToEnd : SheetState → List ℕ → List ℕ
 printedToEnd d t = printed d t ++ printed (fed d t) (ending (fed d t .begun))
 
 -- The next byte ends the line or joins it.
-module _ (b : ℕ) (t : List ℕ) (n : ℕ) (k : List ℕ) (s : State) where
-  next-byte : printedToEnd (sheetState (nextLine n) [] (afterLine s (lineFor s k))) t ≡ printedFor (nextLine n) (afterLine s (lineFor s k)) (linesFrom [] t)
-      → printedToEnd (sheetState n (take KEPT (k ++ (b ∷ []))) s) t ≡ printedFor n s (linesFrom (k ++ (b ∷ [])) t)
-      → saidAt (sheetState n (take KEPT k) s) b ++ printedToEnd (byte (sheetState n (take KEPT k) s) b) t ≡ printedFor n s (linesFrom k (b ∷ t))
+module _ (b : ℕ) (t : List ℕ) (n : ℕ) (begun : List ℕ) (s : State) where
+  next-byte : printedToEnd (sheetState (nextLine n) [] (afterLine s (lineFor s begun))) t ≡ printedFor (nextLine n) (afterLine s (lineFor s begun)) (linesFrom [] t)
+      → printedToEnd (sheetState n (take KEPT (begun ++ (b ∷ []))) s) t ≡ printedFor n s (linesFrom (begun ++ (b ∷ [])) t)
+      → saidAt (sheetState n (take KEPT begun) s) b ++ printedToEnd (byte (sheetState n (take KEPT begun) s) b) t ≡ printedFor n s (linesFrom begun (b ∷ t))
   unfolding printedFor linesFrom
   next-byte ends joins = go (eqb b NEWLINE) refl
     where
-      go : (x : Bool) → eqb b NEWLINE ≡ x → saidAt (sheetState n (take KEPT k) s) b ++ printedToEnd (byte (sheetState n (take KEPT k) s) b) t ≡ printedFor n s (linesFrom k (b ∷ t))
-      go true e = rw (e, kept-read k, ends) refl
-      go false e = rw (e, kept-joined k b) joins
+      go : (x : Bool) → eqb b NEWLINE ≡ x → saidAt (sheetState n (take KEPT begun) s) b ++ printedToEnd (byte (sheetState n (take KEPT begun) s) b) t ≡ printedFor n s (linesFrom begun (b ∷ t))
+      go true e = rw (e, kept-read begun, ends) refl
+      go false e = rw (e, kept-joined begun b) joins
 
-from-state : (t : List ℕ) (n : ℕ) (k : List ℕ) (s : State) → printedToEnd (sheetState n (take KEPT k) s) t ≡ printedFor n s (linesFrom k t)
+from-state : (t : List ℕ) (n : ℕ) (begun : List ℕ) (s : State) → printedToEnd (sheetState n (take KEPT begun) s) t ≡ printedFor n s (linesFrom begun t)
 unfolding fed printed printedFor linesFrom
 from-state [] n [] s = refl
-from-state [] n (b ∷ k) s = rw (kept-read (b ∷ k)) refl
-from-state (b ∷ t) n k s = append-assoc (saidAt (sheetState n (take KEPT k) s) b) _ _ ∙ next-byte b t n k s (from-state t (nextLine n) [] (afterLine s (lineFor s k))) (from-state t n (k ++ (b ∷ [])) s)
+from-state [] n (b ∷ begun) s = rw (kept-read (b ∷ begun)) refl
+from-state (b ∷ t) n begun s = append-assoc (saidAt (sheetState n (take KEPT begun) s) b) _ _ ∙ next-byte b t n begun s (from-state t (nextLine n) [] (afterLine s (lineFor s begun))) (from-state t n (begun ++ (b ∷ [])) s)
 
 -- The reading byte by byte prints what the whole sheet's definition says.
 pub whole : (t : List ℕ) → printed start (t ++ ending (fed start t .begun)) ≡ sheet t
@@ -79,16 +79,16 @@ whole t = printed-append start t (ending (fed start t .begun)) ∙ from-state t 
 -- Printing read by read, each from the state as the one before left it; at the end of the input the line that was begun, if any, is the last line.
 abbrev pub printedReads : SheetState → List (List ℕ) → List ℕ
 printedReads d [] = printed d (ending (d .begun))
-printedReads d (r ∷ rs) = printed d r ++ printedReads (fed d r) rs
+printedReads d (read ∷ reads) = printed d read ++ printedReads (fed d read) reads
 
-reads-from : (d : SheetState) (rs : List (List ℕ)) → printedReads d rs ≡ printedToEnd d (flatten rs)
+reads-from : (d : SheetState) (reads : List (List ℕ)) → printedReads d reads ≡ printedToEnd d (flatten reads)
 unfolding flatten fed printed
 reads-from d [] = refl
-reads-from d (r ∷ rs) =
-    rw (reads-from (fed d r) rs, printed-append d r (flatten rs), fed-append d r (flatten rs))
-    (sym (append-assoc (printed d r) (printed (fed d r) (flatten rs)) (printed (fed (fed d r) (flatten rs)) (ending (fed (fed d r) (flatten rs) .begun)))))
+reads-from d (read ∷ reads) =
+    rw (reads-from (fed d read) reads, printed-append d read (flatten reads), fed-append d read (flatten reads))
+    (sym (append-assoc (printed d read) (printed (fed d read) (flatten reads)) (printed (fed (fed d read) (flatten reads)) (ending (fed (fed d read) (flatten reads) .begun)))))
 
 -- However the input is cut into reads, the output is that of the whole sheet.
-pub reads-join : (rs : List (List ℕ)) → printedReads start rs ≡ sheet (flatten rs)
+pub reads-join : (reads : List (List ℕ)) → printedReads start reads ≡ sheet (flatten reads)
 unfolding sheet
-reads-join rs = reads-from start rs ∙ from-state (flatten rs) 0 [] unmade
+reads-join reads = reads-from start reads ∙ from-state (flatten reads) 0 [] unmade

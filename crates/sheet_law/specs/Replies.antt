@@ -27,8 +27,8 @@ replyWithNumber NoNumber f = none
 replyWithNumber (Decimal n) f = some (f n)
 
 abbrev replyWithNumbers : Number → Number → (ℕ → ℕ → Reply) → Option Reply
-replyWithNumbers NoNumber y f = none
-replyWithNumbers (Decimal n) y f = replyWithNumber y (f n)
+replyWithNumbers NoNumber second f = none
+replyWithNumbers (Decimal n) second f = replyWithNumber second (f n)
 
 abbrev replyWithPitch : Angle → Option Reply
 replyWithPitch NoAngle = none
@@ -47,10 +47,10 @@ replyNamed l =
     (pick (same (upToSpace l) (text "synced")) (replyWithNumber (plain (afterSpace l)) reply.Synced)
     (pick (same (upToSpace l) (text "raised")) (some reply.Raised)
     (pick (same (upToSpace l) (text "shared")) (some reply.Shared)
-    (pick (same (upToSpace l) (text "waiting")) (replyWithNumber (plain (afterSpace l)) (λ w. reply.Walked (Waiting w)))
+    (pick (same (upToSpace l) (text "waiting")) (replyWithNumber (plain (afterSpace l)) (λ awaited. reply.Walked (Waiting awaited)))
     (pick (same (upToSpace l) (text "spent")) (some (reply.Walked Spent))
     (pick (same (upToSpace l) (text "quiet")) (some (reply.Walked Quiet))
-    (pick (same (upToSpace l) (text "returned")) (replyWithNumbers (plain (upToSpace (afterSpace l))) (plain (afterSpace (afterSpace l))) (λ a w. reply.Walked (Returned a w)))
+    (pick (same (upToSpace l) (text "returned")) (replyWithNumbers (plain (upToSpace (afterSpace l))) (plain (afterSpace (afterSpace l))) (λ looks waits. reply.Walked (Returned looks waits)))
     (pick (same (upToSpace l) (text "freed")) (replyWithNumbers (plain (upToSpace (afterSpace l))) (plain (afterSpace (afterSpace l))) reply.Freed)
     (pick (same (upToSpace l) (text "refused")) (replyWithNumber (plain (afterSpace l)) reply.Refused)
     none)))))))))))))))
@@ -66,32 +66,32 @@ unfolding upToSpace afterSpace
 pitch-back (pos n) = ap replyWithPitch (signed-decimal (λ x. x) (λ x. x) n)
 pitch-back (negsuc n) = rw (plain-decimal (suc n)) refl
 
-walk-back : (o : WalkReply) → replyNamed (walkText o) ≡ some (reply.Walked o)
+walk-back : (walked : WalkReply) → replyNamed (walkText walked) ≡ some (reply.Walked walked)
 unfolding upToSpace afterSpace
-walk-back (Waiting w) = number-back w (λ n. reply.Walked (Waiting n))
+walk-back (Waiting awaited) = number-back awaited (λ n. reply.Walked (Waiting n))
 walk-back Spent = refl
 walk-back Quiet = refl
-walk-back (Returned l w) = numbers-back l w (λ n m. reply.Walked (Returned n m))
+walk-back (Returned looks waits) = numbers-back looks waits (λ n m. reply.Walked (Returned n m))
 
 pub read-back : (a : Reply) → replyNamed (replyText a) ≡ some a
 unfolding upToSpace afterSpace
 read-back reply.Made = refl
-read-back (reply.At n) = number-back n reply.At
+read-back (reply.At place) = number-back place reply.At
 read-back (reply.Pitch v) = pitch-back v
 read-back reply.Left = refl
-read-back (reply.Claimed s) = number-back s reply.Claimed
+read-back (reply.Claimed slot) = number-back slot reply.Claimed
 read-back (reply.Written n) = number-back n reply.Written
-read-back (reply.Swapped s) = number-back s reply.Swapped
-read-back (reply.Synced m) = number-back m reply.Synced
+read-back (reply.Swapped slot) = number-back slot reply.Swapped
+read-back (reply.Synced mark) = number-back mark reply.Synced
 read-back reply.Raised = refl
 read-back reply.Shared = refl
-read-back (reply.Walked o) = walk-back o
-read-back (reply.Freed s n) = numbers-back s n reply.Freed
+read-back (reply.Walked walked) = walk-back walked
+read-back (reply.Freed slot n) = numbers-back slot n reply.Freed
 read-back (reply.Refused n) = number-back n reply.Refused
 
 -- Two different replies never print the same text, and no reply prints `unread`.
-pub reply-injective : (a b : Reply) → replyText a ≡ replyText b → a ≡ b
-reply-injective a b e = let q = sym (read-back a) ∙ (ap replyNamed e ∙ read-back b) in cc
+pub reply-injective : (a a′ : Reply) → replyText a ≡ replyText a′ → a ≡ a′
+reply-injective a a′ e = let q = sym (read-back a) ∙ (ap replyNamed e ∙ read-back a′) in cc
 
 pub no-reply-unread : (a : Reply) → replyText a ≡ text "unread" → ⊥
 unfolding upToSpace
@@ -100,9 +100,9 @@ no-reply-unread a e =
     let z : _≡_ {A = ℕ} 0 1 = cc in omega arith
 
 -- A printed line tells its number and what was said.
-pub line-injective : (n m : ℕ) (x y : List ℕ) → printedLine n x ≡ printedLine m y → (n ≡ m) × (x ≡ y)
-line-injective n m x y e =
+pub line-injective : (n m : ℕ) (said said′ : List ℕ) → printedLine n said ≡ printedLine m said′ → (n ≡ m) × (said ≡ said′)
+line-injective n m said said′ e =
     let end : List ℕ = text ")\n" in
-    let d : decimal n ≡ decimal m = sym (decimal-up-to-space n (x ++ end)) ∙ (ap (λ l. upToSpace (drop 1 l)) e ∙ decimal-up-to-space m (y ++ end)) in
-    let r : x ++ end ≡ y ++ end = sym (decimal-after-space n (x ++ end)) ∙ (ap (λ l. afterSpace (drop 1 l)) e ∙ decimal-after-space m (y ++ end)) in
-    (decimal-injective n m d, append-cancel-right x y end r)
+    let d : decimal n ≡ decimal m = sym (decimal-up-to-space n (said ++ end)) ∙ (ap (λ l. upToSpace (drop 1 l)) e ∙ decimal-up-to-space m (said′ ++ end)) in
+    let r : said ++ end ≡ said′ ++ end = sym (decimal-after-space n (said ++ end)) ∙ (ap (λ l. afterSpace (drop 1 l)) e ∙ decimal-after-space m (said′ ++ end)) in
+    (decimal-injective n m d, append-cancel-right said said′ end r)

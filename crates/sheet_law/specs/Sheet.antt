@@ -7,7 +7,7 @@ use lib.IntN.{ℤ, pos}
 use lib.ListN.{length, take, drop, replicate}
 use Rattle.base.specs.Base.{pick}
 use Rattle.calls.specs.Numbers.{MODULUS, TABLE, SLOTS-MAX}
-use Rattle.layout.specs.Layout.{WORDS, kind, slots}
+use Rattle.layout.specs.Layout.{WORDS, kind as kindWord, slots}
 use Rattle.statement.specs.Machine.{State, state, Outcome, outcome, given}
 use Rattle.kinds_law.specs.Kinds.{kindOfNumber, anyStep, lackedBy, anyMaking}
 use Rattle.sheet_law.specs.declared.Command.{Command}
@@ -35,17 +35,17 @@ lent n f s = rejoined (f (state (s .words) (take n (s .entries)))) (drop n (s .e
 
 -- `store` is lent exactly slots × 32 entries (all of the room for more slots than a store may have), and a call those of the made store. A refused `store` leaves the one before, since making does.
 unfoldable pub played : State → Command → Outcome
-played s (Make k rs ps ss v) = lent (ss * TABLE) (anyMaking k (given rs ps ss v)) s
-played s (Run c) = lent (slots (s .words) * TABLE) (λ (t : State). anyStep t c) s
+played s (Make kind rs ps ss version) = lent (ss * TABLE) (anyMaking kind (given rs ps ss version)) s
+played s (Run c) = lent (slots (s .words) * TABLE) (λ (part : State). anyStep part c) s
 
 -- A call that the made store's kind lacks is unread. Both kinds have the ten calls, so that no call is; before a made store each gets 1.
 abbrev pub known : ℕ → Line → Line
-known kind Unread = Unread
-known kind (Read (Make k rs ps ss v)) = Read (Make k rs ps ss v)
-known kind (Read (Run c)) = pick (lackedBy (kindOfNumber kind) c) Unread (Read (Run c))
+known made Unread = Unread
+known made (Read (Make kind rs ps ss version)) = Read (Make kind rs ps ss version)
+known made (Read (Run c)) = pick (lackedBy (kindOfNumber made) c) Unread (Read (Run c))
 
 abbrev pub lineFor : State → List ℕ → Line
-lineFor s l = known (kind (s .words)) (lineOf l)
+lineFor s l = known (kindWord (s .words)) (lineOf l)
 
 -- What is said to a line, and the store after it. An unread line makes no call.
 abbrev pub saidTo : State → Line → List ℕ
@@ -64,10 +64,10 @@ abbrev pub isEmpty : List ℕ → Bool
 isEmpty [] = true
 isEmpty (b ∷ l) = false
 
--- The lines of a text, of whose first the bytes k are read already. The last line may lack its newline.
+-- The lines of a text, of whose first some bytes are read already. The last line may lack its newline.
 unfoldable pub linesFrom : List ℕ → List ℕ → List (List ℕ)
-linesFrom k [] = pick (isEmpty k) [] (k ∷ [])
-linesFrom k (b ∷ t) = pick (eqb b NEWLINE) (k ∷ linesFrom [] t) (linesFrom (k ++ (b ∷ [])) t)
+linesFrom begun [] = pick (isEmpty begun) [] (begun ∷ [])
+linesFrom begun (b ∷ t) = pick (eqb b NEWLINE) (begun ∷ linesFrom [] t) (linesFrom (begun ++ (b ∷ [])) t)
 
 abbrev pub linesOf : List ℕ → List (List ℕ)
 linesOf t = linesFrom [] t
@@ -88,14 +88,14 @@ pub record SheetState : Type 0 where
   pub store : State
 
 abbrev pub sheetState : ℕ → List ℕ → State → SheetState
-sheetState n k s = record { lines = n; begun = k; store = s }
+sheetState n begun s = record { lines = n; begun = begun; store = s }
 
 abbrev pub start : SheetState
 start = sheetState 0 [] unmade
 
 -- Of a line over 80 bytes, 81 are kept: they tell that it is one.
 abbrev pub joined : List ℕ → ℕ → List ℕ
-joined k b = pick (ltb LINE-MAX (length k)) k (k ++ (b ∷ []))
+joined begun b = pick (ltb LINE-MAX (length begun)) begun (begun ++ (b ∷ []))
 
 -- A newline ends the line and every other byte joins it.
 abbrev pub byte : SheetState → ℕ → SheetState
@@ -114,4 +114,4 @@ printed d (b ∷ t) = saidAt d b ++ printed (byte d b) t
 
 -- At the end of the input a line that was begun is the last line.
 abbrev pub ending : List ℕ → List ℕ
-ending k = pick (isEmpty k) [] (NEWLINE ∷ [])
+ending begun = pick (isEmpty begun) [] (NEWLINE ∷ [])

@@ -10,7 +10,7 @@ use lib.ListN.{take, take-append-drop}
 use Rattle.calls.specs.declared.Call.{Call}
 use Rattle.calls.specs.declared.Reply.the-variants.{Refused}
 use Rattle.calls.specs.Numbers.{TABLE, NUMBER-MAX, DAMAGED}
-use Rattle.layout.specs.Layout.{kind}
+use Rattle.layout.specs.Layout.{kind as kindWord}
 use Rattle.statement.specs.Machine.{State, state, outcome, given}
 use Rattle.kinds_law.specs.Kinds.{Kind, kindOfNumber, anyStep, lackedBy}
 use Rattle.kinds_law.specs.Kinds.Kind.{new, old}
@@ -27,7 +27,7 @@ pub next-is : (n : ℕ) → n < NUMBER-MAX → nextLine n ≡ n + 1
 next-is n l = omega arith
 
 -- Every line is read as its bytes say: no kind lacks a call today.
-lacks-none : (o : Option Kind) (c : Call) → lackedBy o c ≡ false
+lacks-none : (chosen : Option Kind) (c : Call) → lackedBy chosen c ≡ false
 lacks-none none c = refl
 lacks-none (some new) c = refl
 lacks-none (some old) c = refl
@@ -35,10 +35,10 @@ lacks-none (some old) c = refl
 pub known-all : (s : State) (l : List ℕ) → lineFor s l ≡ lineOf l
 known-all s l = go (lineOf l)
   where
-    go : (x : Line) → known (kind (s .words)) x ≡ x
+    go : (x : Line) → known (kindWord (s .words)) x ≡ x
     go Unread = refl
-    go (Read (Make k rs ps ss v)) = refl
-    go (Read (Run c)) = rw (lacks-none (kindOfNumber (kind (s .words))) c) refl
+    go (Read (Make kind rs ps ss version)) = refl
+    go (Read (Run c)) = rw (lacks-none (kindOfNumber (kindWord (s .words))) c) refl
 
 -- An unread line makes no call: it says `unread`, and the store is the one before.
 pub unread-makes-no-call : (s : State) (l : List ℕ) → lineOf l ≡ Unread → (saidTo s (lineFor s l) ≡ text "unread") × (afterLine s (lineFor s l) ≡ s)
@@ -50,8 +50,8 @@ unfolding played anyStep kindOfNumber
 before-made c = refl
 
 -- A refused `store` leaves the one before, since a refused making leaves what was lent.
-pub refused-store : (s : State) (k rs ps ss v n : ℕ) → played s (Make k rs ps ss v) .reply ≡ Refused n → played s (Make k rs ps ss v) .after ≡ s
+pub refused-store : (s : State) (kind rs ps ss version n : ℕ) → played s (Make kind rs ps ss version) .reply ≡ Refused n → played s (Make kind rs ps ss version) .after ≡ s
 unfolding played
-refused-store s k rs ps ss v n e =
-    let q = any-making-leaves k (given rs ps ss v) (state (s .words) (take (ss * TABLE) (s .entries))) n e in
+refused-store s kind rs ps ss version n e =
+    let q = any-making-leaves kind (given rs ps ss version) (state (s .words) (take (ss * TABLE) (s .entries))) n e in
     rw (q, take-append-drop (ss * TABLE) (s .entries)) refl

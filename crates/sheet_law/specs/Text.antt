@@ -10,7 +10,7 @@ use Rattle.base.specs.Base.{pick}
 -- The bytes of a quoted text, in ASCII.
 abbrev pub text : String → List ℕ
 text none = []
-text (c before s) = code c ∷ text s
+text (c before rest) = code c ∷ text rest
 
 -- Bytes with a name.
 abbrev pub NEWLINE : ℕ
@@ -37,9 +37,9 @@ DIGIT-9 = 57
 -- Whether two texts are the same.
 abbrev pub same : List ℕ → List ℕ → Bool
 same [] [] = true
-same [] (b ∷ k) = false
+same [] (b ∷ l′) = false
 same (a ∷ l) [] = false
-same (a ∷ l) (b ∷ k) = eqb a b && same l k
+same (a ∷ l) (b ∷ l′) = eqb a b && same l l′
 
 -- The last digit of a number.
 abbrev pub lastDigit : ℕ → ℕ
