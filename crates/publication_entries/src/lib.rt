@@ -17,6 +17,7 @@ use calls::NO_SUCH_PUBLISHER;
 use calls::NO_SUCH_READER;
 use calls::PITCH_HIGH;
 use calls::PITCH_LOW;
+use calls::PLACE_PICKED;
 use calls::PUBLISHER_TURN;
 use calls::Pitch;
 use calls::READER_TURN;
@@ -40,7 +41,7 @@ pub fn look_up(words: &[u64], entries: &[Pitch], r: u16, k: u16) -> Reply
         return Reply::Refused(NO_SUCH_ENTRY);
     }
     let x = reader_at(words, r as usize);
-    if x.place != 5 {
+    if x.place != PLACE_PICKED {
         return Reply::Refused(READER_TURN);
     }
     let v = entries[x.picked as usize * TABLE + k as usize];

@@ -12,6 +12,10 @@ ghost use Rattle.statement.specs.Machine.{state, outcome};
 ghost use Rattle.publication_law.specs.Steps.{Versions, decide, syncTests, sync, raise, walk, placeAfter};
 ghost use Rattle.publication_law.specs.InBounds.{InBounds};
 use calls::NO_SUCH_PUBLISHER;
+use calls::PLACE_QUIET;
+use calls::PLACE_RAISED;
+use calls::PLACE_RETURNED;
+use calls::PLACE_SYNCHRONISING;
 use calls::PUBLISHER_TURN;
 use calls::Reply;
 use calls::VERSION_IS_LAST;
@@ -50,7 +54,7 @@ pub fn start_sync(words: &mut [u64], p: u16, limit: u64) -> Reply
                 looks: 0,
                 waits: 0,
             };
-            y.place = 35;
+            y.place = PLACE_SYNCHRONISING;
             y.walk = walk;
             put_publisher(words, at, y);
             Reply::Synced(mark)
@@ -66,7 +70,7 @@ pub fn raise_version(words: &mut [u64], p: usize, y: Publisher, before: u64) -> 
 {
     let version = version_of(words);
     let mut moved = y;
-    moved.place = 37;
+    moved.place = PLACE_RAISED;
     put_publisher(words, p, moved);
     if version == before {
         put_version(words, moved.walk.mark);
@@ -82,8 +86,8 @@ fn place_after(place: u64, reply: WalkReply) -> u64
     match reply {
         WalkReply::Waiting(_) => place,
         WalkReply::Spent => place,
-        WalkReply::Quiet => 36,
-        WalkReply::Returned(_, _) => 38,
+        WalkReply::Quiet => PLACE_QUIET,
+        WalkReply::Returned(_, _) => PLACE_RETURNED,
     }
 }
 

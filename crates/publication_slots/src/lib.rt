@@ -11,6 +11,9 @@ ghost use Rattle.publication_law.specs.InBounds.{InBounds};
 use calls::BUSY;
 use calls::NO_SUCH_PUBLISHER;
 use calls::NO_SUCH_SLOT;
+use calls::PLACE_CLAIMED;
+use calls::PLACE_IDLE;
+use calls::PLACE_SWAPPED;
 use calls::PUBLISHER_TURN;
 use calls::Reply;
 use calls::SLOT_IN_USE;
@@ -31,7 +34,7 @@ fn another_busy(words: &[u64], p: u16) -> bool
     let n = publishers_of(words);
     for q in 0..n {
         let y = publisher_at(words, q as usize);
-        if (q != p as u64) & (y.place != 0) {
+        if (q != p as u64) & (y.place != PLACE_IDLE) {
             return true;
         }
     }
@@ -60,7 +63,7 @@ fn in_use(words: &[u64], x: u64) -> bool
     let n = publishers_of(words);
     for q in 0..n {
         let y = publisher_at(words, q as usize);
-        if (y.place != 0) & (y.held == x) {
+        if (y.place != PLACE_IDLE) & (y.held == x) {
             return true;
         }
     }
@@ -90,7 +93,7 @@ pub fn claim_slot(words: &mut [u64], p: u16, slot: u16, exclusive: bool) -> Repl
             if in_use(words, wanted) {
                 return Reply::Refused(SLOT_IN_USE);
             }
-            y.place = 1;
+            y.place = PLACE_CLAIMED;
             y.held = wanted;
             put_publisher(words, at, y);
             Reply::Claimed(wanted)
@@ -114,7 +117,7 @@ pub fn swap_in(words: &mut [u64], p: u16) -> Reply
         33 => {
             let former = current_of(words);
             let slot = y.held;
-            y.place = 34;
+            y.place = PLACE_SWAPPED;
             y.held = former;
             put_publisher(words, at, y);
             put_current(words, slot);
@@ -138,7 +141,7 @@ pub fn release_slot(words: &mut [u64], p: u16) -> Reply
     match place {
         38 => {
             let releases = std::num::wrapping_add_u64(releases_of(words), 1);
-            y.place = 0;
+            y.place = PLACE_IDLE;
             put_publisher(words, at, y);
             put_releases(words, releases);
             Reply::Freed(y.held, releases)

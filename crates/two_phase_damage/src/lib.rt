@@ -14,6 +14,12 @@ ghost use Rattle.statement.specs.Machine.{state};
 ghost use Rattle.publication_law.specs.Damage.{headRows, readersTest, publishersTest};
 ghost use Rattle.two_phase_law.specs.Steps.{damageRules, miscountedAt, rules};
 use calls::KIND_OLD;
+use calls::PLACE_IDLE;
+use calls::PLACE_OPEN;
+use calls::PLACE_PICKED;
+use calls::PLACE_PUBLISHED;
+use calls::PLACE_RETURNED;
+use calls::PLACE_SYNCHRONISING;
 use calls::PUBLISHERS_MAX;
 use calls::READERS_MAX;
 use layout::WORDS;
@@ -39,17 +45,17 @@ fn first_readers_damaged(words: &[u64], n: u64, slots: u64) -> bool
     let mut counts = [0u64; 2];
     for r in 0..n {
         let place = reader_place(words, r as usize);
-        if place == 5 {
+        if place == PLACE_PICKED {
             let x = reader_at(words, r as usize);
             if x.picked >= slots {
                 return true;
             }
         } else {
-            if place < 2 {
+            if place < PLACE_PUBLISHED {
                 continue;
             }
             // 2 and 3 are the new store's
-            if place != 4 {
+            if place != PLACE_OPEN {
                 return true;
             }
         }
@@ -66,17 +72,17 @@ fn publisher_damaged(words: &[u64], p: usize, slots: u64) -> bool
     ensures { λ b. ⌜ ((readers : ℕ) → b ≡ damageRules .publisherDamaged readers slots (publisherAt (now (words .entry)) p)) ⌝ }
 {
     let place = publisher_place(words, p);
-    if place == 0 {
+    if place == PLACE_IDLE {
         return false;
     }
     let y = publisher_at(words, p);
     if y.held >= slots {
         return true;
     }
-    if place < 35 {
+    if place < PLACE_SYNCHRONISING {
         return false;
     }
-    if place > 38 {
+    if place > PLACE_RETURNED {
         return true;
     }
     let walk = y.walk;
