@@ -115,7 +115,8 @@ fn first_publishers_damaged(words: &[u64], n: u64, readers: u64, slots: u64) -> 
 
 // Whether the head damages a store with these words and so many entries.
 pub fn head_is_damaged(words: &[u64], entries: usize) -> bool
-    ensures { λ b. ⌜ ((es : List ℤ) → length es ≡ entries → b ≡ anyTrue (headRows damageRules (state (now (words .entry)) es))) ⌝ }
+    ensures { λ b. ⌜ ((es : List ℤ) → length es ≡ entries →
+        b ≡ anyTrue (headRows damageRules (state (now (words .entry)) es))) ⌝ }
 {
     head_damaged_of_kind(words, entries, KIND_NEW, LAST)
 }

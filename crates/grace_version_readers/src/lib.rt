@@ -1,4 +1,5 @@
-// ENTER, LOOK and LEAVE of the new store, in place on the lent words. Each is total, and its contract is the step of grace_version_law.
+// ENTER, LOOK and LEAVE of the new store, in place on the lent words.
+// Each is total, and its contract is the step of grace_version_law.
 ghost use mathlib.Core.Path.{_≡_};
 ghost use mathlib.Core.Bool.{false};
 ghost use mathlib.Core.List.{List};
@@ -33,11 +34,14 @@ use layout::readers_of;
 use layout::version_of;
 use publication_entries::look_up;
 
-// ENTER of a reader that there is: 0 to 1 loads the version; 1 to 2 publishes it; 2 to 3 loads the version again; 3 to 4 publishes the second;
-// 4 to 5 picks the current slot. At 3 an undamaged store's reader has published the first: where the two are equal, nothing changes.
+// ENTER of a reader that there is: 0 to 1 loads the version; 1 to 2 publishes it; 2 to 3 loads the version again;
+// 3 to 4 publishes the second; 4 to 5 picks the current slot.
+// At 3 an undamaged store's reader has published the first: where the two are equal, nothing changes.
 fn advance(words: &mut [u64], r: usize) -> Reply
     requires { ⌜ (length (now words) ≡ WORDS) × (r < readers (now words)) × (r < READERS-MAX) ⌝ }
-    ensures { λ a. ⌜ ((es : List ℤ) → damaged rules (state (now (words .entry)) es) ≡ false → outcome a (state (now (words .exit)) es) ≡ step rules (state (now (words .entry)) es) (Enter r)) ⌝ }
+    ensures { λ a. ⌜ ((es : List ℤ) → damaged rules (state (now (words .entry)) es) ≡ false →
+        outcome a (state (now (words .exit)) es)
+        ≡ step rules (state (now (words .entry)) es) (Enter r)) ⌝ }
 {
     let mut x = reader_at(words, r);
     let place = x.place;

@@ -73,7 +73,9 @@ fn in_use(words: &[u64], x: u64) -> bool
 // CLAIM p s: 0 to 1, holds s. Whether 31 is given is the kind's own.
 pub fn claim_slot(words: &mut [u64], p: u16, slot: u16, exclusive: bool) -> Reply
     requires { ⌜ InBounds (now words) ⌝ }
-    ensures { λ a. ⌜ ((es : List ℤ) → let s = state (now (words .entry)) es in outcome a (state (now (words .exit)) es) ≡ decide (claimTests exclusive s p slot) (claim s p slot) s) ⌝ }
+    ensures { λ a. ⌜ ((es : List ℤ) → let s = state (now (words .entry)) es in
+        outcome a (state (now (words .exit)) es)
+        ≡ decide (claimTests exclusive s p slot) (claim s p slot) s) ⌝ }
 {
     if p as u64 >= publishers_of(words) {
         return Reply::Refused(NO_SUCH_PUBLISHER);
@@ -105,7 +107,9 @@ pub fn claim_slot(words: &mut [u64], p: u16, slot: u16, exclusive: bool) -> Repl
 // SWAP p: 33 to 34. Its slot becomes current; it holds the former one, and replies with that.
 pub fn swap_in(words: &mut [u64], p: u16) -> Reply
     requires { ⌜ InBounds (now words) ⌝ }
-    ensures { λ a. ⌜ ((es : List ℤ) → let s = state (now (words .entry)) es in outcome a (state (now (words .exit)) es) ≡ decide (swapTests s p) (swap s p) s) ⌝ }
+    ensures { λ a. ⌜ ((es : List ℤ) → let s = state (now (words .entry)) es in
+        outcome a (state (now (words .exit)) es)
+        ≡ decide (swapTests s p) (swap s p) s) ⌝ }
 {
     if p as u64 >= publishers_of(words) {
         return Reply::Refused(NO_SUCH_PUBLISHER);
@@ -130,7 +134,9 @@ pub fn swap_in(words: &mut [u64], p: u16) -> Reply
 // RELEASE p: 38 to 0, which frees the held slot; one more release.
 pub fn release_slot(words: &mut [u64], p: u16) -> Reply
     requires { ⌜ InBounds (now words) ⌝ }
-    ensures { λ a. ⌜ ((es : List ℤ) → let s = state (now (words .entry)) es in outcome a (state (now (words .exit)) es) ≡ decide (releaseTests s p) (release s p) s) ⌝ }
+    ensures { λ a. ⌜ ((es : List ℤ) → let s = state (now (words .entry)) es in
+        outcome a (state (now (words .exit)) es)
+        ≡ decide (releaseTests s p) (release s p) s) ⌝ }
 {
     if p as u64 >= publishers_of(words) {
         return Reply::Refused(NO_SUCH_PUBLISHER);

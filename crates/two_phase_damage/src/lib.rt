@@ -40,7 +40,8 @@ pub const LAST: u64 = 9223372036854775807;
 fn first_readers_damaged(words: &[u64], n: u64, slots: u64) -> bool
     requires { ⌜ (length (now words) ≡ WORDS) × (n ≤ READERS-MAX) ⌝ }
     ensures { λ b. ⌜ b
-        ≡ (anyBelow (λ r. damageRules .readerDamaged n slots (readerAt (now (words .entry)) r)) n || (miscountedAt (now (words .entry)) n 0 || miscountedAt (now (words .entry)) n 1)) ⌝ }
+        ≡ (anyBelow (λ r. damageRules .readerDamaged n slots (readerAt (now (words .entry)) r)) n
+        || (miscountedAt (now (words .entry)) n 0 || miscountedAt (now (words .entry)) n 1)) ⌝ }
 {
     let mut counts = [0u64; 2];
     for r in 0..n {
@@ -69,7 +70,8 @@ fn first_readers_damaged(words: &[u64], n: u64, slots: u64) -> bool
 // Whether publisher p is damaged.
 fn publisher_damaged(words: &[u64], p: usize, slots: u64) -> bool
     requires { ⌜ (length (now words) ≡ WORDS) × (p < PUBLISHERS-MAX) ⌝ }
-    ensures { λ b. ⌜ ((readers : ℕ) → b ≡ damageRules .publisherDamaged readers slots (publisherAt (now (words .entry)) p)) ⌝ }
+    ensures { λ b. ⌜ ((readers : ℕ) →
+        b ≡ damageRules .publisherDamaged readers slots (publisherAt (now (words .entry)) p)) ⌝ }
 {
     let place = publisher_place(words, p);
     if place == PLACE_IDLE {
@@ -95,7 +97,8 @@ fn publisher_damaged(words: &[u64], p: usize, slots: u64) -> bool
 // Whether one of the first n publishers is damaged.
 fn first_publishers_damaged(words: &[u64], n: u64, slots: u64) -> bool
     requires { ⌜ (length (now words) ≡ WORDS) × (n ≤ PUBLISHERS-MAX) ⌝ }
-    ensures { λ b. ⌜ ((readers : ℕ) → b ≡ anyBelow (λ p. damageRules .publisherDamaged readers slots (publisherAt (now (words .entry)) p)) n) ⌝ }
+    ensures { λ b. ⌜ ((readers : ℕ) →
+        b ≡ anyBelow (λ p. damageRules .publisherDamaged readers slots (publisherAt (now (words .entry)) p)) n) ⌝ }
 {
     for p in 0..n {
         if publisher_damaged(words, p as usize, slots) {
@@ -107,14 +110,17 @@ fn first_publishers_damaged(words: &[u64], n: u64, slots: u64) -> bool
 
 // Whether the head damages a store with these words and so many entries.
 pub fn head_is_damaged(words: &[u64], entries: usize) -> bool
-    ensures { λ b. ⌜ ((es : List ℤ) → length es ≡ entries → b ≡ anyTrue (headRows damageRules (state (now (words .entry)) es))) ⌝ }
+    ensures { λ b. ⌜ ((es : List ℤ) → length es ≡ entries →
+        b ≡ anyTrue (headRows damageRules (state (now (words .entry)) es))) ⌝ }
 {
     head_damaged_of_kind(words, entries, KIND_OLD, LAST)
 }
 
 // Whether the readers or the indicators damage it.
 pub fn readers_are_damaged(words: &[u64]) -> bool
-    ensures { λ b. ⌜ ((es : List ℤ) → b ≡ (readersTest damageRules (state (now (words .entry)) es) || rules .further (state (now (words .entry)) es))) ⌝ }
+    ensures { λ b. ⌜ ((es : List ℤ) →
+        b ≡ (readersTest damageRules (state (now (words .entry)) es)
+        || rules .further (state (now (words .entry)) es))) ⌝ }
 {
     if words.len() != WORDS {
         return true;

@@ -1,4 +1,5 @@
-// ENTER, LOOK and LEAVE of the old store, in place on the lent words. Each is total, and its contract is the step of two_phase_law.
+// ENTER, LOOK and LEAVE of the old store, in place on the lent words.
+// Each is total, and its contract is the step of two_phase_law.
 ghost use mathlib.Core.Path.{_≡_};
 ghost use Prim.Native.Nat.{_<_};
 ghost use Rattle.calls.specs.Numbers.{PLACE-PICKED};
@@ -52,7 +53,8 @@ fn advanced(mut x: Reader, version: u64, current: u64) -> Reader
     }
 }
 
-// ENTER r: one place on, and from 1 to 4 one more in the indicator of the loaded version's parity. Replies with the place.
+// ENTER r: one place on, and from 1 to 4 one more in the indicator of the loaded version's parity.
+// Replies with the place.
 pub fn enter(words: &mut [u64], entries: &[Pitch], r: u16) -> Reply
     ensures { λ a. ⌜ outcome a (state (now (words .exit)) (now (entries .entry)))
         ≡ step rules (state (now (words .entry)) (now (entries .entry))) (Enter r) ⌝ }
