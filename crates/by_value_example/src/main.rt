@@ -1,5 +1,6 @@
 // The two stores as a Rattle program uses them: by value, every call a method that hands the store back with its reply.
-// Each reply is a line of standard output in the run sheet's words, in the order of the calls; of a table's 32 WRITEs the last alone. The file stdout has what is expected, worked out by hand from document 01.
+// Each reply is a line of standard output in the run sheet's words, in the order of the calls;
+// of a table's 32 WRITEs the last alone. The file stdout has what is expected, worked out by hand from document 01.
 ghost use mathlib.Core.Path.{_≡_};
 ghost use lib.IntN.{natAbs};
 use calls::Pitch;
@@ -200,7 +201,8 @@ fn share_wait(store: GraceVersion, entries: &[Pitch]) {
     show_new(store.release(entries, 1));
 }
 
-// The old store, 2 publishers. The reader has picked the old table, and added to indicator 0, when the new table is swapped in.
+// The old store, 2 publishers.
+// The reader has picked the old table, and added to indicator 0, when the new table is swapped in.
 fn publish_old(entries: &mut [Pitch]) {
     let store = show_old(TwoPhase::make(entries, 1, 2, 3, 0));
     let store = pick_old(store, entries, 0);
@@ -209,7 +211,8 @@ fn publish_old(entries: &mut [Pitch]) {
     wait_old(store, entries);
 }
 
-// Indicator 1 is quiet, the version is raised, and the walk waits for indicator 0. Publisher 1 is refused until the RELEASE.
+// Indicator 1 is quiet, the version is raised, and the walk waits for indicator 0.
+// Publisher 1 is refused until the RELEASE.
 fn wait_old(store: TwoPhase, entries: &[Pitch]) {
     let store = show_old(store.sync(entries, 0));
     let store = show_old(store.walk(entries, 0, 10));

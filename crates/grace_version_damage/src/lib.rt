@@ -13,6 +13,11 @@ ghost use Rattle.statement.specs.Machine.{state};
 ghost use Rattle.publication_law.specs.Damage.{headRows, readersTest, publishersTest};
 ghost use Rattle.grace_version_law.specs.Steps.{damageRules, readerRows};
 use calls::KIND_NEW;
+use calls::PLACE_IDLE;
+use calls::PLACE_PICKED;
+use calls::PLACE_QUIET;
+use calls::PLACE_RETURNED;
+use calls::PLACE_SYNCHRONISING;
 use calls::PUBLISHERS_MAX;
 use calls::READERS_MAX;
 use layout::WORDS;
@@ -34,11 +39,11 @@ fn reader_damaged(words: &[u64], r: usize, slots: u64) -> bool
     ensures { λ b. ⌜ b ≡ anyTrue (readerRows slots (readerAt (now (words .entry)) r)) ⌝ }
 {
     let place = reader_place(words, r);
-    if place == 5 {
+    if place == PLACE_PICKED {
         let x = reader_at(words, r);
         return x.picked >= slots;
     }
-    if place > 5 {
+    if place > PLACE_PICKED {
         return true;
     }
     // 2 or 3
@@ -68,14 +73,14 @@ fn publisher_damaged(words: &[u64], p: usize, readers: u64, slots: u64) -> bool
     ensures { λ b. ⌜ b ≡ damageRules .publisherDamaged readers slots (publisherAt (now (words .entry)) p) ⌝ }
 {
     let place = publisher_place(words, p);
-    if place == 0 {
+    if place == PLACE_IDLE {
         return false;
     }
     let y = publisher_at(words, p);
     if y.held >= slots {
         return true;
     }
-    if place < 35 {
+    if place < PLACE_SYNCHRONISING {
         return false;
     }
     let walk = y.walk;
@@ -85,10 +90,10 @@ fn publisher_damaged(words: &[u64], p: usize, readers: u64, slots: u64) -> bool
     if walk.waits > walk.looks {
         return true;
     }
-    if place == 38 {
+    if place == PLACE_RETURNED {
         return false;
     }
-    if (place > 38) | (place == 36) {
+    if (place > PLACE_RETURNED) | (place == PLACE_QUIET) {
         return true;
     }
     walk.next >= readers
@@ -110,7 +115,8 @@ fn first_publishers_damaged(words: &[u64], n: u64, readers: u64, slots: u64) -> 
 
 // Whether the head damages a store with these words and so many entries.
 pub fn head_is_damaged(words: &[u64], entries: usize) -> bool
-    ensures { λ b. ⌜ ((es : List ℤ) → length es ≡ entries → b ≡ anyTrue (headRows damageRules (state (now (words .entry)) es))) ⌝ }
+    ensures { λ b. ⌜ ((es : List ℤ) → length es ≡ entries →
+        b ≡ anyTrue (headRows damageRules (state (now (words .entry)) es))) ⌝ }
 {
     head_damaged_of_kind(words, entries, KIND_NEW, LAST)
 }

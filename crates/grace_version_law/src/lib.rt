@@ -1,2 +1,3 @@
-// The new store, GraceVersion, as definitions: what it fixes of document 01's calls; demand 3 and the companions, proved of them.
+// The new store, GraceVersion, as definitions: what it fixes of document 01's calls;
+// demand 3 and the companions, proved of them.
 // It holds no code.

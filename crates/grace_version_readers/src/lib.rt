@@ -1,4 +1,5 @@
-// ENTER, LOOK and LEAVE of the new store, in place on the lent words. Each is total, and its contract is the step of grace_version_law.
+// ENTER, LOOK and LEAVE of the new store, in place on the lent words.
+// Each is total, and its contract is the step of grace_version_law.
 ghost use mathlib.Core.Path.{_≡_};
 ghost use mathlib.Core.Bool.{false};
 ghost use mathlib.Core.List.{List};
@@ -14,6 +15,12 @@ ghost use Rattle.grace_version_law.specs.Steps.{rules};
 use calls::DAMAGED;
 use calls::NO_SUCH_READER;
 use calls::NOT_READING;
+use calls::PLACE_LOADED;
+use calls::PLACE_LOADED_AGAIN;
+use calls::PLACE_OPEN;
+use calls::PLACE_OUT;
+use calls::PLACE_PICKED;
+use calls::PLACE_PUBLISHED;
 use calls::Pitch;
 use calls::READER_TURN;
 use calls::Reply;
@@ -27,44 +34,47 @@ use layout::readers_of;
 use layout::version_of;
 use publication_entries::look_up;
 
-// ENTER of a reader that there is: 0 to 1 loads the version; 1 to 2 publishes it; 2 to 3 loads the version again; 3 to 4 publishes the second;
-// 4 to 5 picks the current slot. At 3 an undamaged store's reader has published the first: where the two are equal, nothing changes.
+// ENTER of a reader that there is: 0 to 1 loads the version; 1 to 2 publishes it; 2 to 3 loads the version again;
+// 3 to 4 publishes the second; 4 to 5 picks the current slot.
+// At 3 an undamaged store's reader has published the first: where the two are equal, nothing changes.
 fn advance(words: &mut [u64], r: usize) -> Reply
     requires { ⌜ (length (now words) ≡ WORDS) × (r < readers (now words)) × (r < READERS-MAX) ⌝ }
-    ensures { λ a. ⌜ ((es : List ℤ) → damaged rules (state (now (words .entry)) es) ≡ false → outcome a (state (now (words .exit)) es) ≡ step rules (state (now (words .entry)) es) (Enter r)) ⌝ }
+    ensures { λ a. ⌜ ((es : List ℤ) → damaged rules (state (now (words .entry)) es) ≡ false →
+        outcome a (state (now (words .exit)) es)
+        ≡ step rules (state (now (words .entry)) es) (Enter r)) ⌝ }
 {
     let mut x = reader_at(words, r);
     let place = x.place;
     match place {
-        0 => {
-            x.place = 1;
+        PLACE_OUT => {
+            x.place = PLACE_LOADED;
             x.first = version_of(words);
             put_reader(words, r, x);
-            Reply::At(1)
+            Reply::At(PLACE_LOADED)
         }
-        1 => {
-            x.place = 2;
+        PLACE_LOADED => {
+            x.place = PLACE_PUBLISHED;
             x.published = x.first;
             put_reader(words, r, x);
-            Reply::At(2)
+            Reply::At(PLACE_PUBLISHED)
         }
-        2 => {
-            x.place = 3;
+        PLACE_PUBLISHED => {
+            x.place = PLACE_LOADED_AGAIN;
             x.second = version_of(words);
             put_reader(words, r, x);
-            Reply::At(3)
+            Reply::At(PLACE_LOADED_AGAIN)
         }
-        3 => {
-            x.place = 4;
+        PLACE_LOADED_AGAIN => {
+            x.place = PLACE_OPEN;
             x.published = x.second;
             put_reader(words, r, x);
-            Reply::At(4)
+            Reply::At(PLACE_OPEN)
         }
-        4 => {
-            x.place = 5;
+        PLACE_OPEN => {
+            x.place = PLACE_PICKED;
             x.picked = current_of(words);
             put_reader(words, r, x);
-            Reply::At(5)
+            Reply::At(PLACE_PICKED)
         }
         _ => Reply::Refused(READER_TURN),
     }
@@ -117,10 +127,10 @@ pub fn leave(words: &mut [u64], entries: &[Pitch], r: u16) -> Reply
     }
     let at = r as usize;
     let mut x = reader_at(words, at);
-    if x.place < 4 {
+    if x.place < PLACE_OPEN {
         return Reply::Refused(READER_TURN);
     }
-    x.place = 0;
+    x.place = PLACE_OUT;
     x.published = NOT_READING;
     put_reader(words, at, x);
     Reply::Left

@@ -38,7 +38,8 @@ fn looked_at(n: u64, passed: u64) -> u64
 
 // Up to b looks of a walk over n readers.
 fn looks(words: &[u64], n: u64, walk: WalkRecord, b: u16) -> Progress
-    requires { ⌜ (length (now words) ≡ WORDS) × (n ≤ READERS-MAX) × (walk .next < n) × (walk .looks + b ≤ NUMBER-MAX) × (walk .waits ≤ walk .looks) ⌝ }
+    requires { ⌜ (length (now words) ≡ WORDS) × (n ≤ READERS-MAX)
+        × (walk .next < n) × (walk .looks + b ≤ NUMBER-MAX) × (walk .waits ≤ walk .looks) ⌝ }
     ensures { λ k. ⌜ k ≡ looksFrom (now (words .entry)) n (walk .mark) (walk .waits) b (walk .next) (walk .looks) ⌝ }
 {
     let mut moved = walk;

@@ -1,4 +1,5 @@
-// Making and the ten calls for words of any kind: the kind word tells which store's call is run. In place on the lent words and entries.
+// Making and the ten calls for words of any kind: the kind word tells which store's call is run.
+// In place on the lent words and entries.
 // Each is total, and its contract is the step (or the making) of kinds_law. `run` takes any call as a value.
 // It knows nothing of a store but its length and its kind word.
 ghost use mathlib.Core.Path.{_≡_};
@@ -14,7 +15,8 @@ use calls::Reply;
 use layout::WORDS;
 use layout::kind_of;
 
-// Making a store of the kind with this number, in words and entries whatever they hold. A number that no kind has gets 1.
+// Making a store of the kind with this number, in words and entries whatever they hold.
+// A number that no kind has gets 1.
 pub fn make(
     words: &mut [u64],
     entries: &mut [Pitch],
@@ -25,7 +27,8 @@ pub fn make(
     version: u64,
 ) -> Reply
     ensures { λ a. ⌜ outcome a (state (now (words .exit)) (now (entries .exit)))
-        ≡ anyMaking kind (given readers publishers slots version) (state (now (words .entry)) (now (entries .entry))) ⌝ }
+        ≡ anyMaking kind (given readers publishers slots version)
+        (state (now (words .entry)) (now (entries .entry))) ⌝ }
 {
     let number = kind as u64;
     match number {

@@ -1,5 +1,7 @@
-// Where each number of a store stands among its words, and the records that are read out of them and written back by value.
-// specs/: the views of the words, and their laws, by which the crates above reason about records; only worked examples compute through the views.
+// Where each number of a store stands among its words,
+// and the records that are read out of them and written back by value.
+// specs/: the views of the words, and their laws, by which the crates above reason about records;
+// only worked examples compute through the views.
 ghost use mathlib.Core.Path.{_≡_};
 ghost use Prim.Native.Nat.{_<_};
 ghost use lib.ListN.{length, replicate};
@@ -253,7 +255,8 @@ fn clear(words: &mut [u64])
     }
 }
 
-// In words that are all 0: stores what each of the 64 readers has published. The publishers' records are the last of the words.
+// In words that are all 0: stores what each of the 64 readers has published.
+// The publishers' records are the last of the words.
 fn publish_all(words: &mut [u64], published: u64)
     requires { ⌜ now words ≡ replicate WORDS 0 ⌝ }
     ensures { λ _. ⌜ now (words .exit) ≡ withReaders READERS-MAX (replicate WORDS 0) (blankReader published) ⌝ }

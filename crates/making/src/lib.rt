@@ -38,7 +38,10 @@ use layout::version_of;
 
 // Whether the head damages a store of this kind, with so many entries, whose last version is given.
 pub fn head_damaged_of_kind(words: &[u64], entries: usize, kind: u64, last: u64) -> bool
-    ensures { λ b. ⌜ ((K : DamageRules) (es : List ℤ) → K .number ≡ kind → K .versions .tooLarge (version (now (words .entry))) ≡ ltb last (version (now (words .entry))) → length es ≡ entries → b ≡ anyTrue (headRows K (state (now (words .entry)) es))) ⌝ }
+    ensures { λ b. ⌜ ((K : DamageRules) (es : List ℤ) → K .number ≡ kind →
+        K .versions .tooLarge (version (now (words .entry))) ≡ ltb last (version (now (words .entry))) →
+        length es ≡ entries →
+        b ≡ anyTrue (headRows K (state (now (words .entry)) es))) ⌝ }
 {
     if words.len() != WORDS {
         return true;
@@ -73,7 +76,8 @@ pub fn head_damaged_of_kind(words: &[u64], entries: usize, kind: u64, last: u64)
 // Feathers the table at `base`, where all before it are feathered.
 fn feather_table(entries: &mut [Pitch], base: usize)
     requires { ⌜ (base + TABLE ≤ length (now entries)) × (take base (now entries) ≡ replicate base FEATHERED) ⌝ }
-    ensures { λ _. ⌜ (length (now (entries .exit)) ≡ length (now (entries .entry))) × (take (base + TABLE) (now (entries .exit)) ≡ replicate (base + TABLE) FEATHERED) ⌝ }
+    ensures { λ _. ⌜ (length (now (entries .exit)) ≡ length (now (entries .entry)))
+        × (take (base + TABLE) (now (entries .exit)) ≡ replicate (base + TABLE) FEATHERED) ⌝ }
 {
     for k in 0..TABLE {
         entries[base + k] = FEATHERED;
@@ -99,7 +103,9 @@ fn first_refusal(
     slots: u16,
     large: bool,
 ) -> u64
-    ensures { λ n. ⌜ ((vs : Versions) (w : List ℕ) (es : List ℤ) (version : ℕ) → length w ≡ «words_len» → length es ≡ «entries_len» → large ≡ vs .tooLarge version → n ≡ firstOf (makingTests vs (given readers publishers slots version) (state w es))) ⌝ }
+    ensures { λ n. ⌜ ((vs : Versions) (w : List ℕ) (es : List ℤ) (version : ℕ) →
+        length w ≡ «words_len» → length es ≡ «entries_len» → large ≡ vs .tooLarge version →
+        n ≡ firstOf (makingTests vs (given readers publishers slots version) (state w es))) ⌝ }
 {
     if words_len != WORDS {
         return DAMAGED;
@@ -122,7 +128,8 @@ fn first_refusal(
     0
 }
 
-// Making of a store of this kind, whose fresh readers have published this; the kind says whether the first version is too large.
+// Making of a store of this kind, whose fresh readers have published this;
+// the kind says whether the first version is too large.
 pub fn make_store(
     words: &mut [u64],
     entries: &mut [Pitch],
@@ -134,7 +141,11 @@ pub fn make_store(
     version: u64,
     large: bool,
 ) -> Reply
-    ensures { λ a. ⌜ ((vs : Versions) → large ≡ vs .tooLarge version → let s = state (now (words .entry)) (now (entries .entry)) in let g = given readers publishers slots version in outcome a (state (now (words .exit)) (now (entries .exit))) ≡ decide (makingTests vs g s) (outcome Made (made kind (blankReader published) g s)) s) ⌝ }
+    ensures { λ a. ⌜ ((vs : Versions) → large ≡ vs .tooLarge version →
+        let s = state (now (words .entry)) (now (entries .entry)) in
+        let g = given readers publishers slots version in
+        outcome a (state (now (words .exit)) (now (entries .exit)))
+        ≡ decide (makingTests vs g s) (outcome Made (made kind (blankReader published) g s)) s) ⌝ }
 {
     let n = first_refusal(
         words.len(),

@@ -17,6 +17,7 @@ use calls::NO_SUCH_PUBLISHER;
 use calls::NO_SUCH_READER;
 use calls::PITCH_HIGH;
 use calls::PITCH_LOW;
+use calls::PLACE_PICKED;
 use calls::PUBLISHER_TURN;
 use calls::Pitch;
 use calls::READER_TURN;
@@ -31,7 +32,9 @@ use layout::readers_of;
 // LOOK r k (place 5): entry k of the picked slot.
 pub fn look_up(words: &[u64], entries: &[Pitch], r: u16, k: u16) -> Reply
     requires { ⌜ InBounds (now words) × (length (now entries) ≡ slots (now words) * TABLE) ⌝ }
-    ensures { λ a. ⌜ (let s = state (now (words .entry)) (now (entries .entry)) in outcome a s ≡ decide (lookTests s r k) (look s r k) s) ⌝ }
+    ensures { λ a. ⌜ (let s = state (now (words .entry)) (now (entries .entry)) in
+        outcome a s
+        ≡ decide (lookTests s r k) (look s r k) s) ⌝ }
 {
     if r as u64 >= readers_of(words) {
         return Reply::Refused(NO_SUCH_READER);
@@ -40,7 +43,7 @@ pub fn look_up(words: &[u64], entries: &[Pitch], r: u16, k: u16) -> Reply
         return Reply::Refused(NO_SUCH_ENTRY);
     }
     let x = reader_at(words, r as usize);
-    if x.place != 5 {
+    if x.place != PLACE_PICKED {
         return Reply::Refused(READER_TURN);
     }
     let v = entries[x.picked as usize * TABLE + k as usize];
@@ -57,7 +60,9 @@ fn bad_pitch(v: Pitch) -> bool
 // WRITE p v: stores the next entry, and replies with the number written.
 pub fn write_entry(words: &mut [u64], entries: &mut [Pitch], p: u16, v: Pitch) -> Reply
     requires { ⌜ InBounds (now words) × (length (now entries) ≡ slots (now words) * TABLE) ⌝ }
-    ensures { λ a. ⌜ (let s = state (now (words .entry)) (now (entries .entry)) in outcome a (state (now (words .exit)) (now (entries .exit))) ≡ decide (writeTests s p v) (write s p v) s) ⌝ }
+    ensures { λ a. ⌜ (let s = state (now (words .entry)) (now (entries .entry)) in
+        outcome a (state (now (words .exit)) (now (entries .exit)))
+        ≡ decide (writeTests s p v) (write s p v) s) ⌝ }
 {
     if p as u64 >= publishers_of(words) {
         return Reply::Refused(NO_SUCH_PUBLISHER);

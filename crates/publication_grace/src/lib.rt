@@ -1,4 +1,5 @@
-// SYNC, RAISE and the end of a WALK of words that are not damaged, which the kinds share: a publisher's wait for a grace period.
+// SYNC, RAISE and the end of a WALK of words that are not damaged, which the kinds share:
+// a publisher's wait for a grace period.
 // A kind tests for damage first, and asks nothing of its own callers.
 // Its contracts cite publication_law.
 ghost use mathlib.Core.Path.{_≡_};
@@ -12,6 +13,10 @@ ghost use Rattle.statement.specs.Machine.{state, outcome};
 ghost use Rattle.publication_law.specs.Steps.{Versions, decide, syncTests, sync, raise, walk, placeAfter};
 ghost use Rattle.publication_law.specs.InBounds.{InBounds};
 use calls::NO_SUCH_PUBLISHER;
+use calls::PLACE_QUIET;
+use calls::PLACE_RAISED;
+use calls::PLACE_RETURNED;
+use calls::PLACE_SYNCHRONISING;
 use calls::PUBLISHER_TURN;
 use calls::Reply;
 use calls::VERSION_IS_LAST;
@@ -29,7 +34,12 @@ use layout::version_of;
 // SYNC p: 34 to 35, a walk with a new mark. Up to which version it is allowed is the kind's own.
 pub fn start_sync(words: &mut [u64], p: u16, limit: u64) -> Reply
     requires { ⌜ InBounds (now words) ⌝ }
-    ensures { λ a. ⌜ ((vs : Versions) (es : List ℤ) → vs .isLast (version (now (words .entry))) ≡ ltb limit (version (now (words .entry))) → vs .markAt (version (now (words .entry))) ≡ (version (now (words .entry)) + 1) % MODULUS → let s = state (now (words .entry)) es in outcome a (state (now (words .exit)) es) ≡ decide (syncTests vs s p) (sync vs s p) s) ⌝ }
+    ensures { λ a. ⌜ ((vs : Versions) (es : List ℤ) →
+        vs .isLast (version (now (words .entry))) ≡ ltb limit (version (now (words .entry))) →
+        vs .markAt (version (now (words .entry))) ≡ (version (now (words .entry)) + 1) % MODULUS →
+        let s = state (now (words .entry)) es in
+        outcome a (state (now (words .exit)) es)
+        ≡ decide (syncTests vs s p) (sync vs s p) s) ⌝ }
 {
     if p as u64 >= publishers_of(words) {
         return Reply::Refused(NO_SUCH_PUBLISHER);
@@ -50,7 +60,7 @@ pub fn start_sync(words: &mut [u64], p: u16, limit: u64) -> Reply
                 looks: 0,
                 waits: 0,
             };
-            y.place = 35;
+            y.place = PLACE_SYNCHRONISING;
             y.walk = walk;
             put_publisher(words, at, y);
             Reply::Synced(mark)
@@ -62,11 +72,13 @@ pub fn start_sync(words: &mut [u64], p: u16, limit: u64) -> Reply
 // The raise of publisher p, whose record is y; one before its mark is the kind's own.
 pub fn raise_version(words: &mut [u64], p: usize, y: Publisher, before: u64) -> Reply
     requires { ⌜ InBounds (now words) × (p < publishers (now words)) × (y ≡ publisherAt (now words) p) ⌝ }
-    ensures { λ a. ⌜ ((vs : Versions) (es : List ℤ) → before ≡ vs .beforeMark (y .walk .mark) → outcome a (state (now (words .exit)) es) ≡ raise vs (state (now (words .entry)) es) p) ⌝ }
+    ensures { λ a. ⌜ ((vs : Versions) (es : List ℤ) → before ≡ vs .beforeMark (y .walk .mark) →
+        outcome a (state (now (words .exit)) es)
+        ≡ raise vs (state (now (words .entry)) es) p) ⌝ }
 {
     let version = version_of(words);
     let mut moved = y;
-    moved.place = 37;
+    moved.place = PLACE_RAISED;
     put_publisher(words, p, moved);
     if version == before {
         put_version(words, moved.walk.mark);
@@ -82,15 +94,16 @@ fn place_after(place: u64, reply: WalkReply) -> u64
     match reply {
         WalkReply::Waiting(_) => place,
         WalkReply::Spent => place,
-        WalkReply::Quiet => 36,
-        WalkReply::Returned(_, _) => 38,
+        WalkReply::Quiet => PLACE_QUIET,
+        WalkReply::Returned(_, _) => PLACE_RETURNED,
     }
 }
 
 // The end of a WALK of publisher p, whose record is y: what its looks came to is recorded, and answered.
 pub fn end_walk(words: &mut [u64], p: usize, y: Publisher, k: Progress) -> Reply
     requires { ⌜ InBounds (now words) × (p < publishers (now words)) × (y ≡ publisherAt (now words) p) ⌝ }
-    ensures { λ a. ⌜ ((es : List ℤ) → outcome a (state (now (words .exit)) es) ≡ walk (state (now (words .entry)) es) p k) ⌝ }
+    ensures { λ a. ⌜ ((es : List ℤ) → outcome a (state (now (words .exit)) es)
+        ≡ walk (state (now (words .entry)) es) p k) ⌝ }
 {
     let reply = k.reply;
     let walk = k.walk;

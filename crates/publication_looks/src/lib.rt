@@ -1,5 +1,7 @@
-// The four numbers of a publisher's walk as a record that is lent by `&mut`: each look of a WALK, of either kind, is counted in it.
-// `count_look` takes the record apart and is proved by hand; every caller uses `look_counted`, whose parameters are plain.
+// The four numbers of a publisher's walk as a record that is lent by `&mut`:
+// each look of a WALK, of either kind, is counted in it.
+// `count_look` takes the record apart and is proved by hand;
+// every caller uses `look_counted`, whose parameters are plain.
 // Its contracts cite publication_law.
 ghost use mathlib.Core.Path.{_≡_};
 ghost use Rattle.layout.specs.Layout.{noWalk};

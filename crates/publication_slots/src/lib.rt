@@ -11,6 +11,9 @@ ghost use Rattle.publication_law.specs.InBounds.{InBounds};
 use calls::BUSY;
 use calls::NO_SUCH_PUBLISHER;
 use calls::NO_SUCH_SLOT;
+use calls::PLACE_CLAIMED;
+use calls::PLACE_IDLE;
+use calls::PLACE_SWAPPED;
 use calls::PUBLISHER_TURN;
 use calls::Reply;
 use calls::SLOT_IN_USE;
@@ -31,7 +34,7 @@ fn another_busy(words: &[u64], p: u16) -> bool
     let n = publishers_of(words);
     for q in 0..n {
         let y = publisher_at(words, q as usize);
-        if (q != p as u64) & (y.place != 0) {
+        if (q != p as u64) & (y.place != PLACE_IDLE) {
             return true;
         }
     }
@@ -60,7 +63,7 @@ fn in_use(words: &[u64], x: u64) -> bool
     let n = publishers_of(words);
     for q in 0..n {
         let y = publisher_at(words, q as usize);
-        if (y.place != 0) & (y.held == x) {
+        if (y.place != PLACE_IDLE) & (y.held == x) {
             return true;
         }
     }
@@ -70,7 +73,9 @@ fn in_use(words: &[u64], x: u64) -> bool
 // CLAIM p s: 0 to 1, holds s. Whether 31 is given is the kind's own.
 pub fn claim_slot(words: &mut [u64], p: u16, slot: u16, exclusive: bool) -> Reply
     requires { ⌜ InBounds (now words) ⌝ }
-    ensures { λ a. ⌜ ((es : List ℤ) → let s = state (now (words .entry)) es in outcome a (state (now (words .exit)) es) ≡ decide (claimTests exclusive s p slot) (claim s p slot) s) ⌝ }
+    ensures { λ a. ⌜ ((es : List ℤ) → let s = state (now (words .entry)) es in
+        outcome a (state (now (words .exit)) es)
+        ≡ decide (claimTests exclusive s p slot) (claim s p slot) s) ⌝ }
 {
     if p as u64 >= publishers_of(words) {
         return Reply::Refused(NO_SUCH_PUBLISHER);
@@ -90,7 +95,7 @@ pub fn claim_slot(words: &mut [u64], p: u16, slot: u16, exclusive: bool) -> Repl
             if in_use(words, wanted) {
                 return Reply::Refused(SLOT_IN_USE);
             }
-            y.place = 1;
+            y.place = PLACE_CLAIMED;
             y.held = wanted;
             put_publisher(words, at, y);
             Reply::Claimed(wanted)
@@ -102,7 +107,9 @@ pub fn claim_slot(words: &mut [u64], p: u16, slot: u16, exclusive: bool) -> Repl
 // SWAP p: 33 to 34. Its slot becomes current; it holds the former one, and replies with that.
 pub fn swap_in(words: &mut [u64], p: u16) -> Reply
     requires { ⌜ InBounds (now words) ⌝ }
-    ensures { λ a. ⌜ ((es : List ℤ) → let s = state (now (words .entry)) es in outcome a (state (now (words .exit)) es) ≡ decide (swapTests s p) (swap s p) s) ⌝ }
+    ensures { λ a. ⌜ ((es : List ℤ) → let s = state (now (words .entry)) es in
+        outcome a (state (now (words .exit)) es)
+        ≡ decide (swapTests s p) (swap s p) s) ⌝ }
 {
     if p as u64 >= publishers_of(words) {
         return Reply::Refused(NO_SUCH_PUBLISHER);
@@ -114,7 +121,7 @@ pub fn swap_in(words: &mut [u64], p: u16) -> Reply
         33 => {
             let former = current_of(words);
             let slot = y.held;
-            y.place = 34;
+            y.place = PLACE_SWAPPED;
             y.held = former;
             put_publisher(words, at, y);
             put_current(words, slot);
@@ -127,7 +134,9 @@ pub fn swap_in(words: &mut [u64], p: u16) -> Reply
 // RELEASE p: 38 to 0, which frees the held slot; one more release.
 pub fn release_slot(words: &mut [u64], p: u16) -> Reply
     requires { ⌜ InBounds (now words) ⌝ }
-    ensures { λ a. ⌜ ((es : List ℤ) → let s = state (now (words .entry)) es in outcome a (state (now (words .exit)) es) ≡ decide (releaseTests s p) (release s p) s) ⌝ }
+    ensures { λ a. ⌜ ((es : List ℤ) → let s = state (now (words .entry)) es in
+        outcome a (state (now (words .exit)) es)
+        ≡ decide (releaseTests s p) (release s p) s) ⌝ }
 {
     if p as u64 >= publishers_of(words) {
         return Reply::Refused(NO_SUCH_PUBLISHER);
@@ -138,7 +147,7 @@ pub fn release_slot(words: &mut [u64], p: u16) -> Reply
     match place {
         38 => {
             let releases = std::num::wrapping_add_u64(releases_of(words), 1);
-            y.place = 0;
+            y.place = PLACE_IDLE;
             put_publisher(words, at, y);
             put_releases(words, releases);
             Reply::Freed(y.held, releases)

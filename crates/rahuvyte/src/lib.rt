@@ -1,5 +1,7 @@
-// The C library: making and the ten calls for a store of any kind as functions of C over lent slices, the reply three numbers by value.
-// Each function is total, and its contract is the step (or the making) of kinds_law, through `numbersOf`. A call goes by the kind word here, as in kinds (docs/DECISIONS.md says why).
+// The C library: making and the ten calls for a store of any kind as functions of C over lent slices,
+// the reply three numbers by value.
+// Each function is total, and its contract is the step (or the making) of kinds_law, through `numbersOf`.
+// A call goes by the kind word here, as in kinds (docs/DECISIONS.md says why).
 ghost use mathlib.Core.Path.{_≡_};
 ghost use Rattle.calls.specs.declared.Call.the-variants.{Enter, Look, Leave, Claim, Write, Swap, Sync, Raise, Walk, Release};
 ghost use Rattle.statement.specs.Machine.{state, given};
@@ -35,7 +37,9 @@ pub extern "C" fn rahuvyte_make(
     slots: u16,
     version: u64,
 ) -> ReplyNumbers
-    ensures { λ a. ⌜ OutcomeForC a (state (now (store .exit)) (now (entries .exit))) (anyMaking kind (given readers publishers slots version) (state (now (store .entry)) (now (entries .entry)))) ⌝ }
+    ensures { λ a. ⌜ OutcomeForC a (state (now (store .exit)) (now (entries .exit)))
+        (anyMaking kind (given readers publishers slots version)
+        (state (now (store .entry)) (now (entries .entry)))) ⌝ }
 {
     numbers_of(kinds::make(store, entries, kind, readers, publishers, slots, version))
 }
@@ -43,7 +47,8 @@ pub extern "C" fn rahuvyte_make(
 // ENTER r: one place on.
 #[no_mangle]
 pub extern "C" fn rahuvyte_enter(store: &mut [u64], entries: &[Pitch], r: u16) -> ReplyNumbers
-    ensures { λ a. ⌜ OutcomeForC a (state (now (store .exit)) (now (entries .entry))) (anyStep (state (now (store .entry)) (now (entries .entry))) (Enter r)) ⌝ }
+    ensures { λ a. ⌜ OutcomeForC a (state (now (store .exit)) (now (entries .entry)))
+        (anyStep (state (now (store .entry)) (now (entries .entry))) (Enter r)) ⌝ }
 {
     if store.len() != WORDS {
         return numbers_of(Reply::Refused(DAMAGED));
@@ -59,7 +64,8 @@ pub extern "C" fn rahuvyte_enter(store: &mut [u64], entries: &[Pitch], r: u16) -
 // LOOK r k: entry k of the slot that reader r picked.
 #[no_mangle]
 pub extern "C" fn rahuvyte_look(store: &[u64], entries: &[Pitch], r: u16, k: u16) -> ReplyNumbers
-    ensures { λ a. ⌜ OutcomeForC a (state (now (store .entry)) (now (entries .entry))) (anyStep (state (now (store .entry)) (now (entries .entry))) (Look r k)) ⌝ }
+    ensures { λ a. ⌜ OutcomeForC a (state (now (store .entry)) (now (entries .entry)))
+        (anyStep (state (now (store .entry)) (now (entries .entry))) (Look r k)) ⌝ }
 {
     if store.len() != WORDS {
         return numbers_of(Reply::Refused(DAMAGED));
@@ -75,7 +81,8 @@ pub extern "C" fn rahuvyte_look(store: &[u64], entries: &[Pitch], r: u16, k: u16
 // LEAVE r: to place 0.
 #[no_mangle]
 pub extern "C" fn rahuvyte_leave(store: &mut [u64], entries: &[Pitch], r: u16) -> ReplyNumbers
-    ensures { λ a. ⌜ OutcomeForC a (state (now (store .exit)) (now (entries .entry))) (anyStep (state (now (store .entry)) (now (entries .entry))) (Leave r)) ⌝ }
+    ensures { λ a. ⌜ OutcomeForC a (state (now (store .exit)) (now (entries .entry)))
+        (anyStep (state (now (store .entry)) (now (entries .entry))) (Leave r)) ⌝ }
 {
     if store.len() != WORDS {
         return numbers_of(Reply::Refused(DAMAGED));
@@ -96,7 +103,8 @@ pub extern "C" fn rahuvyte_claim(
     p: u16,
     slot: u16,
 ) -> ReplyNumbers
-    ensures { λ a. ⌜ OutcomeForC a (state (now (store .exit)) (now (entries .entry))) (anyStep (state (now (store .entry)) (now (entries .entry))) (Claim p slot)) ⌝ }
+    ensures { λ a. ⌜ OutcomeForC a (state (now (store .exit)) (now (entries .entry)))
+        (anyStep (state (now (store .entry)) (now (entries .entry))) (Claim p slot)) ⌝ }
 {
     if store.len() != WORDS {
         return numbers_of(Reply::Refused(DAMAGED));
@@ -117,7 +125,8 @@ pub extern "C" fn rahuvyte_write(
     p: u16,
     v: Pitch,
 ) -> ReplyNumbers
-    ensures { λ a. ⌜ OutcomeForC a (state (now (store .exit)) (now (entries .exit))) (anyStep (state (now (store .entry)) (now (entries .entry))) (Write p v)) ⌝ }
+    ensures { λ a. ⌜ OutcomeForC a (state (now (store .exit)) (now (entries .exit)))
+        (anyStep (state (now (store .entry)) (now (entries .entry))) (Write p v)) ⌝ }
 {
     if store.len() != WORDS {
         return numbers_of(Reply::Refused(DAMAGED));
@@ -133,7 +142,8 @@ pub extern "C" fn rahuvyte_write(
 // SWAP p: its slot becomes current; it holds the former one.
 #[no_mangle]
 pub extern "C" fn rahuvyte_swap(store: &mut [u64], entries: &[Pitch], p: u16) -> ReplyNumbers
-    ensures { λ a. ⌜ OutcomeForC a (state (now (store .exit)) (now (entries .entry))) (anyStep (state (now (store .entry)) (now (entries .entry))) (Swap p)) ⌝ }
+    ensures { λ a. ⌜ OutcomeForC a (state (now (store .exit)) (now (entries .entry)))
+        (anyStep (state (now (store .entry)) (now (entries .entry))) (Swap p)) ⌝ }
 {
     if store.len() != WORDS {
         return numbers_of(Reply::Refused(DAMAGED));
@@ -149,7 +159,8 @@ pub extern "C" fn rahuvyte_swap(store: &mut [u64], entries: &[Pitch], p: u16) ->
 // SYNC p: a walk with a new mark begins.
 #[no_mangle]
 pub extern "C" fn rahuvyte_sync(store: &mut [u64], entries: &[Pitch], p: u16) -> ReplyNumbers
-    ensures { λ a. ⌜ OutcomeForC a (state (now (store .exit)) (now (entries .entry))) (anyStep (state (now (store .entry)) (now (entries .entry))) (Sync p)) ⌝ }
+    ensures { λ a. ⌜ OutcomeForC a (state (now (store .exit)) (now (entries .entry)))
+        (anyStep (state (now (store .entry)) (now (entries .entry))) (Sync p)) ⌝ }
 {
     if store.len() != WORDS {
         return numbers_of(Reply::Refused(DAMAGED));
@@ -165,7 +176,8 @@ pub extern "C" fn rahuvyte_sync(store: &mut [u64], entries: &[Pitch], p: u16) ->
 // RAISE p: the version becomes the mark, if it is one before it.
 #[no_mangle]
 pub extern "C" fn rahuvyte_raise(store: &mut [u64], entries: &[Pitch], p: u16) -> ReplyNumbers
-    ensures { λ a. ⌜ OutcomeForC a (state (now (store .exit)) (now (entries .entry))) (anyStep (state (now (store .entry)) (now (entries .entry))) (Raise p)) ⌝ }
+    ensures { λ a. ⌜ OutcomeForC a (state (now (store .exit)) (now (entries .entry)))
+        (anyStep (state (now (store .entry)) (now (entries .entry))) (Raise p)) ⌝ }
 {
     if store.len() != WORDS {
         return numbers_of(Reply::Refused(DAMAGED));
@@ -186,7 +198,8 @@ pub extern "C" fn rahuvyte_walk(
     p: u16,
     b: u16,
 ) -> ReplyNumbers
-    ensures { λ a. ⌜ OutcomeForC a (state (now (store .exit)) (now (entries .entry))) (anyStep (state (now (store .entry)) (now (entries .entry))) (Walk p b)) ⌝ }
+    ensures { λ a. ⌜ OutcomeForC a (state (now (store .exit)) (now (entries .entry)))
+        (anyStep (state (now (store .entry)) (now (entries .entry))) (Walk p b)) ⌝ }
 {
     if store.len() != WORDS {
         return numbers_of(Reply::Refused(DAMAGED));
@@ -202,7 +215,8 @@ pub extern "C" fn rahuvyte_walk(
 // RELEASE p: the held slot is free; one more release.
 #[no_mangle]
 pub extern "C" fn rahuvyte_release(store: &mut [u64], entries: &[Pitch], p: u16) -> ReplyNumbers
-    ensures { λ a. ⌜ OutcomeForC a (state (now (store .exit)) (now (entries .entry))) (anyStep (state (now (store .entry)) (now (entries .entry))) (Release p)) ⌝ }
+    ensures { λ a. ⌜ OutcomeForC a (state (now (store .exit)) (now (entries .entry)))
+        (anyStep (state (now (store .entry)) (now (entries .entry))) (Release p)) ⌝ }
 {
     if store.len() != WORDS {
         return numbers_of(Reply::Refused(DAMAGED));

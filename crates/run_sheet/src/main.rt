@@ -1,4 +1,5 @@
-// The run-sheet program: a sheet on standard input, and a line for each of its lines on standard output. It has the loop of reads and writes and nothing else;
+// The run-sheet program: a sheet on standard input, and a line for each of its lines on standard output.
+// It has the loop of reads and writes and nothing else;
 // all that is known of lines, commands and replies stands in the library below it.
 ghost use Prim.Native.Nat.{_≤_};
 ghost use mathlib.Core.Path.{_≡_};
@@ -47,7 +48,8 @@ struct AfterRead {
     written: bool,
 }
 
-// The bytes of one read: the output is written whenever it is full, and at their end. What is kept is what the bytes fed make of it: the first of the read, and all of them if all could be written.
+// The bytes of one read: the output is written whenever it is full, and at their end.
+// What is kept is what the bytes fed make of it: the first of the read, and all of them if all could be written.
 fn feed_read(
     words: &mut [u64],
     room: &mut [Pitch],
@@ -59,7 +61,11 @@ fn feed_read(
 ) -> AfterRead
     requires { ⌜ length (now kept) ≡ KEPT ⌝ }
     requires { ⌜ PRINTED-MAX ≤ length (now out) ⌝ }
-    ensures { λ r. ⌜ ReadFed (sheetState lines (take count (now (kept .entry))) (state (now (words .entry)) (now (room .entry)))) (now (input .entry)) (sheetState (r .lines) (take (r .count) (now (kept .exit))) (state (now (words .exit)) (now (room .exit)))) (r .written) ⌝ }
+    ensures { λ r. ⌜ ReadFed
+        (sheetState lines (take count (now (kept .entry))) (state (now (words .entry)) (now (room .entry))))
+        (now (input .entry))
+        (sheetState (r .lines) (take (r .count) (now (kept .exit))) (state (now (words .exit)) (now (room .exit))))
+        (r .written) ⌝ }
 {
     let mut read = lines;
     let mut held = count;
@@ -85,7 +91,8 @@ fn feed_read(
     }
 }
 
-// A proved loop has to end, and nothing says that the input does: the loop counts its reads down, from a number that no run uses up.
+// A proved loop has to end, and nothing says that the input does:
+// the loop counts its reads down, from a number that no run uses up.
 fn main() {
     let mut words = [0u64; WORDS];
     let mut room: [Pitch; ROOM] = [0; ROOM];

@@ -1,5 +1,7 @@
-// A run sheet from bytes to bytes, by the definition of sheet_law, however the input is cut into reads, on the lent words of a store and the lent room for its entries.
-// `feed` takes the bytes of a read and prints a line for each line that ends in them, as far as the output has room; `finish` is for the end of the input.
+// A run sheet from bytes to bytes, by the definition of sheet_law, however the input is cut into reads,
+// on the lent words of a store and the lent room for its entries.
+// `feed` takes the bytes of a read and prints a line for each line that ends in them, as far as the output has room;
+// `finish` is for the end of the input.
 ghost use mathlib.Core.Path.{_≡_};
 ghost use lib.ListN.{length, take};
 ghost use Rattle.statement.specs.Machine.{state};
@@ -72,7 +74,8 @@ fn line_in(kept: &[u8], count: usize) -> Line
     parse(&kept[..count])
 }
 
-// The bytes of a read: each line that ends in them is played, and its line printed, from the start of the output on, as far as there is room. With other than 81 bytes to keep a line in nothing is done.
+// The bytes of a read: each line that ends in them is played, and its line printed, from the start of the output on,
+// as far as there is room. With other than 81 bytes to keep a line in nothing is done.
 pub fn feed(
     words: &mut [u64],
     room: &mut [Pitch],
@@ -82,7 +85,11 @@ pub fn feed(
     input: &[u8],
     out: &mut [u8],
 ) -> Fed
-    ensures { λ r. ⌜ FeedsIn (length (now (kept .entry))) (sheetState lines (take count (now (kept .entry))) (state (now (words .entry)) (now (room .entry)))) (now (input .entry)) (r .used) (sheetState (r .lines) (take (r .count) (now (kept .exit))) (state (now (words .exit)) (now (room .exit)))) (now (out .entry)) (now (out .exit)) (r .made) ⌝ }
+    ensures { λ r. ⌜ FeedsIn (length (now (kept .entry)))
+        (sheetState lines (take count (now (kept .entry))) (state (now (words .entry)) (now (room .entry))))
+        (now (input .entry)) (r .used)
+        (sheetState (r .lines) (take (r .count) (now (kept .exit))) (state (now (words .exit)) (now (room .exit))))
+        (now (out .entry)) (now (out .exit)) (r .made) ⌝ }
 {
     if kept.len() != KEPT {
         return feed_result(lines, count, 0, 0);
@@ -122,7 +129,11 @@ pub fn finish(
     count: usize,
     out: &mut [u8],
 ) -> Fed
-    ensures { λ r. ⌜ FeedsIn (length (now (kept .entry))) (sheetState lines (take count (now (kept .entry))) (state (now (words .entry)) (now (room .entry)))) (ending (take count (now (kept .entry)))) (r .used) (sheetState (r .lines) (take (r .count) (now (kept .exit))) (state (now (words .exit)) (now (room .exit)))) (now (out .entry)) (now (out .exit)) (r .made) ⌝ }
+    ensures { λ r. ⌜ FeedsIn (length (now (kept .entry)))
+        (sheetState lines (take count (now (kept .entry))) (state (now (words .entry)) (now (room .entry))))
+        (ending (take count (now (kept .entry)))) (r .used)
+        (sheetState (r .lines) (take (r .count) (now (kept .exit))) (state (now (words .exit)) (now (room .exit))))
+        (now (out .entry)) (now (out .exit)) (r .made) ⌝ }
 {
     if count == 0 {
         return feed_result(lines, count, 0, 0);

@@ -1,4 +1,5 @@
-// The fields of a run sheet's line, by the definitions of sheet_law: words compared, a text cut at its first space, decimals and pitches read.
+// The fields of a run sheet's line, by the definitions of sheet_law:
+// words compared, a text cut at its first space, decimals and pitches read.
 // Every public function is total.
 ghost use Prim.Native.Nat.{_-_, _<_, _≤_};
 ghost use mathlib.Core.Path.{_≡_};
@@ -49,7 +50,9 @@ pub struct Parts {
 }
 
 pub fn split_at_space(s: &[u8]) -> Parts
-    ensures { λ r. ⌜ (r .end ≤ length (now (s .entry))) × (r .next ≤ length (now (s .entry))) × (take (r .end) (now (s .entry)) ≡ upToSpace (now (s .entry))) × (drop (r .next) (now (s .entry)) ≡ afterSpace (now (s .entry))) ⌝ }
+    ensures { λ r. ⌜ (r .end ≤ length (now (s .entry))) × (r .next ≤ length (now (s .entry)))
+        × (take (r .end) (now (s .entry)) ≡ upToSpace (now (s .entry)))
+        × (drop (r .next) (now (s .entry)) ≡ afterSpace (now (s .entry))) ⌝ }
 {
     let mut i: usize = 0;
     while i < s.len() {

@@ -1,4 +1,5 @@
-// A reply to its bytes: the line that a run sheet prints for it, by the definition of sheet_law, put into a lent buffer.
+// A reply to its bytes: the line that a run sheet prints for it, by the definition of sheet_law,
+// put into a lent buffer.
 // The public functions take any buffer and any place in it, and write nothing where the longest line would not fit.
 ghost use Prim.Native.Nat.{_+_, _≤_};
 ghost use mathlib.Core.Path.{_≡_};

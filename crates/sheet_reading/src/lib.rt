@@ -165,7 +165,8 @@ fn run(read: bool, call: Call) -> Line
     Line::Unread
 }
 
-// A word with its arguments: all of the text as one number, or a number up to the space and a number or a pitch after it.
+// A word with its arguments: all of the text as one number,
+// or a number up to the space and a number or a pitch after it.
 fn command(w: Keyword, s: &[u8]) -> Line
     ensures { λ r. ⌜ r ≡ Reading·command w (now (s .entry)) ⌝ }
 {

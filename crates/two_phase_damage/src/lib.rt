@@ -14,6 +14,12 @@ ghost use Rattle.statement.specs.Machine.{state};
 ghost use Rattle.publication_law.specs.Damage.{headRows, readersTest, publishersTest};
 ghost use Rattle.two_phase_law.specs.Steps.{damageRules, miscountedAt, rules};
 use calls::KIND_OLD;
+use calls::PLACE_IDLE;
+use calls::PLACE_OPEN;
+use calls::PLACE_PICKED;
+use calls::PLACE_PUBLISHED;
+use calls::PLACE_RETURNED;
+use calls::PLACE_SYNCHRONISING;
 use calls::PUBLISHERS_MAX;
 use calls::READERS_MAX;
 use layout::WORDS;
@@ -34,22 +40,23 @@ pub const LAST: u64 = 9223372036854775807;
 fn first_readers_damaged(words: &[u64], n: u64, slots: u64) -> bool
     requires { ⌜ (length (now words) ≡ WORDS) × (n ≤ READERS-MAX) ⌝ }
     ensures { λ b. ⌜ b
-        ≡ (anyBelow (λ r. damageRules .readerDamaged n slots (readerAt (now (words .entry)) r)) n || (miscountedAt (now (words .entry)) n 0 || miscountedAt (now (words .entry)) n 1)) ⌝ }
+        ≡ (anyBelow (λ r. damageRules .readerDamaged n slots (readerAt (now (words .entry)) r)) n
+        || (miscountedAt (now (words .entry)) n 0 || miscountedAt (now (words .entry)) n 1)) ⌝ }
 {
     let mut counts = [0u64; 2];
     for r in 0..n {
         let place = reader_place(words, r as usize);
-        if place == 5 {
+        if place == PLACE_PICKED {
             let x = reader_at(words, r as usize);
             if x.picked >= slots {
                 return true;
             }
         } else {
-            if place < 2 {
+            if place < PLACE_PUBLISHED {
                 continue;
             }
             // 2 and 3 are the new store's
-            if place != 4 {
+            if place != PLACE_OPEN {
                 return true;
             }
         }
@@ -63,20 +70,21 @@ fn first_readers_damaged(words: &[u64], n: u64, slots: u64) -> bool
 // Whether publisher p is damaged.
 fn publisher_damaged(words: &[u64], p: usize, slots: u64) -> bool
     requires { ⌜ (length (now words) ≡ WORDS) × (p < PUBLISHERS-MAX) ⌝ }
-    ensures { λ b. ⌜ ((readers : ℕ) → b ≡ damageRules .publisherDamaged readers slots (publisherAt (now (words .entry)) p)) ⌝ }
+    ensures { λ b. ⌜ ((readers : ℕ) →
+        b ≡ damageRules .publisherDamaged readers slots (publisherAt (now (words .entry)) p)) ⌝ }
 {
     let place = publisher_place(words, p);
-    if place == 0 {
+    if place == PLACE_IDLE {
         return false;
     }
     let y = publisher_at(words, p);
     if y.held >= slots {
         return true;
     }
-    if place < 35 {
+    if place < PLACE_SYNCHRONISING {
         return false;
     }
-    if place > 38 {
+    if place > PLACE_RETURNED {
         return true;
     }
     let walk = y.walk;
@@ -89,7 +97,8 @@ fn publisher_damaged(words: &[u64], p: usize, slots: u64) -> bool
 // Whether one of the first n publishers is damaged.
 fn first_publishers_damaged(words: &[u64], n: u64, slots: u64) -> bool
     requires { ⌜ (length (now words) ≡ WORDS) × (n ≤ PUBLISHERS-MAX) ⌝ }
-    ensures { λ b. ⌜ ((readers : ℕ) → b ≡ anyBelow (λ p. damageRules .publisherDamaged readers slots (publisherAt (now (words .entry)) p)) n) ⌝ }
+    ensures { λ b. ⌜ ((readers : ℕ) →
+        b ≡ anyBelow (λ p. damageRules .publisherDamaged readers slots (publisherAt (now (words .entry)) p)) n) ⌝ }
 {
     for p in 0..n {
         if publisher_damaged(words, p as usize, slots) {
@@ -101,14 +110,17 @@ fn first_publishers_damaged(words: &[u64], n: u64, slots: u64) -> bool
 
 // Whether the head damages a store with these words and so many entries.
 pub fn head_is_damaged(words: &[u64], entries: usize) -> bool
-    ensures { λ b. ⌜ ((es : List ℤ) → length es ≡ entries → b ≡ anyTrue (headRows damageRules (state (now (words .entry)) es))) ⌝ }
+    ensures { λ b. ⌜ ((es : List ℤ) → length es ≡ entries →
+        b ≡ anyTrue (headRows damageRules (state (now (words .entry)) es))) ⌝ }
 {
     head_damaged_of_kind(words, entries, KIND_OLD, LAST)
 }
 
 // Whether the readers or the indicators damage it.
 pub fn readers_are_damaged(words: &[u64]) -> bool
-    ensures { λ b. ⌜ ((es : List ℤ) → b ≡ (readersTest damageRules (state (now (words .entry)) es) || rules .further (state (now (words .entry)) es))) ⌝ }
+    ensures { λ b. ⌜ ((es : List ℤ) →
+        b ≡ (readersTest damageRules (state (now (words .entry)) es)
+        || rules .further (state (now (words .entry)) es))) ⌝ }
 {
     if words.len() != WORDS {
         return true;

@@ -9,6 +9,7 @@ ghost use Rattle.two_phase_law.specs.Steps.{watched, lookAt, rules};
 use calls::DAMAGED;
 use calls::NO_SUCH_PUBLISHER;
 use calls::NUMBER_MAX;
+use calls::PLACE_SYNCHRONISING;
 use calls::PUBLISHER_TURN;
 use calls::Pitch;
 use calls::Reply;
@@ -30,7 +31,7 @@ fn looked_at(y: Publisher) -> u64
     ensures { λ i. ⌜ i ≡ watched y ⌝ }
 {
     let parity = y.walk.mark % 2;
-    if y.place == 35 {
+    if y.place == PLACE_SYNCHRONISING {
         return parity;
     }
     1 - parity
@@ -58,7 +59,7 @@ fn look(count: u64, y: Publisher, b: u16) -> Progress
         };
     }
     let moved = look_counted(walk, 0, 0);
-    if y.place == 35 {
+    if y.place == PLACE_SYNCHRONISING {
         let reply = WalkReply::Quiet;
         return Progress {
             walk: moved,

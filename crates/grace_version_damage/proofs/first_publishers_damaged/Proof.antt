@@ -26,6 +26,7 @@ loop-holds c = (search needs, none-first _)
 publisher-damaged-requires : tie.Need-publisher-damaged-requires Inv-loop μ-loop
 publisher-damaged-requires c κs = search needs
 
+-- true: publisher p is damaged
 returns : tie.Need-returns Inv-loop μ-loop
 returns c = sym (some-below _ _ _ (c .before .before .loop-test .taken) (sym (c .before .publisher-damaged .ensures) ∙ c .if1 .taken))
 
@@ -38,6 +39,7 @@ loop-less c = search needs
 loop-again : tie.Need-loop-again Inv-loop μ-loop
 loop-again c = (search needs, none-more _ _ (c .before .before .before .loop .inv .1) (sym (c .before .publisher-damaged .ensures) ∙ c .if1 .left))
 
+-- false: none is
 returns-2 : tie.Need-returns-2 Inv-loop μ-loop
 returns-2 c = let e : c .before .loop .p ≡ c .before .before .before .args .n = omega arith in sym (rw e at (c .before .loop .inv .1))
 

@@ -13,6 +13,7 @@ use Rattle.layout.proofs.publishers_of.Reads as publishers-of-reads
 use Rattle.layout.proofs.readers_of.Reads as readers-of-reads
 use Rattle.layout.proofs.slots_of.Reads as slots-of-reads
 
+-- true: the number of words
 returns : tie.Need-returns
 returns c = λ es. rw (ne-eqb _ _ (c .if1 .taken)) refl
 
@@ -22,6 +23,7 @@ publishers-of-requires c κs = search needs
 cast-if2 : tie.Need-cast-if2
 cast-if2 c = search needs
 
+-- true: the number of publishers
 returns-2 : tie.Need-returns-2
 returns-2 c = λ es. rw (eq-eqb _ _ (c .before .before .if1 .left), rw (c .before .publishers-of .ensures) at (c .if2 .taken)) refl
 
@@ -34,6 +36,7 @@ slots-of-requires c κs = search needs
 first-publishers-damaged-requires : tie.Need-first-publishers-damaged-requires
 first-publishers-damaged-requires c κs = omega (arith, within 1 16 (c .before .before .before .publishers-of .result) (c .before .before .if2 .left))
 
+-- what first_publishers_damaged says
 returns-3 : tie.Need-returns-3
 returns-3 c = λ es. rw (eq-eqb _ _ (c .before .before .before .before .before .if1 .left), rw (c .before .before .before .before .publishers-of .ensures) at (c .before .before .before .if2 .left)) (rw (c .before .before .before .before .publishers-of .ensures, c .before .before .readers-of .ensures, c .before .slots-of .ensures) at (c .first-publishers-damaged .ensures))
 

@@ -43,6 +43,7 @@ publishers-are-damaged-requires c κs = search needs
 same-length : tie.Need-same-length
 same-length c = search needs
 
+-- 1 damaged
 returns : tie.Need-returns
 returns c = step-damaged rules _ (Swap _) (store-damaged c)
 
@@ -52,6 +53,7 @@ swap-in-requires c κs = in-bounds-of rules law _ (clean (c .before))
 same-length-2 : tie.Need-same-length-2
 same-length-2 c = search needs
 
+-- what swap_in replies
 returns-2 : tie.Need-returns-2
 returns-2 c = c .before .before .swap-in .ensures (c .before .before .before .before .before .before .before .before .before .before .before .before .before .before .args .entries .now) ∙ step-undamaged rules _ (Swap _) (clean (c .before .before .before .before))
 

@@ -46,6 +46,7 @@ publishers-are-damaged-requires c κs = search needs
 same-length : tie.Need-same-length
 same-length c = search needs
 
+-- 1 damaged
 returns : tie.Need-returns
 returns c = step-damaged rules _ (Enter _) (store-damaged c)
 
@@ -55,6 +56,7 @@ readers-of-requires c κs = in-bounds-of rules law _ (clean (c .before)) .long
 same-length-2 : tie.Need-same-length-2
 same-length-2 c = search needs
 
+-- 10 no such reader
 returns-2 : tie.Need-returns-2
 unfolding step
 returns-2 c = rw (clean (c .before .before .before), le-leb _ _ (rw (c .before .readers-of .ensures) at (c .if4 .taken))) refl
@@ -65,6 +67,7 @@ advance-requires c κs = (in-bounds-of rules law _ (clean (c .before .before .be
 same-length-3 : tie.Need-same-length-3
 same-length-3 c = search needs
 
+-- what advance replies
 returns-3 : tie.Need-returns-3
 returns-3 c = c .before .before .advance .ensures _ (clean (c .before .before .before .before .before .before .before))
 

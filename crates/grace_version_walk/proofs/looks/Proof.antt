@@ -54,12 +54,15 @@ loop-again c = let is = c .before .before .look-counted2 .ensures in (
   c .before .before .before .before .before .before .before .before .before .loop .inv .5 ∙ looks-on _ _ _ _ _ (omega arith) is (rw (c .before .before .before .before .before .before .reader-at .ensures, c .before .before .before .before .before .before .before .looked-at .ensures) at (c .before .before .before .if2 .left)) (omega arith),
 )
 
+-- spent
 returns : tie.Need-returns Inv-loop μ-loop
 returns c = sym (c .before .loop .inv .5 ∙ looks-spent _ _ _ _ (omega arith))
 
+-- waiting
 returns-2 : tie.Need-returns-2 Inv-loop μ-loop
 returns-2 c = rw (c .before .before .before .before .before .looked-at .ensures) (sym (c .before .before .before .before .before .before .before .loop .inv .5 ∙ looks-wait _ _ _ _ _ (omega arith) (c .look-counted .ensures) (rw (c .before .before .before .before .reader-at .ensures, c .before .before .before .before .before .looked-at .ensures) at (c .before .if2 .taken))))
 
+-- returned
 returns-3 : tie.Need-returns-3 Inv-loop μ-loop
 returns-3 c = sym (c .before .before .before .before .before .before .before .before .before .loop .inv .5 ∙ looks-return _ _ _ _ _ (omega arith) (c .before .before .look-counted2 .ensures) (rw (c .before .before .before .before .before .before .reader-at .ensures, c .before .before .before .before .before .before .before .looked-at .ensures) at (c .before .before .before .if2 .left)) (omega arith))
 

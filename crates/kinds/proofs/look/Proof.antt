@@ -10,6 +10,7 @@ use Rattle.kinds.proofs.look.Lts as lts
 use Rattle.grace_version_readers.proofs.look.Reads as look-reads
 use Rattle.layout.proofs.kind_of.Reads as kind-of-reads
 
+-- 1 damaged: the number of words
 returns : tie.Need-returns
 returns c = step-length _ (Look _ _) (c .if1 .taken)
 
@@ -22,12 +23,15 @@ look-requires c κs = tt
 look-requires-2 : tie.Need-look-requires-2
 look-requires-2 c κs = tt
 
+-- a new store
 returns-2 : tie.Need-returns-2
 returns-2 c = c .look .ensures ∙ step-new _ (Look _ _) (c .before .before .kind-of .ensures) (c .before .match .keys1)
 
+-- an old store
 returns-3 : tie.Need-returns-3
 returns-3 c = c .look2 .ensures ∙ step-old _ (Look _ _) (c .before .before .kind-of .ensures) (c .before .match .keys2)
 
+-- 1 damaged: no kind
 returns-4 : tie.Need-returns-4
 returns-4 c = step-unknown _ (Look _ _) (c .before .kind-of .ensures) (c .match .rest .0 .1) (c .match .rest .1)
 

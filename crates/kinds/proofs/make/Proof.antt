@@ -20,6 +20,7 @@ same-length c = search needs
 same-length-2 : tie.Need-same-length-2
 same-length-2 c = search needs
 
+-- a new store
 returns : tie.Need-returns
 returns c = c .before .before .before .make .ensures ∙ making-new _ _ _ (c .before .before .before .before .before .before .match .keys1)
 
@@ -29,9 +30,11 @@ same-length-3 c = search needs
 same-length-4 : tie.Need-same-length-4
 same-length-4 c = search needs
 
+-- an old store
 returns-2 : tie.Need-returns-2
 returns-2 c = c .before .before .before .make2 .ensures ∙ making-old _ _ _ (c .before .before .before .before .before .before .match .keys2)
 
+-- 1 damaged: no kind
 returns-3 : tie.Need-returns-3
 returns-3 c = making-unknown _ _ _ (c .match .rest .0 .1) (c .match .rest .1)
 

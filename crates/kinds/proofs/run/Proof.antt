@@ -84,6 +84,7 @@ same-length c = search needs
 same-length-2 : tie.Need-same-length-2
 same-length-2 c = search needs
 
+-- ENTER
 returns : tie.Need-returns
 returns c = c .before .before .enter .ensures ∙ ap (anyStep _) (sym (c .before .before .before .before .before .before .call .given .1))
 
@@ -93,6 +94,7 @@ same-length-3 c = search needs
 same-length-4 : tie.Need-same-length-4
 same-length-4 c = search needs
 
+-- LOOK
 returns-2 : tie.Need-returns-2
 returns-2 c = c .look .ensures ∙ ap (anyStep _) (sym (c .before .before .before .before .call2 .given .1))
 
@@ -102,6 +104,7 @@ same-length-5 c = search needs
 same-length-6 : tie.Need-same-length-6
 same-length-6 c = search needs
 
+-- LEAVE
 returns-3 : tie.Need-returns-3
 returns-3 c = c .before .before .leave .ensures ∙ ap (anyStep _) (sym (c .before .before .before .before .before .before .call3 .given .1))
 
@@ -111,6 +114,7 @@ same-length-7 c = search needs
 same-length-8 : tie.Need-same-length-8
 same-length-8 c = search needs
 
+-- CLAIM
 returns-4 : tie.Need-returns-4
 returns-4 c = c .before .before .claim .ensures ∙ ap (anyStep _) (sym (c .before .before .before .before .before .before .call4 .given .1))
 
@@ -120,6 +124,7 @@ same-length-9 c = search needs
 same-length-10 : tie.Need-same-length-10
 same-length-10 c = search needs
 
+-- WRITE
 returns-5 : tie.Need-returns-5
 returns-5 c = (simp (pitch-back (c .before .before .before .before .before .before .before .call5 .given .0 .1 .0) (c .before .before .before .before .before .before .known-told5 .given .1 .0 .1)) at (c .before .before .before .write .ensures)) ∙ ap (anyStep _) (sym (c .before .before .before .before .before .before .before .call5 .given .1))
 
@@ -129,6 +134,7 @@ same-length-11 c = search needs
 same-length-12 : tie.Need-same-length-12
 same-length-12 c = search needs
 
+-- SWAP
 returns-6 : tie.Need-returns-6
 returns-6 c = c .before .before .swap .ensures ∙ ap (anyStep _) (sym (c .before .before .before .before .before .before .call6 .given .1))
 
@@ -138,6 +144,7 @@ same-length-13 c = search needs
 same-length-14 : tie.Need-same-length-14
 same-length-14 c = search needs
 
+-- SYNC
 returns-7 : tie.Need-returns-7
 returns-7 c = c .before .before .sync .ensures ∙ ap (anyStep _) (sym (c .before .before .before .before .before .before .call7 .given .1))
 
@@ -147,6 +154,7 @@ same-length-15 c = search needs
 same-length-16 : tie.Need-same-length-16
 same-length-16 c = search needs
 
+-- RAISE
 returns-8 : tie.Need-returns-8
 returns-8 c = c .before .before .raise .ensures ∙ ap (anyStep _) (sym (c .before .before .before .before .before .before .call8 .given .1))
 
@@ -156,6 +164,7 @@ same-length-17 c = search needs
 same-length-18 : tie.Need-same-length-18
 same-length-18 c = search needs
 
+-- WALK
 returns-9 : tie.Need-returns-9
 returns-9 c = c .before .before .walk .ensures ∙ ap (anyStep _) (sym (c .before .before .before .before .before .before .call9 .given .1))
 
@@ -165,6 +174,7 @@ same-length-19 c = search needs
 same-length-20 : tie.Need-same-length-20
 same-length-20 c = search needs
 
+-- RELEASE
 returns-10 : tie.Need-returns-10
 returns-10 c = c .before .before .release .ensures ∙ ap (anyStep _) (sym (c .before .before .before .before .before .before .call10 .given .1))
 

@@ -11,6 +11,7 @@ use Rattle.kinds.proofs.write.Lts as lts
 use Rattle.grace_version_publishers.proofs.write.Reads as write-reads
 use Rattle.layout.proofs.kind_of.Reads as kind-of-reads
 
+-- 1 damaged: the number of words
 returns : tie.Need-returns
 returns c = step-length _ (Write _ _) (c .if1 .taken)
 
@@ -29,6 +30,7 @@ same-length c = search needs
 same-length-2 : tie.Need-same-length-2
 same-length-2 c = search needs
 
+-- a new store
 returns-2 : tie.Need-returns-2
 returns-2 c = (simp (toZ-ofZ _ _ (c .before .before .before .before .before .before .before .before .before .before .before .fits .v)) at (c .before .before .before .write .ensures)) ∙ step-new _ (Write _ _) (c .before .before .before .before .before .before .before .kind-of .ensures) (c .before .before .before .before .before .before .match .keys1)
 
@@ -38,12 +40,14 @@ same-length-3 c = search needs
 same-length-4 : tie.Need-same-length-4
 same-length-4 c = search needs
 
+-- an old store
 returns-3 : tie.Need-returns-3
 returns-3 c = (simp (toZ-ofZ _ _ (c .before .before .before .before .before .before .before .before .before .before .before .fits .v)) at (c .before .before .before .write2 .ensures)) ∙ step-old _ (Write _ _) (c .before .before .before .before .before .before .before .kind-of .ensures) (c .before .before .before .before .before .before .match .keys2)
 
 same-length-5 : tie.Need-same-length-5
 same-length-5 c = search needs
 
+-- 1 damaged: no kind
 returns-4 : tie.Need-returns-4
 returns-4 c = step-unknown _ (Write _ _) (c .before .kind-of .ensures) (c .match .rest .0 .1) (c .match .rest .1)
 

@@ -8,27 +8,34 @@ use Rattle.making.proofs.first_refusal.Tie as tie
 use Rattle.making.proofs.first_refusal.Reads as reads
 use Rattle.making.proofs.first_refusal.Lts as lts
 
+-- 1 damaged: the number of words
 returns : tie.Need-returns
 returns c = λ vs w es v a b e. rw (a, ne-eqb _ _ (c .if1 .taken)) refl
 
+-- 2 readers out of range
 returns-2 : tie.Need-returns-2
 returns-2 c = λ vs w es v a b e. rw (a, eq-eqb _ _ (c .before .if1 .left), c .if2 .taken) refl
 
+-- 3 publishers out of range
 returns-3 : tie.Need-returns-3
 returns-3 c = λ vs w es v a b e. rw (a, eq-eqb _ _ (c .before .before .if1 .left), c .before .if2 .left, c .if3 .taken) refl
 
+-- 4 slots out of range
 returns-4 : tie.Need-returns-4
 returns-4 c = λ vs w es v a b e. rw (a, eq-eqb _ _ (c .before .before .before .if1 .left), c .before .before .if2 .left, c .before .if3 .left, c .if4 .taken) refl
 
 mul-if5 : tie.Need-mul-if5
 mul-if5 c = omega (arith, within 2 32 (c .before .before .before .before .args .slots) (c .if4 .left))
 
+-- 5 wrong number of entries
 returns-5 : tie.Need-returns-5
 returns-5 c = λ vs w es v a b e. rw (a, eq-eqb _ _ (c .before .before .before .before .if1 .left), c .before .before .before .if2 .left, c .before .before .if3 .left, c .before .if4 .left, b, ne-eqb _ _ (c .if5 .taken)) refl
 
+-- 6 first version above the last
 returns-6 : tie.Need-returns-6
 returns-6 c = λ vs w es v a b e. rw (a, eq-eqb _ _ (c .before .before .before .before .before .if1 .left), c .before .before .before .before .if2 .left, c .before .before .before .if3 .left, c .before .before .if4 .left, b, eq-eqb _ _ (c .before .if5 .left), sym e ∙ c .if6 .taken) refl
 
+-- 0: no row applies
 returns-7 : tie.Need-returns-7
 returns-7 c = λ vs w es v a b e. rw (a, eq-eqb _ _ (c .before .before .before .before .before .if1 .left), c .before .before .before .before .if2 .left, c .before .before .before .if3 .left, c .before .before .if4 .left, b, eq-eqb _ _ (c .before .if5 .left), sym e ∙ c .if6 .left) refl
 

@@ -26,6 +26,7 @@ fits c = making-unrefused _ _ _ (sym (c .before .first-refusal .ensures (some (c
 first-refusal-requires : tie.Need-first-refusal-requires
 first-refusal-requires c κs = search needs
 
+-- refused with what first_refusal gives
 returns : tie.Need-returns
 returns c = λ vs e. make-refused vs (c .before .before .before .args .words .now) (c .before .before .before .args .entries .now) (c .before .before .before .args .kind) (c .before .before .before .args .readers) (c .before .before .before .args .publishers) (c .before .before .before .args .slots) (c .before .before .before .args .version) (blankReader (c .before .before .before .args .published)) _ (c .if1 .taken)
     (c .before .first-refusal .ensures vs (c .before .before .before .args .words .now) (c .before .before .before .args .entries .now) (c .before .before .before .args .version) refl refl e)
@@ -42,6 +43,7 @@ same-length c = search needs
 same-length-2 : tie.Need-same-length-2
 same-length-2 c = search needs
 
+-- made
 returns-2 : tie.Need-returns-2
 returns-2 c = λ vs e. make-is vs (c .before .before .before .before .before .before .before .before .before .before .args .words .now) (c .before .before .before .before .before .before .before .before .before .before .args .entries .now) (c .before .before .before .before .before .before .before .before .before .before .args .kind) (c .before .before .before .before .before .before .before .before .before .before .args .readers) (c .before .before .before .before .before .before .before .before .before .before .args .publishers) (c .before .before .before .before .before .before .before .before .before .before .args .slots) (c .before .before .before .before .before .before .before .before .before .before .args .version) (blankReader (c .before .before .before .before .before .before .before .before .before .before .args .published)) _ _
     (sym (c .before .before .before .before .before .before .before .before .first-refusal .ensures vs (c .before .before .before .before .before .before .before .before .before .before .args .words .now) (c .before .before .before .before .before .before .before .before .before .before .args .entries .now) (c .before .before .before .before .before .before .before .before .before .before .args .version) refl refl e) ∙ c .before .before .before .before .before .before .before .if1 .left) (c .before .before .before .before .before .put-fresh .ensures) (c .before .feather .ensures)

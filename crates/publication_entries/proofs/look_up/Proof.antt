@@ -23,15 +23,18 @@ picked c = rw (c .before .before .reader-at .ensures) (c .before .before .before
 readers-of-requires : tie.Need-readers-of-requires
 readers-of-requires c κs = c .before .pre .0 .long
 
+-- 10 no such reader
 returns : tie.Need-returns
 returns c = rw (le-leb _ _ (rw (c .before .readers-of .ensures) at (c .if1 .taken))) refl
 
+-- 13 no such entry
 returns-2 : tie.Need-returns-2
 returns-2 c = rw (lt-leb _ _ (rw (c .before .before .readers-of .ensures) at (c .before .if1 .left)), lt-ltb 31 _ (c .if2 .taken)) refl
 
 reader-at-requires : tie.Need-reader-at-requires
 reader-at-requires c κs = omega (arith, c .before .before .before .before .pre .0)
 
+-- 20 not this reader's turn
 returns-3 : tie.Need-returns-3
 returns-3 c = rw (lt-leb _ _ (rw (c .before .before .before .before .before .readers-of .ensures) at (c .before .before .before .before .if1 .left)), le-ltb 31 (c .before .before .before .before .before .before .before .args .k) (omega (arith, c .before .before .before .if2 .left)), ne-eqb _ 5 (rw (c .before .before .reader-at .ensures) at (c .if3 .taken))) refl
 
@@ -47,6 +50,7 @@ mul-v-2 c = omega (arith, picked c, c .before .before .before .before .before .b
 shared-slice-copy-out-v : tie.Need-shared-slice-copy-out-v
 shared-slice-copy-out-v c = omega (arith, picked c, c .before .before .before .before .before .before .before .pre .0, c .before .before .before .before .before .before .before .pre .1)
 
+-- pitch
 returns-4 : tie.Need-returns-4
 returns-4 c =
     let said = pitch-back (getD (c .before .before .before .before .before .before .before .before .args .entries .now) (c .before .before .before .reader-at .result .picked * 32 + c .before .before .before .before .before .before .before .before .args .k) (pos 0)) (c .v .given) in

@@ -34,6 +34,7 @@ publishers-of-requires c κs = c .before .before .pre .0 .long
 same-length : tie.Need-same-length
 same-length c = search needs
 
+-- 11 no such publisher
 returns : tie.Need-returns
 returns c = rw (le-leb _ _ (rw (c .before .publishers-of .ensures) at (c .if1 .taken))) refl
 
@@ -43,6 +44,7 @@ bad-pitch-requires c κs = search needs
 same-length-2 : tie.Need-same-length-2
 same-length-2 c = search needs
 
+-- 14 pitch out of range
 returns-2 : tie.Need-returns-2
 returns-2 c = rw (lt-leb _ _ (rw (c .before .before .before .publishers-of .ensures) at (c .before .before .if1 .left)), pitch-wrong c) refl
 
@@ -76,18 +78,21 @@ same-length-3 c = search needs
 same-length-4 : tie.Need-same-length-4
 same-length-4 c = search needs
 
+-- written
 returns-3 : tie.Need-returns-3
 returns-3 c = simp (toZ-ofZ _ _ (c .before .before .before .before .before .before .before .before .before .before .before .before .before .before .fits .v)) (write-is _ _ _ (rw (c .before .before .before .before .before .before .before .before .before .before .before .publishers-of .ensures) at (c .before .before .before .before .before .before .before .before .before .before .if1 .left)) (c .before .before .before .before .before .before .publisher-at .ensures) _ (c .before .before .before .before .before .before .before .before .before .before .before .before .before .before .args .entries .now) (c .before .before .before .before .before .before .before .before .before .before .before .before .before .before .args .v) (pitch-is (c .before .before .before .before .before .before .before .before)) (c .before .before .before .before .before .if3 .left) (omega (arith, c .before .before .before .before .if4 .taken)) (c .before .before .put-publisher .ensures))
 
 same-length-5 : tie.Need-same-length-5
 same-length-5 c = search needs
 
+-- 21 not this publisher's turn: below 1
 returns-4 : tie.Need-returns-4
 returns-4 c = rw (lt-leb _ _ (rw (c .before .before .before .before .before .before .publishers-of .ensures) at (c .before .before .before .before .before .if1 .left)), pitch-is (c .before .before .before), lt-ltb _ 1 (rw (c .before .publisher-at .ensures) at (c .if3 .taken))) refl
 
 same-length-6 : tie.Need-same-length-6
 same-length-6 c = search needs
 
+-- 21 not this publisher's turn: above 32
 returns-5 : tie.Need-returns-5
 returns-5 c = rw (lt-leb _ _ (rw (c .before .before .before .before .before .before .before .publishers-of .ensures) at (c .before .before .before .before .before .before .if1 .left)), pitch-is (c .before .before .before .before), le-ltb _ 1 (rw (c .before .before .publisher-at .ensures) at (c .before .if3 .left)), lt-ltb 32 _ (rw (c .before .before .publisher-at .ensures) at (c .if4 .left))) refl
 

@@ -23,12 +23,14 @@ put-version-requires c κs = search needs
 same-length : tie.Need-same-length
 same-length c = search needs
 
+-- raised
 returns : tie.Need-returns
 returns c = λ vs es e. raised-is _ _ _ (c .before .before .before .before .before .before .before .before .before .before .before .before .pre .1) (c .before .before .before .before .before .before .before .before .before .before .before .before .pre .2) vs _ (sym (c .before .before .before .before .before .before .before .before .before .version-of .ensures) ∙ c .before .before .before .before .if1 .taken ∙ e) (rw (c .before .before .before .before .before .before .before .put-publisher .ensures) at (c .before .before .put-version .ensures)) es
 
 same-length-2 : tie.Need-same-length-2
 same-length-2 c = search needs
 
+-- shared
 returns-2 : tie.Need-returns-2
 returns-2 c = λ vs es e. shared-is _ _ _ (c .before .before .before .before .before .before .before .before .pre .1) (c .before .before .before .before .before .before .before .before .pre .2) vs _ (λ z. c .if1 .left (c .before .before .before .before .before .version-of .ensures ∙ z ∙ sym e)) (c .before .before .before .put-publisher .ensures) es
 

@@ -23,6 +23,7 @@ publishers-of-requires c κs = c .before .before .pre .long
 same-length : tie.Need-same-length
 same-length c = search needs
 
+-- 11 no such publisher
 returns : tie.Need-returns
 returns c = λ vs es a m. rw (le-leb _ _ (rw (c .before .publishers-of .ensures) at (c .if1 .taken))) refl
 
@@ -35,6 +36,7 @@ version-of-requires c κs = c .before .before .before .before .before .before .b
 same-length-2 : tie.Need-same-length-2
 same-length-2 c = search needs
 
+-- 32 version is the last
 returns-2 : tie.Need-returns-2
 returns-2 c = λ vs es a m. rw (lt-leb _ _ (rw (c .before .before .before .before .before .before .before .publishers-of .ensures) at (c .before .before .before .before .before .before .if1 .left)), rw (c .before .before .before .before .publisher-place .ensures) at (c .before .before .before .match .keys1), a ∙ lt-ltb _ _ (rw (c .before .version-of .ensures) at (c .if2 .taken))) refl
 
@@ -50,6 +52,7 @@ put-publisher-requires c κs = omega (arith, c .before .before .before .before .
 same-length-3 : tie.Need-same-length-3
 same-length-3 c = search needs
 
+-- synced
 returns-3 : tie.Need-returns-3
 returns-3 c = λ vs es a m. sync-is _ _ _ (rw (c .before .before .before .before .before .before .before .before .before .before .before .before .before .before .publishers-of .ensures) at (c .before .before .before .before .before .before .before .before .before .before .before .before .before .if1 .left)) (c .before .before .before .before .publisher-at .ensures) vs _ _ (ap (λ (y : Publisher). y .place) (c .before .before .before .before .publisher-at .ensures) ∙ sym (c .before .before .before .before .before .before .before .before .before .before .before .publisher-place .ensures) ∙ c .before .before .before .before .before .before .before .before .before .before .match .keys1)
     (a ∙ le-ltb _ _ (rw (c .before .before .before .before .before .before .before .before .version-of .ensures) at (c .before .before .before .before .before .before .before .if2 .left)))
@@ -58,6 +61,7 @@ returns-3 c = λ vs es a m. sync-is _ _ _ (rw (c .before .before .before .before
 same-length-4 : tie.Need-same-length-4
 same-length-4 c = search needs
 
+-- 21 not this publisher's turn
 returns-4 : tie.Need-returns-4
 returns-4 c = λ vs es a m. rw (lt-leb _ _ (rw (c .before .before .before .before .publishers-of .ensures) at (c .before .before .before .if1 .left)), ne-eqb _ 34 (rw (c .before .publisher-place .ensures) at (c .match .rest .1))) refl
 

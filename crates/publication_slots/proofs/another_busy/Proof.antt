@@ -30,6 +30,7 @@ loop-holds c = (search needs, none-first _)
 publisher-at-requires : tie.Need-publisher-at-requires Inv-loop μ-loop
 publisher-at-requires c κs = omega (arith, c .before .before .before .before .pre, c .before .before .publishers-of .ensures)
 
+-- true: publisher q, other than p, is not at 0
 returns : tie.Need-returns Inv-loop μ-loop
 returns c = λ es. sym (some-below _ _ _ (rw (c .before .before .before .before .before .publishers-of .ensures) at (c .before .before .before .loop-test .taken)) (rw (c .before .before .publisher-at .ensures) at (c .if1 .taken)))
 
@@ -42,6 +43,7 @@ loop-less c = search needs
 loop-again : tie.Need-loop-again Inv-loop μ-loop
 loop-again c = (search needs, none-more _ _ (c .before .before .before .before .loop .inv .1) (rw (c .before .before .publisher-at .ensures) at (c .if1 .left)))
 
+-- false: none is so
 returns-2 : tie.Need-returns-2 Inv-loop μ-loop
 returns-2 c = λ es. let e : c .before .loop .q ≡ c .before .before .publishers-of .result = omega arith in sym (rw (e, c .before .before .publishers-of .ensures) at (c .before .loop .inv .1))
 

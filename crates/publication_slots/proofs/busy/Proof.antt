@@ -10,9 +10,11 @@ use Rattle.publication_slots.proofs.another_busy.Reads as another-busy-
 another-busy-requires : tie.Need-another-busy-requires
 another-busy-requires c κs = search needs
 
+-- what another_busy says
 returns : tie.Need-returns
 returns c = λ es. rw (c .before .if1 .taken) (c .another-busy .ensures es)
 
+-- false: the kind does not have 31
 returns-2 : tie.Need-returns-2
 returns-2 c = λ es. rw (c .if1 .left) refl
 

@@ -21,6 +21,7 @@ publishers-of-requires c κs = c .before .before .pre .long
 same-length : tie.Need-same-length
 same-length c = search needs
 
+-- 11 no such publisher
 returns : tie.Need-returns
 returns c = λ es. rw (le-leb _ _ (rw (c .before .publishers-of .ensures) at (c .if1 .taken))) refl
 
@@ -30,6 +31,7 @@ slots-of-requires c κs = c .before .before .before .before .before .pre .long
 same-length-2 : tie.Need-same-length-2
 same-length-2 c = search needs
 
+-- 12 no such slot
 returns-2 : tie.Need-returns-2
 returns-2 c = λ es. rw (lt-leb _ _ (rw (c .before .before .before .before .publishers-of .ensures) at (c .before .before .before .if1 .left)), le-leb _ _ (rw (c .before .slots-of .ensures) at (c .if2 .taken))) refl
 
@@ -42,6 +44,7 @@ busy-requires c κs = c .before .before .before .before .before .before .before 
 same-length-3 : tie.Need-same-length-3
 same-length-3 c = search needs
 
+-- 31 another publisher is busy
 returns-3 : tie.Need-returns-3
 returns-3 c = λ es. rw (lt-leb _ _ (rw (c .before .before .before .before .before .before .before .before .before .before .publishers-of .ensures) at (c .before .before .before .before .before .before .before .before .before .if1 .left)), lt-leb _ _ (rw (c .before .before .before .before .before .before .before .slots-of .ensures) at (c .before .before .before .before .before .before .if2 .left)), rw (c .before .before .before .before .publisher-at .ensures) at (c .before .before .before .match .keys1), sym (c .before .busy .ensures es) ∙ c .if3 .taken) refl
 
@@ -51,6 +54,7 @@ in-use-requires c κs = c .before .before .before .before .before .before .befor
 same-length-4 : tie.Need-same-length-4
 same-length-4 c = search needs
 
+-- 30 slot in use
 returns-4 : tie.Need-returns-4
 returns-4 c = λ es. rw (lt-leb _ _ (rw (c .before .before .before .before .before .before .before .before .before .before .before .before .before .publishers-of .ensures) at (c .before .before .before .before .before .before .before .before .before .before .before .before .if1 .left)), lt-leb _ _ (rw (c .before .before .before .before .before .before .before .before .before .before .slots-of .ensures) at (c .before .before .before .before .before .before .before .before .before .if2 .left)), rw (c .before .before .before .before .before .before .before .publisher-at .ensures) at (c .before .before .before .before .before .before .match .keys1), sym (c .before .before .before .before .busy .ensures es) ∙ c .before .before .before .if3 .left, sym (c .before .in-use .ensures es) ∙ c .if4 .taken) refl
 
@@ -60,6 +64,7 @@ put-publisher-requires c κs = omega (arith, c .before .before .before .before .
 same-length-5 : tie.Need-same-length-5
 same-length-5 c = search needs
 
+-- claimed
 returns-5 : tie.Need-returns-5
 returns-5 c = claim-is _ _ _ (rw (c .before .before .before .before .before .before .before .before .before .before .before .before .before .before .before .before .before .publishers-of .ensures) at (c .before .before .before .before .before .before .before .before .before .before .before .before .before .before .before .before .if1 .left)) (c .before .before .before .before .before .before .before .before .before .before .before .publisher-at .ensures) _ (c .before .before .before .before .before .before .before .before .before .before .before .before .before .before .before .before .before .before .before .before .args .exclusive) _ (rw (c .before .before .before .before .before .before .before .before .before .before .before .before .before .before .slots-of .ensures) at (c .before .before .before .before .before .before .before .before .before .before .before .before .before .if2 .left)) (c .before .before .before .before .before .before .before .before .before .before .match .keys1)
     (λ es. sym (c .before .before .before .before .before .before .before .before .busy .ensures es) ∙ c .before .before .before .before .before .before .before .if3 .left) (λ es. sym (c .before .before .before .before .before .in-use .ensures es) ∙ c .before .before .before .before .if4 .left) (c .before .before .put-publisher .ensures)
@@ -67,6 +72,7 @@ returns-5 c = claim-is _ _ _ (rw (c .before .before .before .before .before .bef
 same-length-6 : tie.Need-same-length-6
 same-length-6 c = search needs
 
+-- 21 not this publisher's turn
 returns-6 : tie.Need-returns-6
 returns-6 c = λ es. rw (lt-leb _ _ (rw (c .before .before .before .before .before .before .before .publishers-of .ensures) at (c .before .before .before .before .before .before .if1 .left)), lt-leb _ _ (rw (c .before .before .before .before .slots-of .ensures) at (c .before .before .before .if2 .left)), ne-eqb _ 0 (rw (c .before .publisher-at .ensures) at (c .match .rest .1))) refl
 

@@ -26,6 +26,7 @@ abbrev μ-loop : tie.MeasureT-loop
 current-of-requires : tie.Need-current-of-requires Inv-loop μ-loop
 current-of-requires c κs = c .before .pre .long
 
+-- true: x is current
 returns : tie.Need-returns Inv-loop μ-loop
 returns c = λ es. rw (eq-eqb _ _ (sym (c .before .current-of .ensures) ∙ c .if1 .taken)) refl
 
@@ -38,6 +39,7 @@ loop-holds c = (search needs, none-first _)
 publisher-at-requires : tie.Need-publisher-at-requires Inv-loop μ-loop
 publisher-at-requires c κs = omega (arith, c .before .before .before .before .before .before .pre, c .before .before .publishers-of .ensures)
 
+-- true: publisher q holds x
 returns-2 : tie.Need-returns-2 Inv-loop μ-loop
 returns-2 c = λ es. rw (ne-eqb _ _ (λ z. c .before .before .before .before .before .before .before .if1 .left (c .before .before .before .before .before .before .before .before .current-of .ensures ∙ z))) (sym (some-below _ _ _ (rw (c .before .before .before .before .before .before .publishers-of .ensures) at (c .before .before .before .before .loop-test .taken)) (rw (c .before .before .before .publisher-at .ensures) at (c .if2 .taken))))
 
@@ -50,6 +52,7 @@ loop-less c = search needs
 loop-again : tie.Need-loop-again Inv-loop μ-loop
 loop-again c = (search needs, none-more _ _ (c .before .before .before .before .before .loop .inv .1) (rw (c .before .before .before .publisher-at .ensures) at (c .if2 .left)))
 
+-- false
 returns-3 : tie.Need-returns-3 Inv-loop μ-loop
 returns-3 c = λ es. let e : c .before .loop .q ≡ c .before .before .publishers-of .result = omega arith in rw (ne-eqb _ _ (λ z. c .before .before .before .if1 .left (c .before .before .before .before .current-of .ensures ∙ z))) (sym (rw (e, c .before .before .publishers-of .ensures) at (c .before .loop .inv .1)))
 

@@ -18,6 +18,7 @@ use Rattle.reply_numbers.proofs.numbers_of.Reads as numbers-of-reads
 numbers-of-requires : tie.Need-numbers-of-requires
 numbers-of-requires c κs = search needs
 
+-- 1 damaged: the number of words
 returns : tie.Need-returns
 returns c = outcome-for-c _ (Refused DAMAGED) _ _ (c .numbers-of .ensures) (step-length _ (Write _ _) (c .before .if1 .taken))
 
@@ -45,6 +46,7 @@ same-length c = search needs
 same-length-2 : tie.Need-same-length-2
 same-length-2 c = search needs
 
+-- a new store
 returns-2 : tie.Need-returns-2
 returns-2 c = outcome-for-c _ _ _ _ (c .numbers-of2 .ensures) ((simp (toZ-ofZ _ _ (c .before .before .before .before .before .before .before .before .before .before .before .before .fits .v)) at (c .before .before .before .before .write .ensures)) ∙ step-new _ (Write _ _) (c .before .before .before .before .before .before .before .before .kind-of .ensures) (c .before .before .before .before .before .before .before .match .keys1))
 
@@ -54,12 +56,14 @@ same-length-3 c = search needs
 same-length-4 : tie.Need-same-length-4
 same-length-4 c = search needs
 
+-- an old store
 returns-3 : tie.Need-returns-3
 returns-3 c = outcome-for-c _ _ _ _ (c .numbers-of3 .ensures) ((simp (toZ-ofZ _ _ (c .before .before .before .before .before .before .before .before .before .before .before .before .fits .v)) at (c .before .before .before .before .write2 .ensures)) ∙ step-old _ (Write _ _) (c .before .before .before .before .before .before .before .before .kind-of .ensures) (c .before .before .before .before .before .before .before .match .keys2))
 
 same-length-5 : tie.Need-same-length-5
 same-length-5 c = search needs
 
+-- 1 damaged: no kind
 returns-4 : tie.Need-returns-4
 returns-4 c = outcome-for-c _ (Refused DAMAGED) _ _ (c .numbers-of4 .ensures) (step-unknown _ (Write _ _) (c .before .before .kind-of .ensures) (c .before .match .rest .0 .1) (c .before .match .rest .1))
 

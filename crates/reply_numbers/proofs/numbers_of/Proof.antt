@@ -92,42 +92,55 @@ enum-known-reply-9 c = search needs
 reply-numbers-requires-12 : tie.Need-reply-numbers-requires-12
 reply-numbers-requires-12 c κs = search needs
 
+-- made
 returns : tie.Need-returns
 returns c = c .reply-numbers .ensures ∙ ap numbersOf (sym (c .before .enum-told .given .1))
 
+-- at
 returns-2 : tie.Need-returns-2
 returns-2 c = c .reply-numbers2 .ensures ∙ ap numbersOf (sym (c .before .before .reply .given .1))
 
+-- pitch
 returns-3 : tie.Need-returns-3
 returns-3 c = c .reply-numbers3 .ensures ∙ rw (c .before .pitch-number .ensures, pitch-back (c .before .before .before .reply2 .given .0 .0) (c .before .before .known-told2 .given .0 .1)) (ap numbersOf (sym (c .before .before .before .reply2 .given .1)))
 
+-- left
 returns-4 : tie.Need-returns-4
 returns-4 c = c .reply-numbers4 .ensures ∙ ap numbersOf (sym (c .before .enum-told2 .given .1))
 
+-- claimed
 returns-5 : tie.Need-returns-5
 returns-5 c = c .reply-numbers5 .ensures ∙ ap numbersOf (sym (c .before .before .reply3 .given .1))
 
+-- written
 returns-6 : tie.Need-returns-6
 returns-6 c = c .reply-numbers6 .ensures ∙ ap numbersOf (sym (c .before .before .reply4 .given .1))
 
+-- swapped
 returns-7 : tie.Need-returns-7
 returns-7 c = c .reply-numbers7 .ensures ∙ ap numbersOf (sym (c .before .before .reply5 .given .1))
 
+-- synced
 returns-8 : tie.Need-returns-8
 returns-8 c = c .reply-numbers8 .ensures ∙ ap numbersOf (sym (c .before .before .reply6 .given .1))
 
+-- raised
 returns-9 : tie.Need-returns-9
 returns-9 c = c .reply-numbers9 .ensures ∙ ap numbersOf (sym (c .before .enum-told3 .given .1))
 
+-- shared
 returns-10 : tie.Need-returns-10
 returns-10 c = c .reply-numbers10 .ensures ∙ ap numbersOf (sym (c .before .enum-told4 .given .1))
 
+-- walked
 returns-11 : tie.Need-returns-11
 returns-11 c = c .walk-numbers .ensures ∙ ap numbersOf (sym (c .before .before .reply7 .given .1))
 
+-- freed
 returns-12 : tie.Need-returns-12
 returns-12 c = c .reply-numbers11 .ensures ∙ ap numbersOf (sym (c .before .before .reply8 .given .1))
 
+-- refused
 returns-13 : tie.Need-returns-13
 returns-13 c = c .reply-numbers12 .ensures ∙ ap numbersOf (sym (c .before .before .reply9 .given .1))
 

@@ -47,6 +47,7 @@ lower-number (negsuc n) e = rw (below n) refl
 cast-result : tie.Need-cast-result
 cast-result c = let t = simp (toZ-ofZ _ _ (c .before .fits .v)) at (c .if1 .taken) in simp (toZ-ofZ _ _ (c .before .fits .v)) (plain (c .before .args .v) t (c .before .fits .v .sfits))
 
+-- 0 and above
 returns : tie.Need-returns
 returns c = let t = simp (toZ-ofZ _ _ (c .before .fits .v)) at (c .if1 .taken) in simp (toZ-ofZ _ _ (c .before .fits .v)) (plain-number (c .before .args .v) t)
 
@@ -59,6 +60,7 @@ cast-result-2 c = let t = simp (toZ-ofZ _ _ (c .before .fits .v)) at (c .if1 .le
 sub-result-2 : tie.Need-sub-result-2
 sub-result-2 c = let t = simp (toZ-ofZ _ _ (c .before .fits .v)) at (c .if1 .left) in let f = lower (c .before .args .v) t (c .before .fits .v .sfits) in simp (toZ-ofZ _ _ (c .before .fits .v), toZ-ofZ _ _ f) (omega (arith, lower-sign (c .before .args .v) t (c .before .fits .v .sfits) .1))
 
+-- below 0
 returns-2 : tie.Need-returns-2
 returns-2 c = let t = simp (toZ-ofZ _ _ (c .before .fits .v)) at (c .if1 .left) in let f = lower (c .before .args .v) t (c .before .fits .v .sfits) in simp (toZ-ofZ _ _ (c .before .fits .v), toZ-ofZ _ _ f) (lower-number (c .before .args .v) t)
 

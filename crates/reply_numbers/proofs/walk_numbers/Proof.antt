@@ -32,15 +32,19 @@ enum-known-reply-2 c = search needs
 reply-numbers-requires-4 : tie.Need-reply-numbers-requires-4
 reply-numbers-requires-4 c κs = search needs
 
+-- waiting
 returns : tie.Need-returns
 returns c = c .reply-numbers .ensures ∙ ap walkNumbers (sym (c .before .before .reply .given .1))
 
+-- spent
 returns-2 : tie.Need-returns-2
 returns-2 c = c .reply-numbers2 .ensures ∙ ap walkNumbers (sym (c .before .enum-told .given .1))
 
+-- quiet
 returns-3 : tie.Need-returns-3
 returns-3 c = c .reply-numbers3 .ensures ∙ ap walkNumbers (sym (c .before .enum-told2 .given .1))
 
+-- returned
 returns-4 : tie.Need-returns-4
 returns-4 c = c .reply-numbers4 .ensures ∙ ap walkNumbers (sym (c .before .before .reply2 .given .1))
 

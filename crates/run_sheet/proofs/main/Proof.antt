@@ -53,6 +53,7 @@ slice-aggregate-feed-read-5 c = search needs
 feed-read-requires : tie.Need-feed-read-requires Inv-loop μ-loop
 feed-read-requires c κs = search needs
 
+-- the output cannot be written
 returns : tie.Need-returns Inv-loop μ-loop
 returns c = search needs
 
@@ -86,6 +87,7 @@ slice-aggregate-written c = sym (length-take-le (c .before .before .before .befo
 written-requires : tie.Need-written-requires Inv-loop μ-loop
 written-requires c κs = search needs
 
+-- the input has ended
 returns-2 : tie.Need-returns-2 Inv-loop μ-loop
 returns-2 c = search needs
 

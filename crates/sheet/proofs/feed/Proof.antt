@@ -21,6 +21,7 @@ abbrev μ-loop : tie.MeasureT-loop
 feed-result-requires : tie.Need-feed-result-requires Inv-loop μ-loop
 feed-result-requires c κs = search needs
 
+-- other than 81 bytes to keep a line in
 returns : tie.Need-returns Inv-loop μ-loop
 returns c = rw (c .feed-result .ensures) (record { right = λ e. absurd (c .before .if1 .taken e); wrong = λ ne. (refl, refl, refl, refl) })
 
@@ -111,6 +112,7 @@ same-length-3 c = c .before .before .loop .inv .0 ∙ sym (c .before .before .lo
 same-length-4 : tie.Need-same-length-4 Inv-loop μ-loop
 same-length-4 c = c .before .before .loop .inv .3
 
+-- all of the input is taken, or the output has no room
 returns-2 : tie.Need-returns-2 Inv-loop μ-loop
 returns-2 c = let k = c .before .before .loop in
     rw (c .feed-result2 .ensures) (record {

@@ -10,6 +10,7 @@ use Rattle.sheet.proofs.finish.Tie as tie
 feed-result-requires : tie.Need-feed-result-requires
 feed-result-requires c κs = search needs
 
+-- no byte is kept
 returns : tie.Need-returns
 returns c = rw (c .feed-result .ensures) (record { right = λ e. at-the-end (begins _ _ _) (omega (arith, ap length (ending-none (c .before .before .before .before .before .args .kept .now) (c .before .before .before .before .before .args .count) (c .before .if1 .taken)))); wrong = λ ne. (refl, refl, refl, refl) })
 
@@ -31,6 +32,7 @@ same-length-3 c = search needs
 same-length-4 : tie.Need-same-length-4
 same-length-4 c = search needs
 
+-- what feed gives
 returns-2 : tie.Need-returns-2
 returns-2 c = record { right = λ e. rw (ending-some (c .before .before .before .before .before .before .before .before .before .before .before .before .before .before .before .before .before .args .kept .now) (c .before .before .before .before .before .before .before .before .before .before .before .before .before .before .before .before .before .args .count) e (c .before .before .before .before .before .before .before .before .before .before .before .before .before .if1 .left)) (c .before .before .before .before .before .before .before .feed .ensures .right e); wrong = c .before .before .before .before .before .before .before .feed .ensures .wrong }
 

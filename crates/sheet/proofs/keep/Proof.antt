@@ -8,6 +8,7 @@ use Rattle.sheet.proofs.keep.Tie as tie
 use Rattle.sheet.proofs.keep.Reads as reads
 use Rattle.sheet.proofs.keep.Lts as lts
 
+-- the line is too long already
 returns : tie.Need-returns
 returns c = sym (joined-full (c .before .args .kept .now) (c .before .args .count) (c .before .args .b) (c .before .pre) (c .if1 .taken))
 
@@ -20,6 +21,7 @@ add-result c = search needs
 same-length : tie.Need-same-length
 same-length c = search needs
 
+-- one byte more
 returns-2 : tie.Need-returns-2
 returns-2 c = joined-set (c .before .args .kept .now) (c .before .args .count) (c .before .args .b) (c .before .pre) (c .if1 .left)
 

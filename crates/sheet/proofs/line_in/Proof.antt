@@ -11,6 +11,7 @@ use Rattle.sheet.proofs.line_in.Reads as reads
 use Rattle.sheet.proofs.line_in.Lts as lts
 use Rattle.sheet_reading.proofs.parse.Reads as parse-reads
 
+-- unread: too long
 returns : tie.Need-returns
 returns c = sym (kept-long (c .before .before .args .kept .now) (c .before .before .args .count) (c .before .before .pre) (c .if1 .taken))
 
@@ -20,6 +21,7 @@ slice-aggregate-parse c = sym (length-take-le (c .before .before .before .args .
 parse-requires : tie.Need-parse-requires
 parse-requires c κs = search needs
 
+-- what parse gives
 returns-2 : tie.Need-returns-2
 returns-2 c = search needs
 

@@ -10,6 +10,7 @@ use Rattle.sheet_fields.proofs.Bytes.{angle-empty, angle-minus, angle-p
 use Rattle.sheet_fields.proofs.angle.Statement.{statement}
 use Rattle.sheet_fields.proofs.angle.Tie as tie
 
+-- no pitch: empty
 returns : tie.Need-returns
 returns c = sym (angle-empty (c .before .before .args .s .now) (c .if1 .taken))
 
@@ -28,12 +29,14 @@ part-negative-end c = search needs
 negative-requires : tie.Need-negative-requires
 negative-requires c κs = search needs
 
+-- after a minus
 returns-2 : tie.Need-returns-2
 returns-2 c = sym (angle-minus (c .before .before .before .before .before .before .args .s .now) (c .before .before .before .before .if1 .left) (c .before .before .if2 .taken) ∙ ap (λ (l : List ℕ). negative-of (within PITCH-HALF (plain l))) (sym (tail 1 (c .before .before .before .before .before .before .args .s .now))) ∙ sym (c .negative .ensures))
 
 positive-requires : tie.Need-positive-requires
 positive-requires c κs = search needs
 
+-- without a minus
 returns-3 : tie.Need-returns-3
 returns-3 c = sym (angle-plain (c .before .before .before .before .before .args .s .now) (c .before .before .before .if1 .left) (c .before .if2 .left) ∙ sym (c .positive .ensures))
 

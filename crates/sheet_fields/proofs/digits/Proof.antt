@@ -48,15 +48,19 @@ loop-again : tie.Need-loop-again Inv-loop μ-loop
 loop-again c = let k = c .before .before .before .before .before .before .loop in let e = c .before .wide .ensures in
     (omega arith, omega (arith, c .if4 .left), rw e (k .inv .2 ∙ ap wide-enough (digits-next _ (k .i) (k .n) (c .before .before .before .before .before .if1 .left) (c .before .before .before .if2 .left) (c .before .before .if3 .left))))
 
+-- the number: all digits are read
 returns : tie.Need-returns Inv-loop μ-loop
 returns c = let k = c .before .loop in sym (k .inv .2 ∙ ap wide-enough (digits-end _ (k .i) (k .n) (c .if1 .taken)) ∙ within-decimal 18446744073709551615 (k .n) (k .inv .1))
 
+-- no number: a byte below 0
 returns-2 : tie.Need-returns-2 Inv-loop μ-loop
 returns-2 c = let k = c .before .before .before .loop in sym (k .inv .2 ∙ ap wide-enough (digits-low _ (k .i) (k .n) (c .before .before .if1 .left) (c .if2 .taken)))
 
+-- no number: a byte above 9
 returns-3 : tie.Need-returns-3 Inv-loop μ-loop
 returns-3 c = let k = c .before .before .before .before .loop in sym (k .inv .2 ∙ ap wide-enough (digits-high _ (k .i) (k .n) (c .before .before .before .if1 .left) (c .before .if2 .left) (c .if3 .taken)))
 
+-- no number: 64 bits do not hold it
 returns-4 : tie.Need-returns-4 Inv-loop μ-loop
 returns-4 c = let k = c .before .before .before .before .before .before .loop in
     sym (k .inv .2 ∙ ap wide-enough (digits-next _ (k .i) (k .n) (c .before .before .before .before .before .if1 .left) (c .before .before .before .if2 .left) (c .before .before .if3 .left)) ∙ too-wide 18446744073709551615 _ _ (omega (arith, c .if4 .taken, c .before .wide .ensures)))

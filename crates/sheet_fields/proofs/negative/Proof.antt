@@ -21,9 +21,11 @@ enum-known-v c = search needs
 enum-told : tie.Need-enum-told
 enum-told c = search needs
 
+-- no pitch: no decimal
 returns : tie.Need-returns
 returns c = ap negative-of (sym (sym (c .before .before .number .ensures) ∙ c .enum-told .given .1))
 
+-- no pitch: 0
 returns-2 : tie.Need-returns-2
 returns-2 c = sym (ap negative-of (sym (c .before .before .before .before .number .ensures) ∙ c .before .before .v .given .1) ∙ negative-zero (c .before .before .v .given .0 .0) (c .if1 .taken))
 
@@ -33,6 +35,7 @@ sub-below c = search needs
 below-requires : tie.Need-below-requires
 below-requires c κs = let a = within-most PITCH-HALF (plain (c .before .before .before .before .before .before .args .s .now)) (c .before .before .v .given .0 .0) (sym (c .before .before .before .before .number .ensures) ∙ c .before .before .v .given .1) in omega (arith, a, c .if1 .left)
 
+-- the pitch
 returns-3 : tie.Need-returns-3
 returns-3 c = rw (pitch-back (c .below .result) (c .below .ok)) (ap Hundredths (c .below .ensures) ∙ sym (ap negative-of (sym (c .before .before .before .before .before .number .ensures) ∙ c .before .before .before .v .given .1) ∙ negative-other (c .before .before .before .v .given .0 .0) (c .before .if1 .left)))
 

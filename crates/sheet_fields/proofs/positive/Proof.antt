@@ -20,12 +20,14 @@ enum-known-v c = search needs
 enum-told : tie.Need-enum-told
 enum-told c = search needs
 
+-- no pitch: no decimal
 returns : tie.Need-returns
 returns c = ap positive-of (sym (sym (c .before .before .number .ensures) ∙ c .enum-told .given .1))
 
 above-requires : tie.Need-above-requires
 above-requires c κs = let a = within-most (PITCH-HALF - 1) (plain (c .before .before .before .before .before .args .s .now)) (c .before .v .given .0 .0) (sym (c .before .before .before .number .ensures) ∙ c .before .v .given .1) in omega (arith, a)
 
+-- the pitch
 returns-2 : tie.Need-returns-2
 returns-2 c = rw (pitch-back (c .above .result) (c .above .ok)) (ap Hundredths (c .above .ensures) ∙ sym (ap positive-of (sym (c .before .before .before .before .number .ensures) ∙ c .before .before .v .given .1)))
 

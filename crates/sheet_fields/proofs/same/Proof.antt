@@ -14,6 +14,7 @@ Inv-loop s w n i₀ i = (i ≤ n) × (n ≡ length s) × (length s ≡ length w)
 abbrev μ-loop : tie.MeasureT-loop
 μ-loop s w n i₀ i = n - i
 
+-- false: their lengths
 returns : tie.Need-returns Inv-loop μ-loop
 returns c = sym (same-lengths (c .before .args .s .now) (c .before .args .w .now) (c .if1 .taken))
 
@@ -26,6 +27,7 @@ shared-slice-read-if2 c = omega (arith, c .before .loop-test .taken, c .before .
 shared-slice-read-if2-2 : tie.Need-shared-slice-read-if2-2 Inv-loop μ-loop
 shared-slice-read-if2-2 c = omega (arith, c .before .before .loop-test .taken, c .before .before .before .loop .inv .1, c .before .before .before .loop .inv .2)
 
+-- false: byte i
 returns-2 : tie.Need-returns-2 Inv-loop μ-loop
 returns-2 c = let k = c .before .before .before .before .loop in
     sym (k .inv .3 ∙ same-differ (c .before .before .before .before .before .before .args .s .now) (c .before .before .before .before .before .before .args .w .now) (k .i) (omega (arith, c .before .before .before .loop-test .taken, k .inv .1)) (omega (arith, c .before .before .before .loop-test .taken, k .inv .1, k .inv .2)) (c .if2 .taken))
@@ -40,6 +42,7 @@ loop-again : tie.Need-loop-again Inv-loop μ-loop
 loop-again c = let k = c .before .before .before .before .loop in
     (omega (arith, c .before .before .before .loop-test .taken), k .inv .1, k .inv .2, k .inv .3 ∙ same-next (c .before .before .before .before .before .before .args .s .now) (c .before .before .before .before .before .before .args .w .now) (k .i) (omega (arith, c .before .before .before .loop-test .taken, k .inv .1)) (omega (arith, c .before .before .before .loop-test .taken, k .inv .1, k .inv .2)) (c .if2 .left))
 
+-- true
 returns-3 : tie.Need-returns-3 Inv-loop μ-loop
 returns-3 c = let k = c .before .loop in sym (k .inv .3 ∙ same-end (c .before .before .before .args .s .now) (c .before .before .before .args .w .now) (k .i) (omega (arith, c .loop-test .left, k .inv .1)) (omega (arith, c .loop-test .left, k .inv .1, k .inv .2)))
 

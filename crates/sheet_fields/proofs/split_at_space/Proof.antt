@@ -25,6 +25,7 @@ shared-slice-read-if1 c = search needs
 add-t7 : tie.Need-add-t7 Inv-loop μ-loop
 add-t7 c = search needs
 
+-- at a space
 returns : tie.Need-returns Inv-loop μ-loop
 returns c = let k = c .before .before .before .loop in let h = c .before .before .loop-test .taken in
     (omega arith, omega arith, sym (k .inv .1 ∙ ap (λ (t : List ℕ). take (k .i) (c .before .before .before .before .args .s .now) ++ t) (up-to-space-here _ (k .i) h (c .if1 .taken)) ∙ append-nil _), sym (k .inv .2 ∙ after-space-here _ (k .i) h (c .if1 .taken)))
@@ -39,6 +40,7 @@ loop-again : tie.Need-loop-again Inv-loop μ-loop
 loop-again c = let k = c .before .before .before .loop in let h = c .before .before .loop-test .taken in
     (omega arith, k .inv .1 ∙ up-to-space-next _ (k .i) h (c .if1 .left), k .inv .2 ∙ after-space-next _ (k .i) h (c .if1 .left))
 
+-- no space
 returns-2 : tie.Need-returns-2 Inv-loop μ-loop
 returns-2 c = let k = c .before .loop in let h = c .loop-test .left in
     (omega arith, omega arith, sym (k .inv .1 ∙ ap (λ (t : List ℕ). take (k .i) (c .before .before .args .s .now) ++ t) (up-to-space-end _ (k .i) h) ∙ append-nil _), sym (k .inv .2 ∙ after-space-end _ (k .i) h))

@@ -9,9 +9,11 @@ use Rattle.sheet_playing.proofs.part.Tie as tie
 mul-result : tie.Need-mul-result
 mul-result c = search needs
 
+-- the entries of all slots
 returns : tie.Need-returns
 returns c = (omega (arith, c .if1 .taken), inl refl)
 
+-- all of the room
 returns-2 : tie.Need-returns-2
 returns-2 c = (omega arith, inr (refl, omega (arith, c .if1 .left)))
 

@@ -16,9 +16,11 @@ moved a m n h = go (leb a (n - m)) refl
     go true e = e ∙ sym (le-leb (a + m) n (omega (arith, leb-true a (n - m) e)))
     go false e = e ∙ sym (lt-leb (a + m) n (omega (arith, leb-false a (n - m) e)))
 
+-- false: no line fits
 returns : tie.Need-returns
 returns c = sym (lt-leb (c .before .args .at + 74) (length (c .before .args .out .now)) (omega arith))
 
+-- whether it fits at this place
 returns-2 : tie.Need-returns-2
 returns-2 c = moved (c .before .args .at) 74 (length (c .before .args .out .now)) (omega arith)
 

@@ -34,11 +34,13 @@ size-requires-2 c κs = search needs
 phrase-of-requires-2 : tie.Need-phrase-of-requires-2
 phrase-of-requires-2 c κs = search needs
 
+-- below 0
 returns : tie.Need-returns
 returns c = let s = c .before .before .before in
     let e = pitch-back (s .args .v) (s .fits .v .sfits) in
     says-as (ap (withOne (text "pitch -")) (c .before .size .ensures ∙ ap natAbs e) ∙ below (s .args .v) (rw e at (c .before .before .if1 .taken))) (c .phrase-of .ensures)
 
+-- 0 and above
 returns-2 : tie.Need-returns-2
 returns-2 c = let s = c .before .before .before in
     let e = pitch-back (s .args .v) (s .fits .v .sfits) in

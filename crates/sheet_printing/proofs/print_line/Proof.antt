@@ -30,6 +30,7 @@ fits-requires c κs = search needs
 same-length : tie.Need-same-length
 same-length c = search needs
 
+-- nothing is printed
 returns : tie.Need-returns
 returns c = not-printed (c .before .before .before .before .args .out .now) (c .before .before .before .before .args .at) (c .before .fits2 .result) (c .before .fits2 .ensures) (c .if1 .taken)
 
@@ -66,6 +67,7 @@ add-result c = omega (arith, free (c .before .before .before .before .before .be
 same-length-2 : tie.Need-same-length-2
 same-length-2 c = simp length-set (long-3 c)
 
+-- the line is printed
 returns-2 : tie.Need-returns-2
 returns-2 c = let s = c .before .before .before .before .before .before .before .before .before .before .before .before in
     let t = c .before .before .before .before .before .before .before .before .before .fits2 in

@@ -30,6 +30,7 @@ put-requires c κs = omega (arith, short (c .before .before .before .before .bef
 same-length : tie.Need-same-length
 same-length c = search needs
 
+-- no number
 returns : tie.Need-returns
 returns c = let s = c .before .before .before .before .before .before .before .before .before in known-as 50 (omega (arith, short s)) (alone (s .args .p) (c .if1 .taken)) (c .before .before .before .put .ensures)
 
@@ -39,6 +40,7 @@ put-number-requires c κs = omega (arith, short (c .before .before .before .befo
 same-length-2 : tie.Need-same-length-2
 same-length-2 c = search needs
 
+-- one number
 returns-2 : tie.Need-returns-2
 returns-2 c = let s = c .before .before .before .before .before .before .before .before .before .before .before .before .before .before in known-as 50 (omega (arith, short s)) (one (s .args .p) (c .if2 .taken)) (then (c .before .before .before .before .before .before .before .before .put .ensures) (c .before .before .before .put-number .ensures))
 
@@ -54,6 +56,7 @@ put-number-requires-2 c κs = simp length-set (omega (arith, short (c .before .b
 same-length-3 : tie.Need-same-length-3
 same-length-3 c = omega (arith, simp length-set at (c .before .before .put-number2 .kept .0))
 
+-- two numbers
 returns-3 : tie.Need-returns-3
 returns-3 c = let s = c .before .before .before .before .before .before .before .before .before .before .before .before .before .before .before .before .before .before in
     let a = c .before .before .before .before .before .before .before .put-number in

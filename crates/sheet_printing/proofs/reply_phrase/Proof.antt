@@ -85,42 +85,55 @@ enum-known-a-9 c = search needs
 phrase-of-requires-11 : tie.Need-phrase-of-requires-11
 phrase-of-requires-11 c κs = search needs
 
+-- made
 returns : tie.Need-returns
 returns c = says-as (ap replyText (sym (c .before .enum-told .given .1))) (c .phrase-of .ensures)
 
+-- at
 returns-2 : tie.Need-returns-2
 returns-2 c = says-as (ap replyText (sym (c .before .before .a .given .1))) (c .phrase-of2 .ensures)
 
+-- pitch
 returns-3 : tie.Need-returns-3
 returns-3 c = says-as (ap pitchText (pitch-back (c .before .before .a2 .given .0 .0) (c .before .known-told2 .given .0 .1)) ∙ ap replyText (sym (c .before .before .a2 .given .1))) (c .pitch-phrase .ensures)
 
+-- left
 returns-4 : tie.Need-returns-4
 returns-4 c = says-as (ap replyText (sym (c .before .enum-told2 .given .1))) (c .phrase-of3 .ensures)
 
+-- claimed
 returns-5 : tie.Need-returns-5
 returns-5 c = says-as (ap replyText (sym (c .before .before .a3 .given .1))) (c .phrase-of4 .ensures)
 
+-- written
 returns-6 : tie.Need-returns-6
 returns-6 c = says-as (ap replyText (sym (c .before .before .a4 .given .1))) (c .phrase-of5 .ensures)
 
+-- swapped
 returns-7 : tie.Need-returns-7
 returns-7 c = says-as (ap replyText (sym (c .before .before .a5 .given .1))) (c .phrase-of6 .ensures)
 
+-- synced
 returns-8 : tie.Need-returns-8
 returns-8 c = says-as (ap replyText (sym (c .before .before .a6 .given .1))) (c .phrase-of7 .ensures)
 
+-- raised
 returns-9 : tie.Need-returns-9
 returns-9 c = says-as (ap replyText (sym (c .before .enum-told3 .given .1))) (c .phrase-of8 .ensures)
 
+-- shared
 returns-10 : tie.Need-returns-10
 returns-10 c = says-as (ap replyText (sym (c .before .enum-told4 .given .1))) (c .phrase-of9 .ensures)
 
+-- walked
 returns-11 : tie.Need-returns-11
 returns-11 c = says-as (ap replyText (sym (c .before .before .a7 .given .1))) (c .walk-phrase .ensures)
 
+-- freed
 returns-12 : tie.Need-returns-12
 returns-12 c = says-as (ap replyText (sym (c .before .before .a8 .given .1))) (c .phrase-of10 .ensures)
 
+-- refused
 returns-13 : tie.Need-returns-13
 returns-13 c = says-as (ap replyText (sym (c .before .before .a9 .given .1))) (c .phrase-of11 .ensures)
 

@@ -30,15 +30,19 @@ enum-known-o-2 c = search needs
 phrase-of-requires-4 : tie.Need-phrase-of-requires-4
 phrase-of-requires-4 c κs = search needs
 
+-- waiting
 returns : tie.Need-returns
 returns c = says-as (ap walkText (sym (c .before .before .o .given .1))) (c .phrase-of .ensures)
 
+-- spent
 returns-2 : tie.Need-returns-2
 returns-2 c = says-as (ap walkText (sym (c .before .enum-told .given .1))) (c .phrase-of2 .ensures)
 
+-- quiet
 returns-3 : tie.Need-returns-3
 returns-3 c = says-as (ap walkText (sym (c .before .enum-told2 .given .1))) (c .phrase-of3 .ensures)
 
+-- returned
 returns-4 : tie.Need-returns-4
 returns-4 c = says-as (ap walkText (sym (c .before .before .o2 .given .1))) (c .phrase-of4 .ensures)
 

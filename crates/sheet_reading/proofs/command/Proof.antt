@@ -149,39 +149,51 @@ run-requires-10 c κs = tt
 enum-told-12 : tie.Need-enum-told-12
 enum-told-12 c = search needs
 
+-- store
 returns : tie.Need-returns
 returns c = rw (c .before .enum-told .given .1) (c .store-line .ensures)
 
+-- enter
 returns-2 : tie.Need-returns-2
 returns-2 c = rw (c .before .enum-told2 .given .1) (c .run .ensures ∙ one-is (c .before .before .before) call.Enter)
 
+-- look
 returns-3 : tie.Need-returns-3
 returns-3 c = rw (c .before .before .before .enum-told3 .given .1) (c .run2 .ensures ∙ two-is (c .before .before .before .before .before) call.Look)
 
+-- leave
 returns-4 : tie.Need-returns-4
 returns-4 c = rw (c .before .enum-told4 .given .1) (c .run3 .ensures ∙ one-is (c .before .before .before) call.Leave)
 
+-- claim
 returns-5 : tie.Need-returns-5
 returns-5 c = rw (c .before .before .before .enum-told5 .given .1) (c .run4 .ensures ∙ two-is (c .before .before .before .before .before) call.Claim)
 
+-- write
 returns-6 : tie.Need-returns-6
 returns-6 c = rw (c .before .before .before .before .enum-told6 .given .1) ((simp (pitch-back (c .before .before .before .before .before .before .pitch .result .value) (c .before .struct-told .given .1 .0 .1)) at (c .run5 .ensures)) ∙ pitched-is (c .before .before .before .before .before .before) call.Write)
 
+-- swap
 returns-7 : tie.Need-returns-7
 returns-7 c = rw (c .before .enum-told7 .given .1) (c .run6 .ensures ∙ one-is (c .before .before .before) call.Swap)
 
+-- sync
 returns-8 : tie.Need-returns-8
 returns-8 c = rw (c .before .enum-told8 .given .1) (c .run7 .ensures ∙ one-is (c .before .before .before) call.Sync)
 
+-- raise
 returns-9 : tie.Need-returns-9
 returns-9 c = rw (c .before .enum-told9 .given .1) (c .run8 .ensures ∙ one-is (c .before .before .before) call.Raise)
 
+-- walk
 returns-10 : tie.Need-returns-10
 returns-10 c = rw (c .before .before .before .enum-told10 .given .1) (c .run9 .ensures ∙ two-is (c .before .before .before .before .before) call.Walk)
 
+-- release
 returns-11 : tie.Need-returns-11
 returns-11 c = rw (c .before .enum-told11 .given .1) (c .run10 .ensures ∙ one-is (c .before .before .before) call.Release)
 
+-- unknown
 returns-12 : tie.Need-returns-12
 returns-12 c = rw (c .enum-told12 .given .1) refl
 

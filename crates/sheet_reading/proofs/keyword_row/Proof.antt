@@ -7,9 +7,11 @@ use Rattle.sheet_reading.proofs.keyword_row.Tie as tie
 same-requires : tie.Need-same-requires
 same-requires c κs = tt
 
+-- what the row names
 returns : tie.Need-returns
 returns c = rw (sym (c .before .same .ensures) ∙ c .if1 .taken) refl
 
+-- what the rows after it do
 returns-2 : tie.Need-returns-2
 returns-2 c = rw (sym (c .before .same .ensures) ∙ c .if1 .left) refl
 

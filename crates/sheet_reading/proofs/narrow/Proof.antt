@@ -16,12 +16,14 @@ enum-known-n c = search needs
 enum-told : tie.Need-enum-told
 enum-told c = search needs
 
+-- not read
 returns : tie.Need-returns
 returns c = sym (c .before .before .number .ensures) ∙ c .enum-told .given .1
 
 cast-t4 : tie.Need-cast-t4
 cast-t4 c = let a = within-most NARROW-MAX (plain (c .before .before .before .before .before .args .s .now)) _ (sym (c .before .before .before .number .ensures) ∙ c .before .n .given .1) in omega (arith, a)
 
+-- read
 returns-2 : tie.Need-returns-2
 returns-2 c = sym (c .before .before .before .number .ensures) ∙ c .before .n .given .1
 

@@ -17,9 +17,11 @@ use Rattle.sheet_reading.proofs.parse.Tie as tie
 between : (c : tie.After-inner) → take (length (c .before .before .before .before .before .before .before .before .args .line .now) - 1 - 1) (drop 1 (c .before .before .before .before .before .before .before .before .args .line .now)) ≡ inner (c .before .before .before .before .before .before .before .before .args .line .now)
 between c = inner-is (c .before .before .before .before .before .before .before .before .args .line .now) (c .before .before .before .before .before .before .if1 .left) (c .before .before .before .before .before .if2 .left)
 
+-- unread: too long
 returns : tie.Need-returns
 returns c = sym (over-80 (c .before .before .args .line .now) (c .if1 .taken))
 
+-- unread: fewer than 2 bytes
 returns-2 : tie.Need-returns-2
 returns-2 c = sym (line-brief (c .before .before .before .args .line .now) (c .before .if1 .left) (c .if2 .taken))
 
@@ -29,12 +31,14 @@ sub-last c = search needs
 shared-slice-read-if3 : tie.Need-shared-slice-read-if3
 shared-slice-read-if3 c = search needs
 
+-- unread: no ( at its start
 returns-3 : tie.Need-returns-3
 returns-3 c = sym (line-unopened (c .before .before .before .before .before .args .line .now) (c .before .before .before .if1 .left) (c .before .before .if2 .left) (c .if3 .taken))
 
 shared-slice-read-if4 : tie.Need-shared-slice-read-if4
 shared-slice-read-if4 c = search needs
 
+-- unread: no ) at its end
 returns-4 : tie.Need-returns-4
 returns-4 c = sym (line-unclosed (c .before .before .before .before .before .before .before .args .line .now) (c .before .before .before .before .before .if1 .left) (c .before .before .before .before .if2 .left) (c .before .before .if3 .left) (c .if4 .taken))
 
@@ -68,6 +72,7 @@ part-command-end c = omega (arith, c .before .before .split-at-space .ensures .1
 command-requires : tie.Need-command-requires
 command-requires c κs = tt
 
+-- what command gives
 returns-5 : tie.Need-returns-5
 returns-5 c = c .command .ensures
     ∙ ap (λ (x : Keyword). command-of x (take (length (take (length (c .before .before .before .before .before .before .before .before .before .before .before .before .before .args .line .now) - 1 - 1) (drop 1 (c .before .before .before .before .before .before .before .before .before .before .before .before .before .args .line .now))) - c .before .before .before .before .split-at-space .result .next) (drop (c .before .before .before .before .split-at-space .result .next) (take (length (c .before .before .before .before .before .before .before .before .before .before .before .before .before .args .line .now) - 1 - 1) (drop 1 (c .before .before .before .before .before .before .before .before .before .before .before .before .before .args .line .now)))))) (c .before .before .keyword .ensures ∙ ap keyword-of (c .before .before .before .before .split-at-space .ensures .2 ∙ ap upToSpace (between (c .before .before .before .before .before))))

@@ -15,9 +15,11 @@ enum-known-v c = search needs
 enum-told : tie.Need-enum-told
 enum-told c = search needs
 
+-- not read
 returns : tie.Need-returns
 returns c = sym (c .before .before .angle .ensures) ∙ c .enum-told .given .1
 
+-- read
 returns-2 : tie.Need-returns-2
 returns-2 c = sym (c .before .before .before .angle .ensures) ∙ c .before .v .given .1 ∙ ap Hundredths (sym (pitch-back (c .before .v .given .0 .0) (c .known-told .given .0 .1)))
 

@@ -36,6 +36,7 @@ enum-known-k c = search needs
 enum-told : tie.Need-enum-told
 enum-told c = search needs
 
+-- unread: the kind
 returns : tie.Need-returns
 returns c = rw (read-part kindNamed (c .before .before .kind .result) (take (c .before .before .before .before .split-at-space .result .end) (c .before .before .before .before .before .before .args .s .now)) (upToSpace (c .before .before .before .before .before .before .args .s .now)) NoNumber (c .before .before .kind .ensures) (c .before .before .before .before .split-at-space .ensures .2) (c .enum-told .given .1)) refl
 
@@ -63,6 +64,7 @@ enum-known-readers c = search needs
 enum-told-2 : tie.Need-enum-told-2
 enum-told-2 c = search needs
 
+-- unread: the readers
 returns-2 : tie.Need-returns-2
 returns-2 c = rw (kind-read (c .before .before .before .before .before .before), read-part narrow (c .before .before .number .result) (take (c .before .before .before .before .split-at-space2 .result .end) (take (length (c .before .before .before .before .before .before .before .before .before .before .before .before .before .args .s .now) - c .before .before .before .before .before .before .before .before .before .before .before .split-at-space .result .next) (drop (c .before .before .before .before .before .before .before .before .before .before .before .split-at-space .result .next) (c .before .before .before .before .before .before .before .before .before .before .before .before .before .args .s .now)))) (upToSpace (afterSpace (c .before .before .before .before .before .before .before .before .before .before .before .before .before .args .s .now))) NoNumber (c .before .before .number .ensures) (c .before .before .before .before .split-at-space2 .ensures .2 ∙ ap upToSpace (others (c .before .before .before .before .before))) (c .enum-told2 .given .1)) refl
 
@@ -84,6 +86,7 @@ part-store-line-rest-end c = omega (arith, c .before .before .before .before .be
 store-line-rest-requires : tie.Need-store-line-rest-requires
 store-line-rest-requires c κs = tt
 
+-- what store_line_rest gives
 returns-3 : tie.Need-returns-3
 returns-3 c = rw (kind-read (c .before .before .before .before .before .before .before .before .before), readers-read (c .before .before), sym (tail-is (c .before .before .before .before .before .before .before .split-at-space2 .result .next) (take (length (c .before .before .before .before .before .before .before .before .before .before .before .before .before .before .before .before .args .s .now) - c .before .before .before .before .before .before .before .before .before .before .before .before .before .before .split-at-space .result .next) (drop (c .before .before .before .before .before .before .before .before .before .before .before .before .before .before .split-at-space .result .next) (c .before .before .before .before .before .before .before .before .before .before .before .before .before .before .before .before .args .s .now))) (afterSpace (afterSpace (c .before .before .before .before .before .before .before .before .before .before .before .before .before .before .before .before .args .s .now))) (c .before .before .before .before .before .before .before .split-at-space2 .ensures .3 ∙ ap afterSpace (others (c .before .before .before .before .before .before .before .before))))) (c .store-line-rest .ensures)
 

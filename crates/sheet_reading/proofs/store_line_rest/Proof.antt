@@ -38,6 +38,7 @@ enum-known-publishers c = search needs
 enum-told : tie.Need-enum-told
 enum-told c = search needs
 
+-- unread: the publishers
 returns : tie.Need-returns
 returns c = rw (read-part narrow (c .before .before .number .result) (take (c .before .before .before .before .split-at-space .result .end) (c .before .before .before .before .before .before .args .s .now)) (upToSpace (c .before .before .before .before .before .before .args .s .now)) NoNumber (c .before .before .number .ensures) (c .before .before .before .before .split-at-space .ensures .2) (c .enum-told .given .1)) refl
 
@@ -65,6 +66,7 @@ enum-known-slots c = search needs
 enum-told-2 : tie.Need-enum-told-2
 enum-told-2 c = search needs
 
+-- unread: the slots
 returns-2 : tie.Need-returns-2
 returns-2 c = rw (publishers-read (c .before .before .before .before .before .before), read-part narrow (c .before .before .number2 .result) (take (c .before .before .before .before .split-at-space2 .result .end) (take (length (c .before .before .before .before .before .before .before .before .before .before .before .before .before .args .s .now) - c .before .before .before .before .before .before .before .before .before .before .before .split-at-space .result .next) (drop (c .before .before .before .before .before .before .before .before .before .before .before .split-at-space .result .next) (c .before .before .before .before .before .before .before .before .before .before .before .before .before .args .s .now)))) (upToSpace (afterSpace (c .before .before .before .before .before .before .before .before .before .before .before .before .before .args .s .now))) NoNumber (c .before .before .number2 .ensures) (c .before .before .before .before .split-at-space2 .ensures .2 ∙ ap upToSpace (others (c .before .before .before .before .before))) (c .enum-told2 .given .1)) refl
 
@@ -86,6 +88,7 @@ enum-known-version c = search needs
 enum-told-3 : tie.Need-enum-told-3
 enum-told-3 c = search needs
 
+-- unread: the first version
 returns-3 : tie.Need-returns-3
 returns-3 c = rw (publishers-read (c .before .before .before .before .before .before .before .before .before .before .before), slots-read (c .before .before .before .before), sym (ap wide (last-part (c .before .before .before .before))) ∙ sym (c .before .before .number3 .ensures) ∙ c .enum-told3 .given .1) refl
 
@@ -95,6 +98,7 @@ cast-t27 c = let a = within-most 65535 (plain (upToSpace (c .before .before .bef
 cast-t28 : tie.Need-cast-t28
 cast-t28 c = let a = within-most 65535 (plain (upToSpace (afterSpace (c .before .before .before .before .before .before .before .before .before .before .before .before .before .before .before .before .before .before .before .args .s .now)))) (c .before .before .before .before .before .before .slots .given .0 .0) (slots-read (c .before .before .before .before .before)) in omega (arith, a)
 
+-- read
 returns-4 : tie.Need-returns-4
 returns-4 c = rw (publishers-read (c .before .before .before .before .before .before .before .before .before .before .before .before), slots-read (c .before .before .before .before .before), sym (ap wide (last-part (c .before .before .before .before .before))) ∙ sym (c .before .before .before .number3 .ensures) ∙ c .before .version .given .1) refl
 

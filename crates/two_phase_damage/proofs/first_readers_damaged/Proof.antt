@@ -33,6 +33,7 @@ reader-place-requires c κs = search needs
 reader-at-requires : tie.Need-reader-at-requires Inv-loop μ-loop
 reader-at-requires c κs = search needs
 
+-- true: reader r picked no slot of the store
 returns : tie.Need-returns Inv-loop μ-loop
 returns c = let w = c .before .before .before .before .before .before .before .before .args .words .now in sym (or-left _ _ (some-below _ _ _ (c .before .before .before .before .before .loop-test .taken) (picked-wrong (c .before .before .before .before .before .before .before .before .args .slots) (readerAt w (c .before .before .before .before .before .before .loop .r)) (sym (c .before .before .before .before .reader-place .ensures) ∙ c .before .before .before .if1 .taken) (rw (c .before .before .reader-at .ensures) at (c .if2 .taken)))))
 
@@ -46,6 +47,7 @@ loop-again : tie.Need-loop-again Inv-loop μ-loop
 loop-again c = let k = c .before .before .before .before .loop in let w = c .before .before .before .before .before .before .args .words .now in let out = rw (c .before .before .reader-place .ensures) at (c .if3 .taken) in
     (search needs, none-more _ _ (k .inv .1) (outside-fits (c .before .before .before .before .before .before .args .slots) (readerAt w (k .r)) out), k .inv .2 ∙ counts-out w (k .r) (omega (arith, out)))
 
+-- true: reader r is at no place of the old store
 returns-2 : tie.Need-returns-2 Inv-loop μ-loop
 returns-2 c = let w = c .before .before .before .before .before .before .before .args .words .now in let p = c .before .before .before .reader-place .ensures in sym (or-left _ _ (some-below _ _ _ (c .before .before .before .before .loop-test .taken) (no-reader-place (c .before .before .before .before .before .before .before .args .slots) (readerAt w (c .before .before .before .before .before .loop .r)) (rw p at (c .before .before .if1 .left)) (rw p at (c .before .if3 .left)) (rw p at (c .if4 .taken)))))
 
@@ -91,6 +93,7 @@ indicator-of-requires-2 c κs = search needs
 array-read-result-2 : tie.Need-array-read-result-2 Inv-loop μ-loop
 array-read-result-2 c = search needs
 
+-- whether an indicator is unlike its count
 returns-3 : tie.Need-returns-3 Inv-loop μ-loop
 returns-3 c = let k = c .before .before .before .loop in let e : k .r ≡ c .before .before .before .before .before .args .n = omega (arith, k .inv, c .before .before .loop-test .left) in rw (c .before .indicator-of .ensures, c .indicator-of2 .ensures, k .inv .2, e, rw e at (k .inv .1)) refl
 

@@ -44,6 +44,7 @@ publishers-are-damaged-requires c κs = search needs
 same-length : tie.Need-same-length
 same-length c = search needs
 
+-- 1 damaged
 returns : tie.Need-returns
 returns c = step-damaged rules _ (Claim _ _) (store-damaged c)
 
@@ -53,6 +54,7 @@ claim-slot-requires c κs = in-bounds-of rules law _ (clean (c .before))
 same-length-2 : tie.Need-same-length-2
 same-length-2 c = search needs
 
+-- what claim_slot replies
 returns-2 : tie.Need-returns-2
 returns-2 c = c .before .before .claim-slot .ensures (c .before .before .before .before .before .before .before .before .before .before .before .before .before .before .args .entries .now) ∙ step-undamaged rules _ (Claim _ _) (clean (c .before .before .before .before))
 

@@ -55,6 +55,7 @@ publishers-are-damaged-requires c κs = search needs
 same-length : tie.Need-same-length
 same-length c = search needs
 
+-- 1 damaged
 returns : tie.Need-returns
 returns c = step-damaged rules _ (Enter _) (store-damaged c)
 
@@ -64,6 +65,7 @@ readers-of-requires c κs = in-bounds-of rules law _ (clean (c .before)) .long
 same-length-2 : tie.Need-same-length-2
 same-length-2 c = search needs
 
+-- 10 no such reader
 returns-2 : tie.Need-returns-2
 unfolding step
 returns-2 c = rw (clean (c .before .before .before), le-leb _ _ (rw (c .before .readers-of .ensures) at (c .if4 .taken))) refl
@@ -74,6 +76,7 @@ reader-at-requires c κs = omega (arith, in-bounds-of rules law _ (clean (c .bef
 same-length-3 : tie.Need-same-length-3
 same-length-3 c = search needs
 
+-- 20 not this reader's turn
 returns-3 : tie.Need-returns-3
 unfolding step
 returns-3 c = rw (clean (c .before .before .before .before .before .before .before), lt-leb _ _ (rw (c .before .before .before .before .before .readers-of .ensures) at (c .before .before .before .before .if4 .left)), le-leb 5 _ (rw (c .before .before .reader-at .ensures) at (c .if5 .taken))) refl
@@ -102,6 +105,7 @@ put-indicator-requires c κs = omega (arith, in-bounds-of rules law _ (clean (c 
 same-length-4 : tie.Need-same-length-4
 same-length-4 c = search needs
 
+-- at 4
 returns-4 : tie.Need-returns-4
 returns-4 c = arrive-is _ (clean (c .before .before .before .before .before .before .before .before .before .before .before .before .before .before .before .before .before .before .before .before .before .before .before .before .before)) _ _ _ _ _ _ (rw (c .before .before .before .before .before .before .before .before .before .before .before .before .before .before .before .before .before .before .before .before .before .before .before .readers-of .ensures) at (c .before .before .before .before .before .before .before .before .before .before .before .before .before .before .before .before .before .before .before .before .before .before .if4 .left)) (c .before .before .before .before .before .before .before .before .before .before .before .before .before .before .before .before .before .before .before .before .reader-at .ensures) (c .before .before .before .before .if6 .taken) (rw (c .before .before .before .before .before .before .before .before .before .before .before .before .before .version-of .ensures, c .before .before .before .before .before .before .before .before .before .before .before .current-of .ensures) at (c .before .before .before .before .before .before .before .before .before .before .advanced .ensures)) refl (c .before .before .before .before .before .before .before .before .before .before .before .before .before .before .before .indicator-of .ensures)
     (rw (c .before .before .before .before .before .before .before .before .put-reader .ensures) at (c .before .before .put-indicator .ensures))
@@ -109,6 +113,7 @@ returns-4 c = arrive-is _ (clean (c .before .before .before .before .before .bef
 same-length-5 : tie.Need-same-length-5
 same-length-5 c = search needs
 
+-- at 1 or 5
 returns-5 : tie.Need-returns-5
 returns-5 c = enter-is _ (clean (c .before .before .before .before .before .before .before .before .before .before .before .before .before .before .before .before .before .before .before .before .before)) _ _ _ _ (rw (c .before .before .before .before .before .before .before .before .before .before .before .before .before .before .before .before .before .before .before .readers-of .ensures) at (c .before .before .before .before .before .before .before .before .before .before .before .before .before .before .before .before .before .before .if4 .left)) (c .before .before .before .before .before .before .before .before .before .before .before .before .before .before .before .before .reader-at .ensures) (c .before .before .before .before .before .before .before .before .before .before .before .before .before .before .if5 .left) (c .if6 .left) (rw (c .before .before .before .before .before .before .before .before .before .version-of .ensures, c .before .before .before .before .before .before .before .current-of .ensures) at (c .before .before .before .before .before .before .advanced .ensures)) (c .before .before .before .before .put-reader .ensures)
 

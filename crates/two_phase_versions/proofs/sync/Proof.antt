@@ -45,6 +45,7 @@ publishers-are-damaged-requires c κs = search needs
 same-length : tie.Need-same-length
 same-length c = search needs
 
+-- 1 damaged
 returns : tie.Need-returns
 returns c = step-damaged rules _ (Sync _) (store-damaged c)
 
@@ -57,6 +58,7 @@ start-sync-requires c κs = in-bounds-of rules law _ (clean (c .before))
 same-length-2 : tie.Need-same-length-2
 same-length-2 c = search needs
 
+-- what start_sync replies
 returns-2 : tie.Need-returns-2
 returns-2 c = c .before .before .start-sync .ensures versions (c .before .before .before .before .before .before .before .before .before .before .before .before .before .before .args .entries .now) (last-is LAST _ (omega arith) (version-low rules law _ (clean (c .before .before .before .before)) LAST refl)) (mark-is LAST _ (omega arith) (version-low rules law _ (clean (c .before .before .before .before)) LAST refl)) ∙ step-undamaged rules _ (Sync _) (clean (c .before .before .before .before))
 

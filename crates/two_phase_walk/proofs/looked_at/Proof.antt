@@ -7,12 +7,14 @@ use Rattle.two_phase_walk.proofs.looked_at.Tie as tie
 use Rattle.two_phase_walk.proofs.looked_at.Reads as reads
 use Rattle.two_phase_walk.proofs.looked_at.Lts as lts
 
+-- at 35: the mark's parity
 returns : tie.Need-returns
 returns c = rw (eq-eqb _ 35 (c .if1 .taken)) refl
 
 sub-result : tie.Need-sub-result
 sub-result c = search needs
 
+-- else the other
 returns-2 : tie.Need-returns-2
 returns-2 c = rw (ne-eqb _ 35 (c .if1 .left)) refl
 
