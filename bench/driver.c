@@ -24,7 +24,7 @@ static uint64_t below(uint64_t n)
     return state % n;
 }
 
-static void compared(const char *call, struct rahuvyte_reply ours, struct rahuvyte_reply theirs)
+static void compare(const char *call, struct rahuvyte_reply ours, struct rahuvyte_reply theirs)
 {
     if (memcmp(&ours, &theirs, sizeof ours) != 0 || memcmp(words[0], words[1], sizeof words[0]) != 0 || memcmp(entries[0], entries[1], sizeof entries[0]) != 0) {
         fprintf(stderr, "driver: %s differs: %llu %llu %llu and %llu %llu %llu\n", call, (unsigned long long)ours.code, (unsigned long long)ours.first,
@@ -33,7 +33,7 @@ static void compared(const char *call, struct rahuvyte_reply ours, struct rahuvy
     }
 }
 
-#define BOTH(call, ...) compared(#call, rahuvyte_##call(words[0], WORDS, entries[0], entries_len, __VA_ARGS__), c_##call(words[1], WORDS, entries[1], entries_len, __VA_ARGS__))
+#define BOTH(call, ...) compare(#call, rahuvyte_##call(words[0], WORDS, entries[0], entries_len, __VA_ARGS__), c_##call(words[1], WORDS, entries[1], entries_len, __VA_ARGS__))
 
 /* A reader goes on: it enters, looks a few times, and leaves. */
 static void reader_goes_on(uint16_t r)
