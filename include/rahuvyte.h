@@ -86,7 +86,7 @@ enum {
     RAHUVYTE_PLACE_IDLE = 0,           /* it holds no slot */
     RAHUVYTE_PLACE_CLAIMED = 1,        /* 1 to 32: it holds the slot that it claimed, and has written place - 1 pitches */
     RAHUVYTE_PLACE_WRITTEN = 33,       /* it has written all 32 pitches */
-    RAHUVYTE_PLACE_SWAPPED = 34,       /* from here to 38 it holds the slot that was current before its SWAP */
+    RAHUVYTE_PLACE_SWAPPED = 34,       /* its table is swapped in; from here to 38 it holds the slot that was current before */
     RAHUVYTE_PLACE_SYNCHRONISING = 35, /* it has a mark */
     RAHUVYTE_PLACE_QUIET = 36,         /* old store only: a WALK has replied QUIET */
     RAHUVYTE_PLACE_RAISED = 37,        /* the version has reached its mark */
