@@ -24,7 +24,7 @@ static uint64_t below(uint64_t n)
     return state % n;
 }
 
-static void compared(const char *call, struct rahuvyte_reply ours, struct rahuvyte_reply theirs)
+static void compare(const char *call, struct rahuvyte_reply ours, struct rahuvyte_reply theirs)
 {
     if (memcmp(&ours, &theirs, sizeof ours) != 0 || memcmp(words[0], words[1], sizeof words[0]) != 0 || memcmp(entries[0], entries[1], sizeof entries[0]) != 0) {
         fprintf(stderr, "driver: %s differs: %llu %llu %llu and %llu %llu %llu\n", call, (unsigned long long)ours.code, (unsigned long long)ours.first,
@@ -33,14 +33,14 @@ static void compared(const char *call, struct rahuvyte_reply ours, struct rahuvy
     }
 }
 
-#define BOTH(call, ...) compared(#call, rahuvyte_##call(words[0], WORDS, entries[0], entries_len, __VA_ARGS__), c_##call(words[1], WORDS, entries[1], entries_len, __VA_ARGS__))
+#define BOTH(call, ...) compare(#call, rahuvyte_##call(words[0], WORDS, entries[0], entries_len, __VA_ARGS__), c_##call(words[1], WORDS, entries[1], entries_len, __VA_ARGS__))
 
 /* A reader goes on: it enters, looks a few times, and leaves. */
 static void reader_goes_on(uint16_t r)
 {
     const uint16_t k = (uint16_t)below(TABLE);
     switch (words[1][FIRST_READER + READER_WORDS * r]) {
-    case 5:
+    case RAHUVYTE_PLACE_PICKED:
         if (below(4) != 0)
             BOTH(look, r, k);
         else
@@ -57,28 +57,28 @@ static void publisher_goes_on(uint16_t p, uint16_t slots)
     const uint16_t slot = (uint16_t)below(slots), b = (uint16_t)below(9);
     const rahuvyte_pitch v = (rahuvyte_pitch)((int)below(RAHUVYTE_PITCH_HIGH - RAHUVYTE_PITCH_LOW + 1) + RAHUVYTE_PITCH_LOW);
     switch (words[1][FIRST_PUBLISHER + PUBLISHER_WORDS * p]) {
-    case 0:
+    case RAHUVYTE_PLACE_IDLE:
         BOTH(claim, p, slot);
         break;
-    case 33:
+    case RAHUVYTE_PLACE_WRITTEN:
         BOTH(swap, p);
         break;
-    case 34:
+    case RAHUVYTE_PLACE_SWAPPED:
         BOTH(sync, p);
         break;
-    case 35:
+    case RAHUVYTE_PLACE_SYNCHRONISING:
         if (words[1][0] == RAHUVYTE_KIND_OLD)
             BOTH(walk, p, b);
         else
             BOTH(raise, p);
         break;
-    case 36:
+    case RAHUVYTE_PLACE_QUIET:
         BOTH(raise, p);
         break;
-    case 37:
+    case RAHUVYTE_PLACE_RAISED:
         BOTH(walk, p, b);
         break;
-    case 38:
+    case RAHUVYTE_PLACE_RETURNED:
         BOTH(release, p);
         break;
     default:

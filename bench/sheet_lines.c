@@ -35,7 +35,7 @@ static rahuvyte_pitch pitch(void)
 static void reader_goes_on(uint16_t r)
 {
     const uint16_t k = below(RAHUVYTE_TABLE);
-    if (words[FIRST_READER + READER_WORDS * r] != 5)
+    if (words[FIRST_READER + READER_WORDS * r] != RAHUVYTE_PLACE_PICKED)
         ONE(enter, r);
     else if (below(4) != 0)
         TWO(look, r, k);
@@ -52,7 +52,7 @@ static void publisher_asks(uint16_t p)
         TWO(walk, p, b);
         return;
     }
-    for (uint16_t i = 1; i < readers && words[FIRST_READER + READER_WORDS * r] < 4; i++)
+    for (uint16_t i = 1; i < readers && words[FIRST_READER + READER_WORDS * r] < RAHUVYTE_PLACE_OPEN; i++)
         r = (uint16_t)((r + 1) % readers);
     reader_goes_on(r);
 }
@@ -63,18 +63,18 @@ static void publisher_goes_on(uint16_t p)
     const uint16_t slot = below(slots);
     const rahuvyte_pitch v = pitch();
     switch (words[FIRST_PUBLISHER + PUBLISHER_WORDS * p]) {
-    case 0: TWO(claim, p, slot); break;
-    case 33: ONE(swap, p); break;
-    case 34: ONE(sync, p); break;
-    case 35:
+    case RAHUVYTE_PLACE_IDLE: TWO(claim, p, slot); break;
+    case RAHUVYTE_PLACE_WRITTEN: ONE(swap, p); break;
+    case RAHUVYTE_PLACE_SWAPPED: ONE(sync, p); break;
+    case RAHUVYTE_PLACE_SYNCHRONISING:
         if (words[0] == RAHUVYTE_KIND_OLD)
             publisher_asks(p);
         else
             ONE(raise, p);
         break;
-    case 36: ONE(raise, p); break;
-    case 37: publisher_asks(p); break;
-    case 38: ONE(release, p); break;
+    case RAHUVYTE_PLACE_QUIET: ONE(raise, p); break;
+    case RAHUVYTE_PLACE_RAISED: publisher_asks(p); break;
+    case RAHUVYTE_PLACE_RETURNED: ONE(release, p); break;
     default: TWO(write, p, v);
     }
 }
@@ -83,7 +83,7 @@ static void publisher_goes_on(uint16_t p)
 static uint16_t publisher_in_turn(void)
 {
     static uint16_t p;
-    if (words[0] == RAHUVYTE_KIND_NEW || words[FIRST_PUBLISHER + PUBLISHER_WORDS * p] == 0)
+    if (words[0] == RAHUVYTE_KIND_NEW || words[FIRST_PUBLISHER + PUBLISHER_WORDS * p] == RAHUVYTE_PLACE_IDLE)
         p = below(publishers);
     return p;
 }

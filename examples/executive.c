@@ -90,7 +90,7 @@ static void blade_enters(struct cabinet *c, uint16_t r)
     const struct rahuvyte_reply reply = rahuvyte_enter(LENT(c), r);
     if (reply.code != RAHUVYTE_AT)
         stop(blade_names[r], "enter", reply);
-    if (reply.first != 5)
+    if (reply.first != RAHUVYTE_PLACE_PICKED)
         return;
     memcpy(c->shelf.note[r], c->shelf.table, sizeof c->shelf.table);
     c->blades[r].picked = 1;

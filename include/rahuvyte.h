@@ -8,13 +8,13 @@
      rahuvyte_pitch entries[RAHUVYTE_ENTRIES(slots)]         its tables, one for each slot
    The library keeps nothing of its own: no allocation, no global data. Stores in different arrays know nothing of each other.
 
-   A reader, again and again:    ENTER until the reply is 'at 5' .. LOOK, as often as it likes .. LEAVE
-   A publisher, new store:       CLAIM a slot .. WRITE 32 pitches .. SWAP .. SYNC .. RAISE .. WALK until 'returned' .. RELEASE
-   A publisher, old store:       CLAIM a slot .. WRITE 32 pitches .. SWAP .. SYNC .. WALK until 'quiet' .. RAISE .. WALK until 'returned' .. RELEASE
+   A reader, again and again:    ENTER until the reply is AT with RAHUVYTE_PLACE_PICKED .. LOOK, as often as it likes .. LEAVE
+   A publisher, new store:       CLAIM a slot .. WRITE 32 pitches .. SWAP .. SYNC .. RAISE .. WALK until RETURNED .. RELEASE
+   A publisher, old store:       CLAIM a slot .. WRITE 32 pitches .. SWAP .. SYNC .. WALK until QUIET .. RAISE .. WALK until RETURNED .. RELEASE
    Each of these is one short call. Between any two calls the executive may run any other task.
 
    A call that cannot be done now, or makes no sense, is REFUSED: the reply says why by a number below 100,
-   and store and entries stay as they were. No call needs you to have looked first.
+   and store and entries stay as they were. You need not check anything before a call.
 
    One core: calls run one after another. They must not overlap on one store (no second thread, no call from an
    interrupt that came in the middle of another call). Every pointer must be good for the length given with it,
@@ -69,6 +69,30 @@ typedef int16_t rahuvyte_pitch;
 /* What each reader of a fresh store has published, and in a new store each reader that is out: a number among the store's words. */
 #define RAHUVYTE_NOT_READING UINT64_MAX
 
+/* ---- Places ---- */
+
+/* Where a reader stands: the value of a reply AT. */
+enum {
+    RAHUVYTE_PLACE_OUT = 0,          /* in no section, and not on the way into one */
+    RAHUVYTE_PLACE_LOADED = 1,       /* on the way in: it has loaded the version */
+    RAHUVYTE_PLACE_PUBLISHED = 2,    /* new store only: it has published the version that it loaded */
+    RAHUVYTE_PLACE_LOADED_AGAIN = 3, /* new store only: it has loaded the version again */
+    RAHUVYTE_PLACE_OPEN = 4,         /* its section is open; no table is picked yet */
+    RAHUVYTE_PLACE_PICKED = 5        /* its section is open, with a table picked: LOOK is allowed */
+};
+
+/* Where a publisher stands. No reply has it: it is one of the store's words (docs/LAYOUT.md), for whoever looks there. */
+enum {
+    RAHUVYTE_PLACE_IDLE = 0,           /* it holds no slot */
+    RAHUVYTE_PLACE_CLAIMED = 1,        /* 1 to 32: it holds the slot that it claimed, and has written place - 1 pitches */
+    RAHUVYTE_PLACE_WRITTEN = 33,       /* it has written all 32 pitches */
+    RAHUVYTE_PLACE_SWAPPED = 34,       /* its table is swapped in; from here to 38 it holds the slot that was current before */
+    RAHUVYTE_PLACE_SYNCHRONISING = 35, /* it has a mark */
+    RAHUVYTE_PLACE_QUIET = 36,         /* old store only: a WALK has replied QUIET */
+    RAHUVYTE_PLACE_RAISED = 37,        /* the version has reached its mark */
+    RAHUVYTE_PLACE_RETURNED = 38       /* every section that was open at its SYNC has been left */
+};
+
 /* ---- Replies ---- */
 
 /* Every call's reply. code says which; first and second are its values, 0 where it has none. */
@@ -81,7 +105,7 @@ struct rahuvyte_reply {
 /* The codes of accepted calls, from 100. In brackets: first, second. */
 enum {
     RAHUVYTE_MADE = 100,
-    RAHUVYTE_AT = 101,       /* (place) */
+    RAHUVYTE_AT = 101,       /* (place of the reader) */
     RAHUVYTE_PITCH = 102,    /* (pitch) a negative pitch v is 2^64 + v: take it by rahuvyte_pitch_of */
     RAHUVYTE_LEFT = 103,
     RAHUVYTE_CLAIMED = 104,  /* (slot) */
@@ -188,20 +212,20 @@ struct rahuvyte_reply rahuvyte_make(uint64_t *store, size_t store_len, rahuvyte_
 
 /* ---- Calls of a reader; r is its number, from 0 ---- */
 
-/* ENTER: one step on the way into a section. Repeat it until the reply is AT with place 5.
-   Reply: AT with the place: 1, 2, 3, 4, 5 in the new store, 1, 4, 5 in the old. The step to 5 picks the table that is current
-   at that moment; the section keeps it until LEAVE, whatever publishers do. Never waits for a publisher.
-   Refused: DAMAGED, NO_SUCH_READER, READER_TURN (already at 5). */
+/* ENTER: one step on the way into a section. Repeat it until the reply is AT with RAHUVYTE_PLACE_PICKED.
+   Reply: AT with the place: 1, 2, 3, 4, 5 in the new store, 1, 4, 5 in the old. The step to PLACE_PICKED (5) picks the table that is
+   current at that moment; the section keeps it until LEAVE, whatever publishers do. Never waits for a publisher.
+   Refused: DAMAGED, NO_SUCH_READER, READER_TURN (already at PLACE_PICKED). */
 struct rahuvyte_reply rahuvyte_enter(uint64_t *store, size_t store_len, const rahuvyte_pitch *entries, size_t entries_len, uint16_t r);
 
-/* LOOK: entry k, 0 to 31, of the table that reader r picked. Changes nothing; allowed any number of times at place 5.
+/* LOOK: entry k, 0 to 31, of the table that reader r picked. Changes nothing; allowed any number of times at PLACE_PICKED.
    Reply: PITCH with the pitch; rahuvyte_pitch_of(reply) has it as an int.
-   Refused: DAMAGED, NO_SUCH_READER, NO_SUCH_ENTRY, READER_TURN (not at 5). */
+   Refused: DAMAGED, NO_SUCH_READER, NO_SUCH_ENTRY, READER_TURN (not at PLACE_PICKED). */
 struct rahuvyte_reply rahuvyte_look(const uint64_t *store, size_t store_len, const rahuvyte_pitch *entries, size_t entries_len, uint16_t r,
                                     uint16_t k);
 
 /* LEAVE: ends the section. Leave soon: publishers wait, by asking again, for the sections that were open when they synchronised.
-   Reply: LEFT. Refused: DAMAGED, NO_SUCH_READER, READER_TURN (not at 4 or 5; on the way in, ENTER first). */
+   Reply: LEFT. Refused: DAMAGED, NO_SUCH_READER, READER_TURN (not at PLACE_OPEN or PLACE_PICKED; on the way in, ENTER first). */
 struct rahuvyte_reply rahuvyte_leave(uint64_t *store, size_t store_len, const rahuvyte_pitch *entries, size_t entries_len, uint16_t r);
 
 /* ---- Calls of a publisher; p is its number, from 0 ---- */

@@ -1,5 +1,6 @@
 /* The header's constants are the library's own: each is compared with what the archive says by rahuvyte_number.
-   The order of the numbers is that of the table below. Past its end the archive says 0, which is none of them. */
+   The order of the numbers is that of the table below. Past its end the archive says 0, which is none of them.
+   Places have no such number: a reader and a publisher go through all of theirs, and the words that have them are compared. */
 #include "rahuvyte.h"
 
 #include <stdio.h>
@@ -76,6 +77,61 @@ static int agrees(uint16_t which, const char *name, uint64_t value)
     return 0;
 }
 
+static uint64_t store[RAHUVYTE_WORDS];
+static rahuvyte_pitch entries[RAHUVYTE_ENTRIES(2)];
+
+#define LENT store, RAHUVYTE_WORDS, entries, RAHUVYTE_ENTRIES(2)
+
+/* docs/LAYOUT.md: the words of the places of reader 0 and publisher 0. */
+enum { READER_PLACE = 9, PUBLISHER_PLACE = 329 };
+
+/* Whether a word has the header's place, after a call that was accepted; says so if not. */
+static int arrives(struct rahuvyte_reply reply, int word, const char *name, uint64_t place)
+{
+    if (rahuvyte_accepted(reply) && store[word] == place)
+        return 1;
+    fprintf(stderr, "constants: %s is %llu in the header; the library replies %llu and is at %llu\n", name, (unsigned long long)place,
+            (unsigned long long)reply.code, (unsigned long long)store[word]);
+    return 0;
+}
+
+#define READER(call, place) arrives(call, READER_PLACE, #place, RAHUVYTE_##place)
+#define PUBLISHER(call, place) arrives(call, PUBLISHER_PLACE, #place, RAHUVYTE_##place)
+
+static int check_reader_places(uint16_t kind)
+{
+    int good = READER(rahuvyte_make(LENT, kind, 1, 1, 2, 0), PLACE_OUT);
+    good &= READER(rahuvyte_enter(LENT, 0), PLACE_LOADED);
+    if (kind == RAHUVYTE_KIND_NEW) {
+        good &= READER(rahuvyte_enter(LENT, 0), PLACE_PUBLISHED);
+        good &= READER(rahuvyte_enter(LENT, 0), PLACE_LOADED_AGAIN);
+    }
+    good &= READER(rahuvyte_enter(LENT, 0), PLACE_OPEN);
+    good &= READER(rahuvyte_enter(LENT, 0), PLACE_PICKED);
+    return good & READER(rahuvyte_leave(LENT, 0), PLACE_OUT);
+}
+
+static int check_publisher_places(uint16_t kind)
+{
+    int good = PUBLISHER(rahuvyte_make(LENT, kind, 1, 1, 2, 0), PLACE_IDLE);
+    good &= PUBLISHER(rahuvyte_claim(LENT, 0, 1), PLACE_CLAIMED);
+    for (int written = 1; written < RAHUVYTE_TABLE; written++)
+        good &= PUBLISHER(rahuvyte_write(LENT, 0, 0), PLACE_CLAIMED + written);
+    good &= PUBLISHER(rahuvyte_write(LENT, 0, 0), PLACE_WRITTEN);
+    good &= PUBLISHER(rahuvyte_swap(LENT, 0), PLACE_SWAPPED);
+    good &= PUBLISHER(rahuvyte_sync(LENT, 0), PLACE_SYNCHRONISING);
+    if (kind == RAHUVYTE_KIND_OLD)
+        good &= PUBLISHER(rahuvyte_walk(LENT, 0, 1), PLACE_QUIET);
+    good &= PUBLISHER(rahuvyte_raise(LENT, 0), PLACE_RAISED);
+    good &= PUBLISHER(rahuvyte_walk(LENT, 0, 1), PLACE_RETURNED);
+    return good & PUBLISHER(rahuvyte_release(LENT, 0), PLACE_IDLE);
+}
+
+static int check_places(uint16_t kind)
+{
+    return check_reader_places(kind) & check_publisher_places(kind);
+}
+
 /* Whether the header's version is one, as a text and as three numbers. */
 static int one_version(void)
 {
@@ -94,8 +150,9 @@ int main(void)
         good &= agrees(i, constants[i].name, constants[i].value);
     good &= agrees(COUNT, "past the end", 0);
     good &= agrees(UINT16_MAX, "far past the end", 0);
+    good &= check_places(RAHUVYTE_KIND_NEW) & check_places(RAHUVYTE_KIND_OLD);
     if (!good)
         return 1;
-    printf("constants: %d agree\n", COUNT);
+    printf("constants: %d agree, and the places of both kinds\n", COUNT);
     return 0;
 }

@@ -13,7 +13,7 @@ static bool look_up(uint16_t kind)
         return false;
     do
         reply = rahuvyte_enter(store.data(), store.size(), entries.data(), entries.size(), 0);
-    while (reply.code == RAHUVYTE_AT && reply.first != 5);
+    while (reply.code == RAHUVYTE_AT && reply.first != RAHUVYTE_PLACE_PICKED);
     reply = rahuvyte_look(store.data(), store.size(), entries.data(), entries.size(), 0, 31);
     return rahuvyte_accepted(reply) && rahuvyte_pitch_of(reply) == RAHUVYTE_FEATHERED;
 }

@@ -95,9 +95,11 @@ static const struct line names_refused[] = {
 
 /* The new store: reader 0 goes in on the first table; two publishers share one raise and wait for it. */
 static const struct line new_enters[] = {
-    { ENTER, 0, 0, RAHUVYTE_AT, 1, 0 },      { ENTER, 0, 0, RAHUVYTE_AT, 2, 0 }, { ENTER, 0, 0, RAHUVYTE_AT, 3, 0 },
-    { LEAVE, 0, 0, RAHUVYTE_READER_TURN, 0, 0 }, { ENTER, 0, 0, RAHUVYTE_AT, 4, 0 }, { LOOK, 0, 0, RAHUVYTE_READER_TURN, 0, 0 },
-    { ENTER, 0, 0, RAHUVYTE_AT, 5, 0 },      { ENTER, 0, 0, RAHUVYTE_READER_TURN, 0, 0 }, { LOOK, 0, 31, RAHUVYTE_PITCH, 9000, 0 },
+    { ENTER, 0, 0, RAHUVYTE_AT, RAHUVYTE_PLACE_LOADED, 0 }, { ENTER, 0, 0, RAHUVYTE_AT, RAHUVYTE_PLACE_PUBLISHED, 0 },
+    { ENTER, 0, 0, RAHUVYTE_AT, RAHUVYTE_PLACE_LOADED_AGAIN, 0 }, { LEAVE, 0, 0, RAHUVYTE_READER_TURN, 0, 0 },
+    { ENTER, 0, 0, RAHUVYTE_AT, RAHUVYTE_PLACE_OPEN, 0 }, { LOOK, 0, 0, RAHUVYTE_READER_TURN, 0, 0 },
+    { ENTER, 0, 0, RAHUVYTE_AT, RAHUVYTE_PLACE_PICKED, 0 }, { ENTER, 0, 0, RAHUVYTE_READER_TURN, 0, 0 },
+    { LOOK, 0, 31, RAHUVYTE_PITCH, 9000, 0 },
 };
 static const struct line new_waits[] = {
     { SYNC, 0, 0, RAHUVYTE_SYNCED, 1, 0 },       { SYNC, 1, 0, RAHUVYTE_SYNCED, 1, 0 },    { WALK, 0, 9, RAHUVYTE_PUBLISHER_TURN, 0, 0 },
@@ -108,9 +110,10 @@ static const struct line new_waits[] = {
     { RELEASE, 0, 0, RAHUVYTE_FREED, 0, 2 },
 };
 static const struct line new_looks[] = {
-    { ENTER, 1, 0, RAHUVYTE_AT, 1, 0 }, { ENTER, 1, 0, RAHUVYTE_AT, 2, 0 }, { ENTER, 1, 0, RAHUVYTE_AT, 3, 0 }, { ENTER, 1, 0, RAHUVYTE_AT, 4, 0 },
-    { ENTER, 1, 0, RAHUVYTE_AT, 5, 0 }, { LOOK, 1, 0, RAHUVYTE_PITCH, UINT64_MAX - 499, 0 }, { LOOK, 1, 31, RAHUVYTE_PITCH, 5700, 0 },
-    { LEAVE, 1, 0, RAHUVYTE_LEFT, 0, 0 },
+    { ENTER, 1, 0, RAHUVYTE_AT, RAHUVYTE_PLACE_LOADED, 0 }, { ENTER, 1, 0, RAHUVYTE_AT, RAHUVYTE_PLACE_PUBLISHED, 0 },
+    { ENTER, 1, 0, RAHUVYTE_AT, RAHUVYTE_PLACE_LOADED_AGAIN, 0 }, { ENTER, 1, 0, RAHUVYTE_AT, RAHUVYTE_PLACE_OPEN, 0 },
+    { ENTER, 1, 0, RAHUVYTE_AT, RAHUVYTE_PLACE_PICKED, 0 }, { LOOK, 1, 0, RAHUVYTE_PITCH, UINT64_MAX - 499, 0 },
+    { LOOK, 1, 31, RAHUVYTE_PITCH, 5700, 0 }, { LEAVE, 1, 0, RAHUVYTE_LEFT, 0, 0 },
 };
 
 static void play_new_lists(void)
@@ -127,8 +130,9 @@ static void play_new_lists(void)
 
 /* The old store: reader 0 goes in on the first table; the other publisher is refused until the end. */
 static const struct line old_enters[] = {
-    { ENTER, 0, 0, RAHUVYTE_AT, 1, 0 }, { LEAVE, 0, 0, RAHUVYTE_READER_TURN, 0, 0 }, { ENTER, 0, 0, RAHUVYTE_AT, 4, 0 },
-    { ENTER, 0, 0, RAHUVYTE_AT, 5, 0 }, { ENTER, 0, 0, RAHUVYTE_READER_TURN, 0, 0 }, { LOOK, 0, 31, RAHUVYTE_PITCH, 9000, 0 },
+    { ENTER, 0, 0, RAHUVYTE_AT, RAHUVYTE_PLACE_LOADED, 0 }, { LEAVE, 0, 0, RAHUVYTE_READER_TURN, 0, 0 },
+    { ENTER, 0, 0, RAHUVYTE_AT, RAHUVYTE_PLACE_OPEN, 0 }, { ENTER, 0, 0, RAHUVYTE_AT, RAHUVYTE_PLACE_PICKED, 0 },
+    { ENTER, 0, 0, RAHUVYTE_READER_TURN, 0, 0 }, { LOOK, 0, 31, RAHUVYTE_PITCH, 9000, 0 },
 };
 static const struct line old_waits[] = {
     { CLAIM, 1, 0, RAHUVYTE_BUSY, 0, 0 },    { CLAIM, 1, 1, RAHUVYTE_BUSY, 0, 0 },    { SYNC, 0, 0, RAHUVYTE_SYNCED, 1, 0 },
@@ -138,8 +142,9 @@ static const struct line old_waits[] = {
     { WALK, 0, 9, RAHUVYTE_RETURNED, 3, 1 }, { RELEASE, 0, 0, RAHUVYTE_FREED, 0, 1 }, { CLAIM, 1, 1, RAHUVYTE_SLOT_IN_USE, 0, 0 },
 };
 static const struct line old_looks[] = {
-    { ENTER, 1, 0, RAHUVYTE_AT, 1, 0 }, { ENTER, 1, 0, RAHUVYTE_AT, 4, 0 }, { ENTER, 1, 0, RAHUVYTE_AT, 5, 0 },
-    { LOOK, 1, 0, RAHUVYTE_PITCH, UINT64_MAX - 499, 0 }, { LOOK, 1, 31, RAHUVYTE_PITCH, 2600, 0 }, { LEAVE, 1, 0, RAHUVYTE_LEFT, 0, 0 },
+    { ENTER, 1, 0, RAHUVYTE_AT, RAHUVYTE_PLACE_LOADED, 0 }, { ENTER, 1, 0, RAHUVYTE_AT, RAHUVYTE_PLACE_OPEN, 0 },
+    { ENTER, 1, 0, RAHUVYTE_AT, RAHUVYTE_PLACE_PICKED, 0 }, { LOOK, 1, 0, RAHUVYTE_PITCH, UINT64_MAX - 499, 0 },
+    { LOOK, 1, 31, RAHUVYTE_PITCH, 2600, 0 }, { LEAVE, 1, 0, RAHUVYTE_LEFT, 0, 0 },
 };
 
 static void play_old_lists(void)

@@ -113,7 +113,7 @@ static void enter_readers(void)
         expect(RAHUVYTE_READER_TURN, LOOK, r, 0);
         do
             expect(RAHUVYTE_AT, ENTER, r, 0);
-        while (reply.first != 5);
+        while (reply.first != RAHUVYTE_PLACE_PICKED);
         expect(RAHUVYTE_READER_TURN, ENTER, r, 0);
         expect(RAHUVYTE_PITCH, LOOK, r, 31);
     }
@@ -186,7 +186,7 @@ static void publish_old(void)
 /* Every call on a store whose last publisher is out of range: the damage test at its longest. */
 static void call_damaged(void)
 {
-    store[RAHUVYTE_WORDS - 6] = 39;
+    store[RAHUVYTE_WORDS - 6] = RAHUVYTE_PLACE_RETURNED + 1;
     for (int w = ENTER; w <= RELEASE; w++)
         expect(RAHUVYTE_DAMAGED, (enum word)w, 0, 1);
 }
