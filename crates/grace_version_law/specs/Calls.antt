@@ -14,6 +14,7 @@ use Rattle.base.specs.RowLaws.{clash, and-false, or-false, or-none, all-false}
 use Rattle.calls.specs.declared.Call.the-variants.{Enter, Leave}
 use Rattle.calls.specs.declared.Reply.the-variants.{At, Left}
 use Rattle.calls.specs.declared.WalkReply.the-variants.{Waiting, Spent, Returned}
+use Rattle.calls.specs.Numbers.{PLACE-OUT, PLACE-LOADED, PLACE-PUBLISHED, PLACE-LOADED-AGAIN, PLACE-OPEN, PLACE-PICKED, PLACE-SYNCHRONISING, PLACE-QUIET, PLACE-RAISED, PLACE-RETURNED}
 use Rattle.layout.specs.declared.Reader.{Reader}
 use Rattle.layout.specs.declared.Publisher.{Publisher}
 use Rattle.layout.specs.declared.WalkRecord.{WalkRecord}
@@ -30,60 +31,60 @@ use Rattle.grace_version_law.specs.Safety.{next-below}
 
 -- The damage test of a reader, by its place.
 module _ (ss : ℕ) (x : Reader) where
-  pub reader-loaded : x .place ≤ 4 → 2 ≤ x .place % 4 → anyTrue (readerRows ss x) ≡ not (eqb (x .published) (x .first))
-  reader-loaded high low = go (eqb (x .place) 2) refl
+  pub reader-loaded : x .place ≤ PLACE-OPEN → 2 ≤ x .place % 4 → anyTrue (readerRows ss x) ≡ not (eqb (x .published) (x .first))
+  reader-loaded high low = go (eqb (x .place) PLACE-PUBLISHED) refl
     where
-      go : (b : Bool) → eqb (x .place) 2 ≡ b → anyTrue (readerRows ss x) ≡ not (eqb (x .published) (x .first))
+      go : (b : Bool) → eqb (x .place) PLACE-PUBLISHED ≡ b → anyTrue (readerRows ss x) ≡ not (eqb (x .published) (x .first))
       go true e = rw (eqb-true (x .place) 2 e) (or-none _)
-      go false e = let three : x .place ≡ 3 = (let q = eqb-false (x .place) 2 e in omega arith) in rw three (or-none _)
+      go false e = let three : x .place ≡ PLACE-LOADED-AGAIN = (let q = eqb-false (x .place) 2 e in omega arith) in rw three (or-none _)
 
-  pub reader-rests : x .place ≤ 4 → x .place % 4 < 2 → anyTrue (readerRows ss x) ≡ false
+  pub reader-rests : x .place ≤ PLACE-OPEN → x .place % 4 < 2 → anyTrue (readerRows ss x) ≡ false
   reader-rests high low = rw (le-ltb 5 (x .place) (omega arith), ne-eqb (x .place) 5 (λ z. omega arith), ne-eqb (x .place) 2 (λ z. omega arith), ne-eqb (x .place) 3 (λ z. omega arith)) refl
 
-  pub reader-beyond : 5 < x .place → anyTrue (readerRows ss x) ≡ true
+  pub reader-beyond : PLACE-PICKED < x .place → anyTrue (readerRows ss x) ≡ true
   reader-beyond l = rw (lt-ltb 5 (x .place) l) refl
 
 -- What the kind adds to the damage test of a publisher, by its place.
 module _ (rs : ℕ) (y : Publisher) where
-  pub no-such-place : (ltb 38 (y .place) || eqb (y .place) 36) ≡ true → anyTrue (extraRows rs y) ≡ true
-  no-such-place e = go (ltb 38 (y .place)) (eqb (y .place) 36) (((eqb (y .place) 35 || eqb (y .place) 37) && leb rs (y .walk .next)) || false) e
+  pub no-such-place : (ltb PLACE-RETURNED (y .place) || eqb (y .place) PLACE-QUIET) ≡ true → anyTrue (extraRows rs y) ≡ true
+  no-such-place e = go (ltb PLACE-RETURNED (y .place)) (eqb (y .place) PLACE-QUIET) (((eqb (y .place) PLACE-SYNCHRONISING || eqb (y .place) PLACE-RAISED) && leb rs (y .walk .next)) || false) e
     where
       go : (a b t : Bool) → a || b ≡ true → (a || (b || t)) ≡ true
       go true b t d = refl
       go false true t d = refl
       go false false t d = clash (sym d)
 
-  pub own-returned : y .place ≡ 38 → anyTrue (extraRows rs y) ≡ false
+  pub own-returned : y .place ≡ PLACE-RETURNED → anyTrue (extraRows rs y) ≡ false
   own-returned e = rw e refl
 
-  pub own-walking : 35 ≤ y .place → (ltb 38 (y .place) || eqb (y .place) 36) ≡ false → y .place ≢ 38 → anyTrue (extraRows rs y) ≡ leb rs (y .walk .next)
+  pub own-walking : PLACE-SYNCHRONISING ≤ y .place → (ltb PLACE-RETURNED (y .place) || eqb (y .place) PLACE-QUIET) ≡ false → y .place ≢ PLACE-RETURNED → anyTrue (extraRows rs y) ≡ leb rs (y .walk .next)
   own-walking late place ne =
-      let q = or-false (ltb 38 (y .place)) (eqb (y .place) 36) place in
+      let q = or-false (ltb PLACE-RETURNED (y .place)) (eqb (y .place) PLACE-QUIET) place in
       let high = ltb-false 38 (y .place) (q .0) in
       let other = eqb-false (y .place) 36 (q .1) in
-      go high other (eqb (y .place) 35) refl
+      go high other (eqb (y .place) PLACE-SYNCHRONISING) refl
     where
-      go : y .place ≤ 38 → (y .place ≡ 36 → ⊥) → (b : Bool) → eqb (y .place) 35 ≡ b → anyTrue (extraRows rs y) ≡ leb rs (y .walk .next)
+      go : y .place ≤ PLACE-RETURNED → (y .place ≡ PLACE-QUIET → ⊥) → (b : Bool) → eqb (y .place) PLACE-SYNCHRONISING ≡ b → anyTrue (extraRows rs y) ≡ leb rs (y .walk .next)
       go high other true e = rw (eqb-true (y .place) 35 e) (or-none _)
-      go high other false e = let d : y .place ≡ 37 = (let q = eqb-false (y .place) 35 e in omega arith) in rw d (or-none _)
+      go high other false e = let d : y .place ≡ PLACE-RAISED = (let q = eqb-false (y .place) 35 e in omega arith) in rw d (or-none _)
 
 -- At 3 a reader has published the version that it loaded first.
-pub published-of : (s : State) → damaged rules s ≡ false → (r : ℕ) → r < readers (s .words) → reader s r .place ≡ 3 → reader s r .published ≡ reader s r .first
+pub published-of : (s : State) → damaged rules s ≡ false → (r : ℕ) → r < readers (s .words) → reader s r .place ≡ PLACE-LOADED-AGAIN → reader s r .published ≡ reader s r .first
 published-of s e r named turn =
     let f = all-false (readerRows (slots (s .words)) (reader s r)) (undamaged-facts rules s e .readers-undamaged r named) in
-    eqb-true _ _ (not-false _ (and-false (eqb (reader s r .place) 2 || eqb (reader s r .place) 3) (not (eqb (reader s r .published) (reader s r .first))) (f .1 .1 .0) (rw turn refl)))
+    eqb-true _ _ (not-false _ (and-false (eqb (reader s r .place) PLACE-PUBLISHED || eqb (reader s r .place) PLACE-LOADED-AGAIN) (not (eqb (reader s r .published) (reader s r .first))) (f .1 .1 .0) (rw turn refl)))
 
 -- At 35 and at 37 a walk has readers left to pass.
-pub next-low : (s : State) → damaged rules s ≡ false → (p : ℕ) → p < publishers (s .words) → (eqb (publisher s p .place) 35 || eqb (publisher s p .place) 37) ≡ true → publisher s p .walk .next < readers (s .words)
+pub next-low : (s : State) → damaged rules s ≡ false → (p : ℕ) → p < publishers (s .words) → (eqb (publisher s p .place) PLACE-SYNCHRONISING || eqb (publisher s p .place) PLACE-RAISED) ≡ true → publisher s p .walk .next < readers (s .words)
 next-low s e p named turn = next-below (readers (s .words)) (slots (s .words)) (publisher s p) (undamaged-facts rules s e .publishers-undamaged p named) turn
 
 module _ (s : State) (clean : damaged rules s ≡ false) where
-  pub enter-is : (v : List ℕ) (r : ℕ) (x y : Reader) → r < readers (s .words) → x ≡ reader s r → x .place < 5 → y ≡ onward (version (s .words)) (current (s .words)) x → v ≡ withReader (s .words) r y
+  pub enter-is : (v : List ℕ) (r : ℕ) (x y : Reader) → r < readers (s .words) → x ≡ reader s r → x .place < PLACE-PICKED → y ≡ onward (version (s .words)) (current (s .words)) x → v ≡ withReader (s .words) r y
       → outcome (At (y .place)) (state v (s .entries)) ≡ step rules s (Enter r)
   enter-is v r x y named is turn moved put =
       rw (put, moved, is) (enter-accepted fixed s clean r x named is turn)
 
-  pub leave-is : (v : List ℕ) (r : ℕ) (x : Reader) → r < readers (s .words) → x ≡ reader s r → 4 ≤ x .place → v ≡ withReader (s .words) r (leaving x)
+  pub leave-is : (v : List ℕ) (r : ℕ) (x : Reader) → r < readers (s .words) → x ≡ reader s r → PLACE-OPEN ≤ x .place → v ≡ withReader (s .words) r (leaving x)
       → outcome Left (state v (s .entries)) ≡ step rules s (Leave r)
   leave-is v r x named is turn put =
       rw (put, is) (leave-accepted fixed s clean r x named is turn)
@@ -99,29 +100,29 @@ past-enter (suc (suc (suc (suc (suc n))))) a b c d e = omega arith
 
 -- A reader one place on, by its place.
 module _ (v cur : ℕ) (x : Reader) where
-  pub onward-loads : (n : ℕ) → n ≡ v → x .place ≡ 0 → (x place≔ 1 first≔ n) ≡ onward v cur x
+  pub onward-loads : (n : ℕ) → n ≡ v → x .place ≡ PLACE-OUT → (x place≔ PLACE-LOADED first≔ n) ≡ onward v cur x
   unfolding onward
   onward-loads n d e = rw (d, e) refl
 
-  pub onward-publishes : x .place ≡ 1 → (x place≔ 2 published≔ x .first) ≡ onward v cur x
+  pub onward-publishes : x .place ≡ PLACE-LOADED → (x place≔ PLACE-PUBLISHED published≔ x .first) ≡ onward v cur x
   unfolding onward
   onward-publishes e = rw e refl
 
-  pub onward-loads-again : (n : ℕ) → n ≡ v → x .place ≡ 2 → (x place≔ 3 second≔ n) ≡ onward v cur x
+  pub onward-loads-again : (n : ℕ) → n ≡ v → x .place ≡ PLACE-PUBLISHED → (x place≔ PLACE-LOADED-AGAIN second≔ n) ≡ onward v cur x
   unfolding onward
   onward-loads-again n d e = rw (d, e) refl
 
   -- Where the two versions are equal, the second is published already.
-  pub onward-publishes-second : x .place ≡ 3 → x .published ≡ x .first → (x place≔ 4 published≔ x .second) ≡ onward v cur x
+  pub onward-publishes-second : x .place ≡ PLACE-LOADED-AGAIN → x .published ≡ x .first → (x place≔ PLACE-OPEN published≔ x .second) ≡ onward v cur x
   unfolding onward
   onward-publishes-second e f = rw (e, f) (go (eqb (x .first) (x .second)) refl)
     where
       go : (b : Bool) → eqb (x .first) (x .second) ≡ b
-          → (x place≔ 4 published≔ x .second) ≡ (x place≔ 4 published≔ pick b (x .first) (x .second))
+          → (x place≔ PLACE-OPEN published≔ x .second) ≡ (x place≔ PLACE-OPEN published≔ pick b (x .first) (x .second))
       go true d = rw (eqb-true (x .first) (x .second) d) refl
       go false d = refl
 
-  pub onward-picks : (n : ℕ) → n ≡ cur → x .place ≡ 4 → (x place≔ 5 picked≔ n) ≡ onward v cur x
+  pub onward-picks : (n : ℕ) → n ≡ cur → x .place ≡ PLACE-OPEN → (x place≔ PLACE-PICKED picked≔ n) ≡ onward v cur x
   unfolding onward
   onward-picks n d e = rw (d, e) refl
 

@@ -16,7 +16,7 @@ use Rattle.calls.specs.declared.Call.the-variants.{Enter, Leave, Sync, Raise, W
 use Rattle.calls.specs.declared.Reply.the-variants.{At, Left, Synced, Walked}
 use Rattle.calls.specs.declared.WalkReply.{WalkReply}
 use Rattle.calls.specs.declared.WalkReply.the-variants.{Waiting, Spent, Quiet, Returned}
-use Rattle.calls.specs.Numbers.{READERS-MAX, NOT-READING, KIND-NEW}
+use Rattle.calls.specs.Numbers.{READERS-MAX, NOT-READING, KIND-NEW, PLACE-LOADED, PLACE-PUBLISHED, PLACE-OPEN, PLACE-PICKED, PLACE-SYNCHRONISING, PLACE-QUIET, PLACE-RAISED, PLACE-RETURNED}
 use Rattle.layout.specs.declared.Reader.{Reader}
 use Rattle.layout.specs.declared.Publisher.{Publisher}
 use Rattle.layout.specs.declared.WalkRecord.{WalkRecord}
@@ -41,27 +41,27 @@ use Rattle.grace_version_law.specs.Traits.{traits}
 use Rattle.grace_version_law.specs.Walks.{lookedAt-all, Ends, LooksFacts, looks-mark, looks-facts}
 
 -- What the kind adds to a publisher's rows, from facts and to them.
-pub extra-clear : (rs : ℕ) (y : Publisher) → y .place ≤ 38 → y .place ≢ 36 → (35 ≤ y .place → y .place ≤ 37 → y .walk .next < rs) → anyTrue (extraRows rs y) ≡ false
+pub extra-clear : (rs : ℕ) (y : Publisher) → y .place ≤ PLACE-RETURNED → y .place ≢ PLACE-QUIET → (PLACE-SYNCHRONISING ≤ y .place → y .place ≤ PLACE-RAISED → y .walk .next < rs) → anyTrue (extraRows rs y) ≡ false
 extra-clear rs y high ne below = none-true (extraRows rs y) (
   le-ltb 38 (y .place) high,
   (
     ne-eqb (y .place) 36 ne,
-    (and-not (eqb (y .place) 35 || eqb (y .place) 37) (leb rs (y .walk .next)) (λ e. lt-leb rs (y .walk .next) (by-place (eqb (y .place) 35) refl (eqb (y .place) 37) refl e)), tt),
+    (and-not (eqb (y .place) PLACE-SYNCHRONISING || eqb (y .place) PLACE-RAISED) (leb rs (y .walk .next)) (λ e. lt-leb rs (y .walk .next) (by-place (eqb (y .place) PLACE-SYNCHRONISING) refl (eqb (y .place) PLACE-RAISED) refl e)), tt),
   ),
 )
   where
-    by-place : (a : Bool) → eqb (y .place) 35 ≡ a → (b : Bool) → eqb (y .place) 37 ≡ b → (a || b) ≡ true → y .walk .next < rs
+    by-place : (a : Bool) → eqb (y .place) PLACE-SYNCHRONISING ≡ a → (b : Bool) → eqb (y .place) PLACE-RAISED ≡ b → (a || b) ≡ true → y .walk .next < rs
     by-place true d b e t = below (omega (arith, eqb-true (y .place) 35 d)) (omega (arith, eqb-true (y .place) 35 d))
     by-place false d true e t = below (omega (arith, eqb-true (y .place) 37 e)) (omega (arith, eqb-true (y .place) 37 e))
     by-place false d false e t = clash (sym t)
 
-pub next-below : (rs ss : ℕ) (y : Publisher) → damageRules .publisherDamaged rs ss y ≡ false → (eqb (y .place) 35 || eqb (y .place) 37) ≡ true → y .walk .next < rs
+pub next-below : (rs ss : ℕ) (y : Publisher) → damageRules .publisherDamaged rs ss y ≡ false → (eqb (y .place) PLACE-SYNCHRONISING || eqb (y .place) PLACE-RAISED) ≡ true → y .walk .next < rs
 next-below rs ss y e t =
     let f = all-false (extraRows rs y) (or-false (anyTrue (extraRows rs y)) (anyTrue (publisherRows versions ss y)) e .0) in
-    leb-false rs (y .walk .next) (and-false (eqb (y .place) 35 || eqb (y .place) 37) (leb rs (y .walk .next)) (f .1 .1 .0) t)
+    leb-false rs (y .walk .next) (and-false (eqb (y .place) PLACE-SYNCHRONISING || eqb (y .place) PLACE-RAISED) (leb rs (y .walk .next)) (f .1 .1 .0) t)
 
 -- At 5 a reader is damaged by its pick alone.
-pub picked-rows : (ss : ℕ) (x : Reader) → x .place ≡ 5 → anyTrue (readerRows ss x) ≡ leb ss (x .picked)
+pub picked-rows : (ss : ℕ) (x : Reader) → x .place ≡ PLACE-PICKED → anyTrue (readerRows ss x) ≡ leb ss (x .picked)
 picked-rows ss x e = rw e (or-none (leb ss (x .picked)))
 
 abbrev pub law : KindLaw damageRules
@@ -78,8 +78,8 @@ law = record {
 pub record Shown (ver n r : ℕ) (x : Reader) : Type 0 where
   pub first-low : x .first ≤ ver
   pub second-low : x .second ≤ ver
-  pub shown : 2 ≤ x .place → x .published ≤ ver
-  pub out : r < n → x .place ≤ 1 → x .published ≡ NOT-READING
+  pub shown : PLACE-PUBLISHED ≤ x .place → x .published ≤ ver
+  pub out : r < n → x .place ≤ PLACE-LOADED → x .published ≡ NOT-READING
 
 -- A synchronise waits for a reader that published a version below its mark and that its walk has not passed.
 pub record Behind (n : ℕ) (x : Reader) (k : WalkRecord) (r : ℕ) : Type 0 where
@@ -96,7 +96,7 @@ detector = record {
 
 -- ENTER, by the place.
 module _ (ver cur : ℕ) where
-  onward-shown : (n r : ℕ) (x : Reader) (pl : ℕ) → pl ≤ 4 → Shown ver n r (x place≔ pl)
+  onward-shown : (n r : ℕ) (x : Reader) (pl : ℕ) → pl ≤ PLACE-OPEN → Shown ver n r (x place≔ pl)
       → Shown ver n r (onward ver cur (x place≔ pl))
   unfolding onward
   onward-shown n r x zero l o = record { first-low = omega arith; second-low = o .second-low; shown = λ q. absurd (omega arith); out = λ rn q. o .out rn (omega arith) }
@@ -112,7 +112,7 @@ module _ (ver cur : ℕ) where
   onward-shown n r x (suc (suc (suc (suc (suc pl))))) l o = absurd (omega arith)
 
   -- .. the place and one number more.
-  onward-stays : (x : Reader) (pl : ℕ) → pl ≤ 4 → PlaceAndOne (x place≔ pl) (onward ver cur (x place≔ pl))
+  onward-stays : (x : Reader) (pl : ℕ) → pl ≤ PLACE-OPEN → PlaceAndOne (x place≔ pl) (onward ver cur (x place≔ pl))
   unfolding onward
   onward-stays x zero l = place-and-one _ _ 1 (λ n. absurd (n refl)) (λ _. refl) (λ _. refl) (λ _. refl)
   onward-stays x (suc zero) l = place-and-one _ _ 3 (λ _. refl) (λ _. refl) (λ n. absurd (n refl)) (λ _. refl)
@@ -121,7 +121,7 @@ module _ (ver cur : ℕ) where
   onward-stays x (suc (suc (suc (suc zero)))) l = place-and-one _ _ 4 (λ _. refl) (λ _. refl) (λ _. refl) (λ n. absurd (n refl))
   onward-stays x (suc (suc (suc (suc (suc pl))))) l = absurd (omega arith)
 
-  pub onward-place : (x : Reader) (pl : ℕ) → pl ≤ 4 → onward ver cur (x place≔ pl) .place ≡ suc pl
+  pub onward-place : (x : Reader) (pl : ℕ) → pl ≤ PLACE-OPEN → onward ver cur (x place≔ pl) .place ≡ suc pl
   unfolding onward
   onward-place x zero l = refl
   onward-place x (suc zero) l = refl
@@ -130,7 +130,7 @@ module _ (ver cur : ℕ) where
   onward-place x (suc (suc (suc (suc zero)))) l = refl
   onward-place x (suc (suc (suc (suc (suc pl))))) l = absurd (omega arith)
 
-  onward-goes : (x : Reader) (pl : ℕ) → pl ≤ 4 → let y = onward ver cur (x place≔ pl) in Onward cur pl (x .picked) (y .place) (y .picked)
+  onward-goes : (x : Reader) (pl : ℕ) → pl ≤ PLACE-OPEN → let y = onward ver cur (x place≔ pl) in Onward cur pl (x .picked) (y .place) (y .picked)
   unfolding onward
   onward-goes x zero l = stays-out (omega arith) (omega arith) refl
   onward-goes x (suc zero) l = stays-out (omega arith) (omega arith) refl
@@ -139,7 +139,7 @@ module _ (ver cur : ℕ) where
   onward-goes x (suc (suc (suc (suc zero)))) l = picks refl refl refl
   onward-goes x (suc (suc (suc (suc (suc pl))))) l = absurd (omega arith)
 
-  onward-fits : (slots : ℕ) (x : Reader) (pl : ℕ) → pl ≤ 4 → cur < slots → AllFalse (readerRows slots (x place≔ pl))
+  onward-fits : (slots : ℕ) (x : Reader) (pl : ℕ) → pl ≤ PLACE-OPEN → cur < slots → AllFalse (readerRows slots (x place≔ pl))
       → AllFalse (readerRows slots (onward ver cur (x place≔ pl)))
   unfolding onward
   onward-fits slots x zero l c h = (refl, (refl, (refl, tt)))
@@ -149,7 +149,7 @@ module _ (ver cur : ℕ) where
   onward-fits slots x (suc (suc (suc (suc zero)))) l c h = (refl, (lt-leb slots cur c, (refl, tt)))
   onward-fits slots x (suc (suc (suc (suc (suc pl))))) l c h = absurd (omega arith)
 
-onward-published : (ver cur : ℕ) (x : Reader) → 4 ≤ x .place → onward ver cur x .published ≡ x .published
+onward-published : (ver cur : ℕ) (x : Reader) → PLACE-OPEN ≤ x .place → onward ver cur x .published ≡ x .published
 unfolding onward
 onward-published ver cur x l = rw (ne-eqb (x .place) 0 (λ z. omega arith), ne-eqb (x .place) 1 (λ z. omega arith), ne-eqb (x .place) 2 (λ z. omega arith), ne-eqb (x .place) 3 (λ z. omega arith)) refl
 
@@ -162,7 +162,7 @@ module _ (z : Given) (g : Ghost) (s : State) (i : WholeInvariant damageRules (Ow
   enter-kept : (r : ℕ) → AllClear (enterTests s r) → WholeInvariant damageRules (OwnOf detector) z (kept.advance g (Enter r) (At (entered s r .place))) (state (withReader (s .words) r (entered s r)) (s .entries))
   enter-kept r f =
       let lt : r < readers (s .words) = leb-false _ _ (f .0) in
-      let l : reader s r .place ≤ 4 = let q = leb-false 5 (reader s r .place) (f .1 .0) in omega arith in
+      let l : reader s r .place ≤ PLACE-OPEN = let q = leb-false 5 (reader s r .place) (f .1 .0) in omega arith in
       enter-invariant detector damageRules law z g s i _ r (entered s r) (reader-moves (i .shared .every .no-damage) r (entered s r) lt)
       (none-true (readerRows (slots (s .words)) (entered s r)) (onward-fits _ _ _ (reader s r) _ l (i .shared .every .no-damage .head .current-below) (all-false (readerRows (slots (s .words)) (reader s r)) (i .shared .every .no-damage .readers-undamaged r lt))))
       (shown-anew r _ (onward-shown _ _ _ _ (reader s r) _ l (i .own .readers-are r))) lt (onward-goes _ _ (reader s r) _ l)
@@ -174,19 +174,19 @@ module _ (z : Given) (g : Ghost) (s : State) (i : WholeInvariant damageRules (Ow
 
   sync-kept : (p : ℕ) → AllClear (syncTests versions s p) → WholeInvariant damageRules (OwnOf detector) z (kept.advance g (Sync p) (Synced (version (s .words) + 1))) (sync versions s p .after)
   sync-kept p f = sync-invariant detector damageRules law z g s i p f
-      (extra-clear (readers (s .words)) (publisher s p atPlace 35 walk≔ newWalk (publisher s p .walk) (version (s .words) + 1)) (omega arith) (λ e. omega arith) (λ a b. omega (arith, i .shared .every .no-damage .head .readers-low)))
+      (extra-clear (readers (s .words)) (publisher s p atPlace PLACE-SYNCHRONISING walk≔ newWalk (publisher s p .walk) (version (s .words) + 1)) (omega arith) (λ e. omega arith) (λ a b. omega (arith, i .shared .every .no-damage .head .readers-low)))
       refl (λ r l. record { below = omega (arith, i .own .readers-are r .shown (omega arith)); unpassed = λ j a. absurd (omega arith) })
 
-  raise-kept : (p : ℕ) → p < publishers (s .words) → eqb (publisher s p .place) 35 ≡ true → WholeInvariant damageRules (OwnOf detector) z (kept.advance g (Raise p) (raise versions s p .reply)) (raise versions s p .after)
+  raise-kept : (p : ℕ) → p < publishers (s .words) → eqb (publisher s p .place) PLACE-SYNCHRONISING ≡ true → WholeInvariant damageRules (OwnOf detector) z (kept.advance g (Raise p) (raise versions s p .reply)) (raise versions s p .after)
   raise-kept p lt turn =
       let at35 = eqb-true (publisher s p .place) 35 turn in
       raise-invariant detector damageRules law z g s i p lt (omega arith) (omega arith)
-      (extra-clear (readers (s .words)) (publisher s p atPlace 37) (omega arith) (λ e. omega arith) (λ a b. next-below _ _ (publisher s p) (i .shared .every .no-damage .publishers-undamaged p lt) (rw at35 refl)))
+      (extra-clear (readers (s .words)) (publisher s p atPlace PLACE-RAISED) (omega arith) (λ e. omega arith) (λ a b. next-below _ _ (publisher s p) (i .shared .every .no-damage .publishers-undamaged p lt) (rw at35 refl)))
       refl (λ r a. a)
       (λ e r. let o = i .own .readers-are r in record { first-low = omega (arith, o .first-low); second-low = omega (arith, o .second-low); shown = λ q. omega (arith, o .shown q); out = o .out })
 
   -- A walk from the numbers of publisher p.
-  module _ (p b : ℕ) (lt : p < publishers (s .words)) (at37 : publisher s p .place ≡ 37) where
+  module _ (p b : ℕ) (lt : p < publishers (s .words)) (at37 : publisher s p .place ≡ PLACE-RAISED) where
     pub came : LooksFacts (s .words) (readers (s .words)) (publisher s p .walk .mark) b (publisher s p .walk .next) (publisher s p .walk .looks) (publisher s p .walk .waits) (looksOf s (publisher s p .walk) b)
     came = looks-facts (s .words) (readers (s .words)) (publisher s p .walk .mark) (publisher s p .walk .waits) b (publisher s p .walk .next) (publisher s p .walk .looks)
         (next-below _ _ (publisher s p) (i .shared .every .no-damage .publishers-undamaged p lt) (rw at37 refl))
@@ -211,17 +211,17 @@ module _ (z : Given) (g : Ghost) (s : State) (i : WholeInvariant damageRules (Ow
     abbrev EndsHere : ℕ → ℕ → ℕ → WalkReply → Type 0
     EndsHere nx lk wt o = Ends (s .words) (readers (s .words)) (publisher s p .walk .mark) (publisher s p .walk .next) b nx lk wt o
 
-    returned-all : (o : WalkReply) (nx lk wt : ℕ) → EndsHere nx lk wt o → placeAfter 37 o ≡ 38 → nx ≡ readers (s .words)
+    returned-all : (o : WalkReply) (nx lk wt : ℕ) → EndsHere nx lk wt o → placeAfter 37 o ≡ PLACE-RETURNED → nx ≡ readers (s .words)
     returned-all (Waiting r) nx lk wt e z = absurd (omega arith)
     returned-all Spent nx lk wt e z = absurd (omega arith)
     returned-all Quiet nx lk wt e z = absurd e
     returned-all (Returned l u) nx lk wt e z = e .0
 
     after-clear : (o : WalkReply) (k : WalkRecord) → EndsHere (k .next) (k .looks) (k .waits) o → anyTrue (extraRows (readers (s .words)) (publisher s p atPlace (placeAfter 37 o) walk≔ k)) ≡ false
-    after-clear (Waiting r) k e = extra-clear (readers (s .words)) (publisher s p atPlace 37 walk≔ k) (omega arith) (λ z. omega arith) (λ c d. e .0)
-    after-clear Spent k e = extra-clear (readers (s .words)) (publisher s p atPlace 37 walk≔ k) (omega arith) (λ z. omega arith) (λ c d. e .0)
+    after-clear (Waiting r) k e = extra-clear (readers (s .words)) (publisher s p atPlace PLACE-RAISED walk≔ k) (omega arith) (λ z. omega arith) (λ c d. e .0)
+    after-clear Spent k e = extra-clear (readers (s .words)) (publisher s p atPlace PLACE-RAISED walk≔ k) (omega arith) (λ z. omega arith) (λ c d. e .0)
     after-clear Quiet k e = absurd e
-    after-clear (Returned a c) k e = extra-clear (readers (s .words)) (publisher s p atPlace 38 walk≔ k) (omega arith) (λ z. omega arith) (λ c d. absurd (omega arith))
+    after-clear (Returned a c) k e = extra-clear (readers (s .words)) (publisher s p atPlace PLACE-RETURNED walk≔ k) (omega arith) (λ z. omega arith) (λ c d. absurd (omega arith))
 
     still-counted : looksOf s (publisher s p .walk) b .walk .looks ≡ looksOf s (publisher s p .walk) b .walk .next + looksOf s (publisher s p .walk) b .walk .waits
     still-counted = omega (arith, came .counted, i .own .counted p (omega arith))
@@ -250,7 +250,7 @@ return-numbers w n mark start b l u nx lk wt Spent e q = absurd (let y : _≡_ {
 return-numbers w n mark start b l u nx lk wt Quiet e q = absurd e
 return-numbers w n mark start b l u nx lk wt (Returned c d) e q = let f : c ≡ l = cc in let g : d ≡ u = cc in (e .0, sym f ∙ e .2, sym g ∙ e .3)
 
-return-shown : (z : Given) (g : Ghost) (s : State) (i : WholeInvariant damageRules (OwnOf detector) z g s) (p b l w : ℕ) → p < publishers (s .words) → eqb (publisher s p .place) 37 ≡ true
+return-shown : (z : Given) (g : Ghost) (s : State) (i : WholeInvariant damageRules (OwnOf detector) z g s) (p b l w : ℕ) → p < publishers (s .words) → eqb (publisher s p .place) PLACE-RAISED ≡ true
     → looksOf s (publisher s p .walk) b .reply ≡ Returned l w → Back traits z g p l w
 return-shown z g s i p b l w lt turn q =
     let at37 = eqb-true (publisher s p .place) 37 turn in

@@ -17,7 +17,7 @@ use Rattle.base.specs.RowLaws.{not-both, or-false, or-right, or-none, neither, 
 use Rattle.calls.specs.declared.Call.{Call}
 use Rattle.calls.specs.declared.Call.the-variants.{Enter, Leave, Raise, Walk}
 use Rattle.calls.specs.declared.Reply.the-variants.{Made, Pitch, Claimed, Written, Swapped, Synced, Raised, Shared, Walked, Freed, Refused}
-use Rattle.calls.specs.Numbers.{FEATHERED, PITCH-LOW, PITCH-HIGH, MODULUS, NUMBER-MAX, DAMAGED}
+use Rattle.calls.specs.Numbers.{FEATHERED, PITCH-LOW, PITCH-HIGH, MODULUS, NUMBER-MAX, PLACE-OPEN, PLACE-PICKED, PLACE-IDLE, PLACE-CLAIMED, PLACE-WRITTEN, PLACE-SWAPPED, PLACE-SYNCHRONISING, PLACE-RAISED, PLACE-RETURNED, DAMAGED}
 use Rattle.layout.specs.declared.Reader.{Reader}
 use Rattle.layout.specs.declared.Publisher.{Publisher}
 use Rattle.layout.specs.declared.Progress.{Progress}
@@ -78,10 +78,10 @@ module _ (T : Table) (s : State) where
 
 -- ENTER below 5 and LEAVE at 4 and 5.
 module _ (R : Rules) (s : State) (clean : damaged (tableBy R) s ≡ false) (r : ℕ) (x : Reader) (named : r < readers (s .words)) (is : x ≡ reader s r) where
-  pub enter-accepted : x .place < 5 → tableBy R .act s (Enter r) ≡ step (tableBy R) s (Enter r)
+  pub enter-accepted : x .place < PLACE-PICKED → tableBy R .act s (Enter r) ≡ step (tableBy R) s (Enter r)
   enter-accepted turn = sym (decide-accepts (tableBy R .tests s (Enter r)) (tableBy R .act s (Enter r)) s (lt-leb _ _ named, (lt-leb 5 _ (rw is at turn), tt))) ∙ step-undamaged (tableBy R) s (Enter r) clean
 
-  pub leave-accepted : 4 ≤ x .place → tableBy R .act s (Leave r) ≡ step (tableBy R) s (Leave r)
+  pub leave-accepted : PLACE-OPEN ≤ x .place → tableBy R .act s (Leave r) ≡ step (tableBy R) s (Leave r)
   leave-accepted turn = sym (decide-accepts (tableBy R .tests s (Leave r)) (tableBy R .act s (Leave r)) s (lt-leb _ _ named, (le-ltb _ 4 (rw is at turn), tt))) ∙ step-undamaged (tableBy R) s (Leave r) clean
 
 -- RAISE and WALK, at a place that the kind allows.
@@ -108,42 +108,42 @@ mark-is last v room l = omega arith
 not-at : (n m : ℕ) → n ≡ m → not (eqb n m) ≡ false
 not-at n m e = negated (eqb n m) (eq-eqb n m e)
 
-pub look-is : (w : List ℕ) (es : List ℤ) (r k : ℕ) (x : Reader) → r < readers w → k ≤ 31 → x ≡ readerAt w r → x .place ≡ 5
+pub look-is : (w : List ℕ) (es : List ℤ) (r k : ℕ) (x : Reader) → r < readers w → k ≤ 31 → x ≡ readerAt w r → x .place ≡ PLACE-PICKED
     → outcome (Pitch (getD es (entryAt (x .picked) k) (pos 0))) (state w es) ≡ decide (lookTests (state w es) r k) (look (state w es) r k) (state w es)
 look-is w es r k x named low is turn =
     rw is (sym (decide-accepts (lookTests (state w es) r k) (look (state w es) r k) (state w es) (lt-leb _ _ named, (le-ltb _ _ low, (not-at _ 5 (rw is at turn), tt)))))
 
 module _ (w : List ℕ) (p : ℕ) (y : Publisher) (named : p < publishers w) (is : y ≡ publisherAt w p) where
-  pub claim-is : (v : List ℕ) (exclusive : Bool) (x : ℕ) → x < slots w → y .place ≡ 0 → ((es : List ℤ) → exclusive && anotherBusy (state w es) p ≡ false) → ((es : List ℤ) → inUse (state w es) x ≡ false)
-      → v ≡ withPublisher w p (y atPlace 1 held≔ x)
+  pub claim-is : (v : List ℕ) (exclusive : Bool) (x : ℕ) → x < slots w → y .place ≡ PLACE-IDLE → ((es : List ℤ) → exclusive && anotherBusy (state w es) p ≡ false) → ((es : List ℤ) → inUse (state w es) x ≡ false)
+      → v ≡ withPublisher w p (y atPlace PLACE-CLAIMED held≔ x)
       → (es : List ℤ) → outcome (Claimed x) (state v es) ≡ decide (claimTests exclusive (state w es) p x) (claim (state w es) p x) (state w es)
   claim-is v exclusive x slot turn busy used put es =
       rw (put, is) (sym (decide-accepts (claimTests exclusive (state w es) p x) (claim (state w es) p x) (state w es)
       (claim-rows exclusive (state w es) p x (record { publisher-named = named; slot-named = slot; in-turn = rw is at turn; nobody-busy = busy es; unused = used es }))))
 
-  pub write-is : (v : List ℕ) (es : List ℤ) (a : ℤ) → (ltZ a PITCH-LOW || ltZ PITCH-HIGH a) ≡ false → 1 ≤ y .place → y .place ≤ 32
+  pub write-is : (v : List ℕ) (es : List ℤ) (a : ℤ) → (ltZ a PITCH-LOW || ltZ PITCH-HIGH a) ≡ false → PLACE-CLAIMED ≤ y .place → y .place ≤ 32
       → v ≡ withPublisher w p (y atPlace (y .place + 1))
       → outcome (Written (y .place)) (state v (set es (entryAt (y .held) (y .place - 1)) a)) ≡ decide (writeTests (state w es) p a) (write (state w es) p a) (state w es)
   write-is v es a range low high put =
       rw (put, is) (sym (decide-accepts (writeTests (state w es) p a) (write (state w es) p a) (state w es) (lt-leb _ _ named, (range, (not-outside 1 32 _ (rw is at low) (rw is at high), tt)))))
 
-  pub swap-is : (v : List ℕ) (former : ℕ) → former ≡ current w → y .place ≡ 33
-      → v ≡ withCurrent (withPublisher w p (y atPlace 34 held≔ former)) (y .held)
+  pub swap-is : (v : List ℕ) (former : ℕ) → former ≡ current w → y .place ≡ PLACE-WRITTEN
+      → v ≡ withCurrent (withPublisher w p (y atPlace PLACE-SWAPPED held≔ former)) (y .held)
       → (es : List ℤ) → outcome (Swapped former) (state v es) ≡ decide (swapTests (state w es) p) (swap (state w es) p) (state w es)
   swap-is v former was turn put es =
       rw (put, was, is) (sym (decide-accepts (swapTests (state w es) p) (swap (state w es) p) (state w es) (lt-leb _ _ named, (not-at _ 33 (rw is at turn), tt))))
 
-  pub sync-is : (vs : Versions) (v : List ℕ) (mark : ℕ) → y .place ≡ 34 → vs .isLast (version w) ≡ false → mark ≡ vs .markAt (version w)
-      → v ≡ withPublisher w p (y atPlace 35 walk≔ newWalk (y .walk) mark)
+  pub sync-is : (vs : Versions) (v : List ℕ) (mark : ℕ) → y .place ≡ PLACE-SWAPPED → vs .isLast (version w) ≡ false → mark ≡ vs .markAt (version w)
+      → v ≡ withPublisher w p (y atPlace PLACE-SYNCHRONISING walk≔ newWalk (y .walk) mark)
       → (es : List ℤ) → outcome (Synced mark) (state v es) ≡ decide (syncTests vs (state w es) p) (sync vs (state w es) p) (state w es)
   sync-is vs v mark turn room marked put es =
       rw (put, marked, is) (sym (decide-accepts (syncTests vs (state w es) p) (sync vs (state w es) p) (state w es) (lt-leb _ _ named, (not-at _ 34 (rw is at turn), (room, tt)))))
 
-  pub raised-is : (vs : Versions) (v : List ℕ) → version w ≡ vs .beforeMark (y .walk .mark) → v ≡ withVersion (withPublisher w p (y atPlace 37)) (y .walk .mark)
+  pub raised-is : (vs : Versions) (v : List ℕ) → version w ≡ vs .beforeMark (y .walk .mark) → v ≡ withVersion (withPublisher w p (y atPlace PLACE-RAISED)) (y .walk .mark)
       → (es : List ℤ) → outcome Raised (state v es) ≡ raise vs (state w es) p
   raised-is vs v e put es = rw (put, is, eq-eqb _ _ (rw is at e)) refl
 
-  pub shared-is : (vs : Versions) (v : List ℕ) → version w ≢ vs .beforeMark (y .walk .mark) → v ≡ withPublisher w p (y atPlace 37)
+  pub shared-is : (vs : Versions) (v : List ℕ) → version w ≢ vs .beforeMark (y .walk .mark) → v ≡ withPublisher w p (y atPlace PLACE-RAISED)
       → (es : List ℤ) → outcome Shared (state v es) ≡ raise vs (state w es) p
   shared-is vs v ne put es = rw (put, is, ne-eqb _ _ (rw is at ne)) refl
 
@@ -151,7 +151,7 @@ module _ (w : List ℕ) (p : ℕ) (y : Publisher) (named : p < publishers w) (is
       → (es : List ℤ) → outcome (Walked (k .reply)) (state v es) ≡ walk (state w es) p k
   walked-is v k put es = rw (put, is) refl
 
-  pub release-is : (v : List ℕ) (n : ℕ) → y .place ≡ 38 → n ≡ (releases w + 1) % MODULUS → v ≡ withReleases (withPublisher w p (y atPlace 0)) n
+  pub release-is : (v : List ℕ) (n : ℕ) → y .place ≡ PLACE-RETURNED → n ≡ (releases w + 1) % MODULUS → v ≡ withReleases (withPublisher w p (y atPlace PLACE-IDLE)) n
       → (es : List ℤ) → outcome (Freed (y .held) n) (state v es) ≡ decide (releaseTests (state w es) p) (release (state w es) p) (state w es)
   release-is v n turn more put es =
       rw (put, more, is) (sym (decide-accepts (releaseTests (state w es) p) (release (state w es) p) (state w es) (lt-leb _ _ named, (not-at _ 38 (rw is at turn), tt))))

@@ -6,7 +6,7 @@ use lib.ListN.{length}
 use borrow.Author.Tests.{eqb-true, eq-eqb, leb-false, lt-leb, not-false}
 use Rattle.base.specs.Rows.{firstOf}
 use Rattle.base.specs.RowLaws.{negated, within, not-outside, AllClear, clear}
-use Rattle.calls.specs.Numbers.{READERS-MAX, PUBLISHERS-MAX, SLOTS-MIN, SLOTS-MAX, TABLE}
+use Rattle.calls.specs.Numbers.{READERS-MAX, PUBLISHERS-MAX, SLOTS-MIN, SLOTS-MAX, TABLE, PLACE-IDLE}
 use Rattle.layout.specs.Layout.{WORDS, publishers, slots}
 use Rattle.statement.specs.Machine.{State, Given}
 use Rattle.publication_law.specs.Steps.{Versions, publisher, anotherBusy, inUse, claimTests, makingTests}
@@ -59,7 +59,7 @@ module _ (vs : Versions) (g : Given) (s : State) where
 pub record ClaimClear (exclusive : Bool) (s : State) (p x : ℕ) : Type 0 where
   pub publisher-named : p < publishers (s .words)
   pub slot-named : x < slots (s .words)
-  pub in-turn : publisher s p .place ≡ 0
+  pub in-turn : publisher s p .place ≡ PLACE-IDLE
   pub nobody-busy : exclusive && anotherBusy s p ≡ false
   pub unused : inUse s x ≡ false
 

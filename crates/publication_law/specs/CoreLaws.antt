@@ -18,7 +18,7 @@ use Rattle.base.specs.RowLaws.{clash, not-both, or-left, or-right, or-none, or-
 use Rattle.calls.specs.declared.Call.the-variants.{Enter, Leave, Claim, Write, Swap, Release}
 use Rattle.calls.specs.declared.Reply.{Reply}
 use Rattle.calls.specs.declared.Reply.the-variants.{At}
-use Rattle.calls.specs.Numbers.{TABLE}
+use Rattle.calls.specs.Numbers.{TABLE, PLACE-LOADED-AGAIN, PLACE-PICKED, PLACE-CLAIMED, PLACE-WRITTEN, PLACE-SWAPPED}
 use Rattle.calls.specs.Model.{Model, model₀, modelStep, entry}
 use Rattle.calls.specs.ModelLaws.{entry-old, entry-new}
 use Rattle.calls.specs.Told.{Told, told₀, tell, holds, Role, Has}
@@ -34,12 +34,12 @@ current-or-former-map : (cur cur′ : ℕ) (F F′ : ℕ → ℕ → Bool) (slot
 current-or-former-map cur cur′ F F′ slot (is-current e) f g = f e
 current-or-former-map cur cur′ F F′ slot (is-former q e) f g = g q e
 
-pub hold-map : {A : Type 0} (pl c : ℕ) (F : ℕ → Bool) (x : ℕ) → Hold pl c F x → (1 ≤ pl → pl ≤ 33 → c ≡ x → A) → (F x ≡ true → A) → A
+pub hold-map : {A : Type 0} (pl c : ℕ) (F : ℕ → Bool) (x : ℕ) → Hold pl c F x → (PLACE-CLAIMED ≤ pl → pl ≤ PLACE-WRITTEN → c ≡ x → A) → (F x ≡ true → A) → A
 hold-map pl c F x (by-claim a b e) f g = f a b e
 hold-map pl c F x (by-swap e) f g = g e
 
 -- A publisher that is not writing holds its former slots only.
-hold-late : (pl c : ℕ) (F F′ : ℕ → Bool) (pl′ c′ x : ℕ) → (1 ≤ pl → pl ≤ 33 → ⊥) → ((y : ℕ) → F y ≡ true → F′ y ≡ true) → Hold pl c F x → Hold pl′ c′ F′ x
+hold-late : (pl c : ℕ) (F F′ : ℕ → Bool) (pl′ c′ x : ℕ) → (PLACE-CLAIMED ≤ pl → pl ≤ PLACE-WRITTEN → ⊥) → ((y : ℕ) → F y ≡ true → F′ y ≡ true) → Hold pl c F x → Hold pl′ c′ F′ x
 hold-late pl c F F′ pl′ c′ x late sub o = hold-map pl c F x o (λ a b e. absurd (late a b)) (λ e. by-swap (sub x e))
 
 -- A draft with one entry more.
@@ -52,16 +52,16 @@ appended d v pl len f old k l = go (eqb k (pl - 1)) refl
     go false e = let ne = eqb-false k (pl - 1) e in rw e (entry-old d (v ∷ []) k (omega arith) ∙ old k (omega arith))
 
 -- A place from 1 to 33, as a test.
-writing-true : (pl : ℕ) → 1 ≤ pl → pl ≤ 33 → (leb 1 pl && leb pl 33) ≡ true
+writing-true : (pl : ℕ) → PLACE-CLAIMED ≤ pl → pl ≤ PLACE-WRITTEN → (leb PLACE-CLAIMED pl && leb pl PLACE-WRITTEN) ≡ true
 writing-true pl a b = rw (le-leb 1 pl a, le-leb pl 33 b) refl
 
-writing-late : (pl : ℕ) → 34 ≤ pl → (leb 1 pl && leb pl 33) ≡ false
+writing-late : (pl : ℕ) → PLACE-SWAPPED ≤ pl → (leb PLACE-CLAIMED pl && leb pl PLACE-WRITTEN) ≡ false
 writing-late pl l = rw (lt-leb pl 33 (omega arith), le-leb 1 pl (omega arith)) refl
 
-writing-not : (pl : ℕ) → (1 ≤ pl → pl ≤ 33 → ⊥) → (leb 1 pl && leb pl 33) ≡ false
+writing-not : (pl : ℕ) → (PLACE-CLAIMED ≤ pl → pl ≤ PLACE-WRITTEN → ⊥) → (leb PLACE-CLAIMED pl && leb pl PLACE-WRITTEN) ≡ false
 writing-not pl f = go (leb 1 pl) refl (leb pl 33) refl
   where
-    go : (a : Bool) → leb 1 pl ≡ a → (b : Bool) → leb pl 33 ≡ b → a && b ≡ false
+    go : (a : Bool) → leb PLACE-CLAIMED pl ≡ a → (b : Bool) → leb pl PLACE-WRITTEN ≡ b → a && b ≡ false
     go true d true e = absurd (f (leb-true _ _ d) (leb-true _ _ e))
     go true d false e = refl
     go false d b e = refl
@@ -74,7 +74,7 @@ module _ (h : Model) (t : Told) (n m cur : ℕ) (rpl rpk ppl pcl : ℕ → ℕ) 
   reader-core r pl pk inside picked note ok = record { readers = ok; publishers = i .publishers; distinct = i .distinct; current-is = i .current-is; table = i .table; whole = i .whole }
 
   -- ENTER to a place below 4, to 4, and to 5.
-  enter-below-4 : (r pl : ℕ) → r < n → rpl r ≤ 3 → pl ≤ 3
+  enter-below-4 : (r pl : ℕ) → r < n → rpl r ≤ PLACE-LOADED-AGAIN → pl ≤ PLACE-LOADED-AGAIN
       → Core (modelStep h (Enter r) (At pl)) (tell t (Enter r) (At pl)) n m cur (upd rpl r pl) (upd rpk r (rpk r)) ppl pcl F E
   enter-below-4 r pl rn old new = rw (ne-eqb pl 4 (λ z. omega arith), ne-eqb pl 5 (λ z. omega arith)) (reader-core r pl _ _ _ _ (at-or r (rw (same r) (let o = i .readers r in record {
     bound = λ _. rn;
@@ -125,7 +125,7 @@ module _ (h : Model) (t : Told) (n m cur : ℕ) (rpl rpk ppl pcl : ℕ → ℕ) 
       other q e x u (inl v) = eqb-false q p e (i .distinct q p x u v)
       other q e x u (inr f) = f q u
 
-  readers-moved : (p : ℕ) (G : ℕ → Bool) → ((r : ℕ) → rpl r ≡ 5 → F p (rpk r) ≡ true → G (rpk r) ≡ true)
+  readers-moved : (p : ℕ) (G : ℕ → Bool) → ((r : ℕ) → rpl r ≡ PLACE-PICKED → F p (rpk r) ≡ true → G (rpk r) ≡ true)
       → (r : ℕ) → ReaderAgrees n cur (upd F p G) E r (rpl r) (rpk r) (t .picked r) (h .note r)
   readers-moved p G b r = let o = i .readers r in record {
     bound = o .bound;
@@ -136,7 +136,7 @@ module _ (h : Model) (t : Told) (n m cur : ℕ) (rpl rpk ppl pcl : ℕ → ℕ) 
   }
 
   -- CLAIM, of a slot that nobody holds, by a publisher that is not writing; its former slots stay.
-  pub claim-core : (p x : ℕ) (a : Reply) (G : ℕ → Bool) → p < m → (1 ≤ ppl p → ppl p ≤ 33 → ⊥) → cur ≢ x → ((q : ℕ) → Hold (ppl q) (pcl q) (F q) x → ⊥) → ((y : ℕ) → G y ≡ F p y)
+  pub claim-core : (p x : ℕ) (a : Reply) (G : ℕ → Bool) → p < m → (PLACE-CLAIMED ≤ ppl p → ppl p ≤ PLACE-WRITTEN → ⊥) → cur ≢ x → ((q : ℕ) → Hold (ppl q) (pcl q) (F q) x → ⊥) → ((y : ℕ) → G y ≡ F p y)
       → Core (modelStep h (Claim p x) a) (tell t (Claim p x) a) n m cur rpl rpk (upd ppl p 1) (upd pcl p x) (upd F p G) E
   claim-core p x a G pm late nc nh g = record {
     readers = readers-moved p G (λ r five e. g _ ∙ e);
@@ -158,7 +158,7 @@ module _ (h : Model) (t : Told) (n m cur : ℕ) (rpl rpk ppl pcl : ℕ → ℕ) 
   }
 
   -- A publisher that writes neither before nor after: only its place moves.
-  pub late-core : (p pl c : ℕ) (G : ℕ → Bool) → (1 ≤ ppl p → ppl p ≤ 33 → ⊥) → (1 ≤ pl → pl ≤ 33 → ⊥) → ((y : ℕ) → G y ≡ F p y)
+  pub late-core : (p pl c : ℕ) (G : ℕ → Bool) → (PLACE-CLAIMED ≤ ppl p → ppl p ≤ PLACE-WRITTEN → ⊥) → (PLACE-CLAIMED ≤ pl → pl ≤ PLACE-WRITTEN → ⊥) → ((y : ℕ) → G y ≡ F p y)
       → Core h t n m cur rpl rpk (upd ppl p pl) (upd pcl p c) (upd F p G) E
   late-core p pl c G old new g = record {
     readers = readers-moved p G (λ r five e. g _ ∙ e);
@@ -183,7 +183,7 @@ module _ (h : Model) (t : Told) (n m cur : ℕ) (rpl rpk ppl pcl : ℕ → ℕ) 
       before x o = hold-late pl c G (F p) _ _ x new (λ y e. sym (g y) ∙ e) o
 
   -- SWAP: the claimed slot becomes current, the one that was current is one of the former slots.
-  pub swap-core : (p c : ℕ) (a : Reply) (G : ℕ → Bool) → ppl p ≡ 33 → ((y : ℕ) → G y ≡ eqb cur y || F p y)
+  pub swap-core : (p c : ℕ) (a : Reply) (G : ℕ → Bool) → ppl p ≡ PLACE-WRITTEN → ((y : ℕ) → G y ≡ eqb cur y || F p y)
       → Core (modelStep h (Swap p) a) (tell t (Swap p) a) n m (pcl p) rpl rpk (upd ppl p 34) (upd pcl p c) (upd F p G) E
   swap-core p c a G at33 g = record {
     readers = λ r. let o = i .readers r in record {
@@ -236,7 +236,7 @@ module _ (h : Model) (t : Told) (n m cur : ℕ) (rpl rpk ppl pcl : ℕ → ℕ) 
       came x (inr d) = inl (by-swap d)
 
   -- RELEASE, where no reader picked a former slot of the publisher.
-  pub release-core : (p c : ℕ) (a : Reply) (G : ℕ → Bool) → 34 ≤ ppl p → ((r : ℕ) → rpl r ≡ 5 → F p (rpk r) ≡ true → ⊥) → ((y : ℕ) → G y ≡ false)
+  pub release-core : (p c : ℕ) (a : Reply) (G : ℕ → Bool) → PLACE-SWAPPED ≤ ppl p → ((r : ℕ) → rpl r ≡ PLACE-PICKED → F p (rpk r) ≡ true → ⊥) → ((y : ℕ) → G y ≡ false)
       → Core h (tell t (Release p) a) n m cur rpl rpk (upd ppl p 0) (upd pcl p c) (upd F p G) E
   release-core p c a G late nobody g = record {
     readers = readers-moved p G (λ r five e. absurd (nobody r five e));
@@ -261,7 +261,7 @@ module _ (h : Model) (t : Told) (n m cur : ℕ) (rpl rpk ppl pcl : ℕ → ℕ) 
       none-held x o = hold-map 0 c G x o (λ q _ _. omega arith) (λ e. not-both _ e (g x))
 
   -- WRITE of the next entry into the claimed slot.
-  pub write-core : (p : ℕ) (v : ℤ) (a : Reply) (G : ℕ → Bool) → 1 ≤ ppl p → ppl p ≤ 32 → ((y : ℕ) → G y ≡ F p y)
+  pub write-core : (p : ℕ) (v : ℤ) (a : Reply) (G : ℕ → Bool) → PLACE-CLAIMED ≤ ppl p → ppl p ≤ 32 → ((y : ℕ) → G y ≡ F p y)
       → Core (modelStep h (Write p v) a) t n m cur rpl rpk (upd ppl p (ppl p + 1)) (upd pcl p (pcl p)) (upd F p G) (upd E (pcl p) (upd (E (pcl p)) (ppl p - 1) v))
   write-core p v a G low high g = record {
     readers = λ r. let o = readers-moved p G (λ r five e. g _ ∙ e) r in record {
@@ -313,13 +313,13 @@ module _ (h : Model) (t : Told) (n m cur : ℕ) (rpl rpk ppl pcl : ℕ → ℕ) 
           u .not-former low (omega arith) (rw (i .distinct q p (pcl p) (by-swap f) mine) at f)
 
   -- What is told of a publisher's slots, by its place, claim and former slots.
-  pub held-is : (p x : ℕ) → holds t p x ≡ ((leb 1 (ppl p) && leb (ppl p) 33) && eqb (pcl p) x) || F p x
+  pub held-is : (p x : ℕ) → holds t p x ≡ ((leb PLACE-CLAIMED (ppl p) && leb (ppl p) PLACE-WRITTEN) && eqb (pcl p) x) || F p x
   held-is p x = let u = i .publishers p in rw (u .writing-is x, u .former-is x) refl
 
   hold-of : (p x : ℕ) → holds t p x ≡ true → Hold (ppl p) (pcl p) (F p) x
-  hold-of p x e = go (leb 1 (ppl p)) refl (leb (ppl p) 33) refl (eqb (pcl p) x) refl (sym (held-is p x) ∙ e)
+  hold-of p x e = go (leb PLACE-CLAIMED (ppl p)) refl (leb (ppl p) PLACE-WRITTEN) refl (eqb (pcl p) x) refl (sym (held-is p x) ∙ e)
     where
-      go : (a : Bool) → leb 1 (ppl p) ≡ a → (b : Bool) → leb (ppl p) 33 ≡ b → (c : Bool) → eqb (pcl p) x ≡ c → ((a && b) && c) || F p x ≡ true → Hold (ppl p) (pcl p) (F p) x
+      go : (a : Bool) → leb PLACE-CLAIMED (ppl p) ≡ a → (b : Bool) → leb (ppl p) PLACE-WRITTEN ≡ b → (c : Bool) → eqb (pcl p) x ≡ c → ((a && b) && c) || F p x ≡ true → Hold (ppl p) (pcl p) (F p) x
       go true d true e true f q = by-claim (leb-true _ _ d) (leb-true _ _ e) (eqb-true _ _ f)
       go true d true e false f q = by-swap q
       go true d false e c f q = by-swap q
@@ -329,10 +329,10 @@ module _ (h : Model) (t : Told) (n m cur : ℕ) (rpl rpk ppl pcl : ℕ → ℕ) 
   pub held-bound : (p x : ℕ) → holds t p x ≡ true → p < m
   held-bound p x e = i .publishers p .bound x (hold-of p x e)
 
-  picked-some : (r x : ℕ) → t .picked r ≡ some x → (rpl r ≡ 5) × (rpk r ≡ x)
-  picked-some r x e = go (eqb (rpl r) 5) refl
+  picked-some : (r x : ℕ) → t .picked r ≡ some x → (rpl r ≡ PLACE-PICKED) × (rpk r ≡ x)
+  picked-some r x e = go (eqb (rpl r) PLACE-PICKED) refl
     where
-      go : (b : Bool) → eqb (rpl r) 5 ≡ b → (rpl r ≡ 5) × (rpk r ≡ x)
+      go : (b : Bool) → eqb (rpl r) PLACE-PICKED ≡ b → (rpl r ≡ PLACE-PICKED) × (rpk r ≡ x)
       go true d = (eqb-true _ _ d, cc (rw d at (i .readers r .picked-is)))
       go false d = absurd (let z : _≡_ {A = ℕ} 0 1 = cc (rw d at (i .readers r .picked-is)) in omega arith)
 

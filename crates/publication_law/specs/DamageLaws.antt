@@ -10,7 +10,7 @@ use lib.Dec.{leb, ltb, eqb}
 use borrow.Author.Tests.{eqb-true, eqb-false, eq-eqb, ne-eqb, not-true, leb-true, leb-false, lt-leb, le-leb, ltb-false, le-ltb, not-false}
 use Rattle.base.specs.Rows.{anyTrue, outside}
 use Rattle.base.specs.RowLaws.{and-false, and-not, or-false, or-left, or-right, neither, negated, within, not-outside, all-false, none-true, none-below, no-below}
-use Rattle.calls.specs.Numbers.{READERS-MAX, PUBLISHERS-MAX, SLOTS-MIN, SLOTS-MAX, TABLE}
+use Rattle.calls.specs.Numbers.{READERS-MAX, PUBLISHERS-MAX, SLOTS-MIN, SLOTS-MAX, TABLE, PLACE-IDLE, PLACE-CLAIMED, PLACE-SYNCHRONISING}
 use Rattle.layout.specs.declared.Publisher.{Publisher}
 use Rattle.layout.specs.Layout.{WORDS, kind, readers, publishers, slots, current, version}
 use Rattle.statement.specs.Machine.{State, state}
@@ -118,23 +118,23 @@ module _ (K : DamageRules) (s : State) where
 
 -- The rows of a publisher that the kinds share.
 pub record UndamagedPublisher (vs : Versions) (slots : ℕ) (y : Publisher) : Type 0 where
-  pub held-below : 1 ≤ y .place → y .held < slots
-  pub mark-fits : 35 ≤ y .place → vs .wrongMark (y .walk .mark) ≡ false
-  pub waits-low : 35 ≤ y .place → y .walk .waits ≤ y .walk .looks
+  pub held-below : PLACE-CLAIMED ≤ y .place → y .held < slots
+  pub mark-fits : PLACE-SYNCHRONISING ≤ y .place → vs .wrongMark (y .walk .mark) ≡ false
+  pub waits-low : PLACE-SYNCHRONISING ≤ y .place → y .walk .waits ≤ y .walk .looks
 
 pub publisher-of : (vs : Versions) (slots : ℕ) (y : Publisher) → anyTrue (publisherRows vs slots y) ≡ false → UndamagedPublisher vs slots y
 publisher-of vs slots y e = let f = all-false (publisherRows vs slots y) e in record {
-  held-below = λ l. leb-false _ _ (and-false (not (eqb (y .place) 0)) (leb slots (y .held)) (f .0) (rw (ne-eqb (y .place) 0 (λ z. omega arith)) refl));
-  mark-fits = λ l. and-false (leb 35 (y .place)) (vs .wrongMark (y .walk .mark)) (f .1 .0) (le-leb _ _ l);
-  waits-low = λ l. ltb-false _ _ (and-false (leb 35 (y .place)) (ltb (y .walk .looks) (y .walk .waits)) (f .1 .1 .0) (le-leb _ _ l));
+  held-below = λ l. leb-false _ _ (and-false (not (eqb (y .place) PLACE-IDLE)) (leb slots (y .held)) (f .0) (rw (ne-eqb (y .place) 0 (λ z. omega arith)) refl));
+  mark-fits = λ l. and-false (leb PLACE-SYNCHRONISING (y .place)) (vs .wrongMark (y .walk .mark)) (f .1 .0) (le-leb _ _ l);
+  waits-low = λ l. ltb-false _ _ (and-false (leb PLACE-SYNCHRONISING (y .place)) (ltb (y .walk .looks) (y .walk .waits)) (f .1 .1 .0) (le-leb _ _ l));
 }
 
 pub publisher-to : (vs : Versions) (slots : ℕ) (y : Publisher) → UndamagedPublisher vs slots y → anyTrue (publisherRows vs slots y) ≡ false
 publisher-to vs slots y f = none-true (publisherRows vs slots y) (
-  and-not (not (eqb (y .place) 0)) (leb slots (y .held)) (λ e. lt-leb slots (y .held) (f .held-below (some-place (y .place) e))),
+  and-not (not (eqb (y .place) PLACE-IDLE)) (leb slots (y .held)) (λ e. lt-leb slots (y .held) (f .held-below (some-place (y .place) e))),
   (
-    and-not (leb 35 (y .place)) (vs .wrongMark (y .walk .mark)) (λ e. f .mark-fits (leb-true 35 (y .place) e)),
-    (and-not (leb 35 (y .place)) (ltb (y .walk .looks) (y .walk .waits)) (λ e. le-ltb _ _ (f .waits-low (leb-true 35 (y .place) e))), tt),
+    and-not (leb PLACE-SYNCHRONISING (y .place)) (vs .wrongMark (y .walk .mark)) (λ e. f .mark-fits (leb-true 35 (y .place) e)),
+    (and-not (leb PLACE-SYNCHRONISING (y .place)) (ltb (y .walk .looks) (y .walk .waits)) (λ e. le-ltb _ _ (f .waits-low (leb-true 35 (y .place) e))), tt),
   ),
 )
   where

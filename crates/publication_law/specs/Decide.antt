@@ -9,6 +9,7 @@ use borrow.Author.Tests.{eqb-true, eqb-false}
 use Rattle.base.specs.Rows.{Test, firstOf}
 use Rattle.base.specs.RowLaws.{AllClear, allAbove, clear, none-applies, not-both, pick-split}
 use Rattle.calls.specs.declared.Reply.the-variants.{Raised, Shared, Refused}
+use Rattle.calls.specs.Numbers.{PLACE-RAISED}
 use Rattle.calls.specs.Events.{accepted}
 use Rattle.layout.specs.Layout.{version, withVersion, withPublisher}
 use Rattle.layout.specs.Records.{_atPlace_}
@@ -35,6 +36,6 @@ decide-why rows o s n ok = pick-split (λ (q : Outcome). q .reply ≡ Refused n 
 
 -- A RAISE, by whether it raises the version or shares it.
 pub raise-split : (Q : Outcome → Type 0) (vs : Versions) (s : State) (p : ℕ)
-    → (version (s .words) ≡ vs .beforeMark (publisher s p .walk .mark) → Q (outcome Raised (state (withVersion (withPublisher (s .words) p (publisher s p atPlace 37)) (publisher s p .walk .mark)) (s .entries))))
-    → Q (outcome Shared (putPublisher s p (publisher s p atPlace 37))) → Q (raise vs s p)
+    → (version (s .words) ≡ vs .beforeMark (publisher s p .walk .mark) → Q (outcome Raised (state (withVersion (withPublisher (s .words) p (publisher s p atPlace PLACE-RAISED)) (publisher s p .walk .mark)) (s .entries))))
+    → Q (outcome Shared (putPublisher s p (publisher s p atPlace PLACE-RAISED))) → Q (raise vs s p)
 raise-split Q vs s p f g = pick-split Q (eqb (version (s .words)) (vs .beforeMark (publisher s p .walk .mark))) (λ e. f (eqb-true _ _ e)) (λ _. g)

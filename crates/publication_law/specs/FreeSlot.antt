@@ -8,6 +8,7 @@ use lib.Dec.{eqb}
 use borrow.Author.Tests.{eq-eqb}
 use Rattle.base.specs.Base.{pick}
 use Rattle.base.specs.RowLaws.{clash, not-both, by-test, or-false, and-not, neither, same, at-or, none-below, no-below, missed}
+use Rattle.calls.specs.Numbers.{PLACE-IDLE}
 use Rattle.calls.specs.Told.{holds, Has}
 use Rattle.calls.specs.Told.Role.{free}
 use Rattle.calls.specs.Tally.Phase.{idle}
@@ -26,7 +27,7 @@ use Rattle.publication_law.specs.Keeps.{slots-right, placed}
 use Rattle.publication_law.specs.KindShows.{WholeInvariant, KindShows, reached, companions-of}
 
 -- For every state. The slot that each publisher takes: its own, and for p, which is at place 0, the current one.
-module _ (s : State) (p : ℕ) (at-0 : publisher s p .place ≡ 0) where
+module _ (s : State) (p : ℕ) (at-0 : publisher s p .place ≡ PLACE-IDLE) where
   taken : ℕ → ℕ
   taken q = pick (eqb q p) (current (s .words)) (publisher s q .held)
 
@@ -35,7 +36,7 @@ module _ (s : State) (p : ℕ) (at-0 : publisher s p .place ≡ 0) where
   untaken x lt none = neither (eqb (current (s .words)) x) _ (rw (same p) at (none p lt)) (no-below (λ q. heldSlot s q x) (publishers (s .words)) unheld)
     where
       unheld : (q : ℕ) → q < publishers (s .words) → heldSlot s q x ≡ false
-      unheld = at-or p (λ l. rw (eq-eqb (publisher s p .place) 0 at-0) refl) (λ q e l. and-not (not (eqb (publisher s q .place) 0)) (eqb (publisher s q .held) x) (λ _. rw e at (none q l)))
+      unheld = at-or p (λ l. rw (eq-eqb (publisher s p .place) 0 at-0) refl) (λ q e l. and-not (not (eqb (publisher s q .place) PLACE-IDLE)) (eqb (publisher s q .held) x) (λ _. rw e at (none q l)))
 
   pub spare-slot : p < publishers (s .words) → publishers (s .words) < slots (s .words) → (x : ℕ) × (x < slots (s .words)) × (inUse s x ≡ false)
   spare-slot lt room = let z = missed taken (publishers (s .words)) (slots (s .words)) room in (z .0, z .1, untaken (z .0) lt (z .2))

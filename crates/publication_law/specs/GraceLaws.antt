@@ -11,6 +11,7 @@ use Rattle.base.specs.RowLaws.{clash, not-both, same, at-or}
 use Rattle.calls.specs.declared.Call.the-variants.{Enter, Leave, Sync}
 use Rattle.calls.specs.declared.Reply.{Reply}
 use Rattle.calls.specs.declared.Reply.the-variants.{At}
+use Rattle.calls.specs.Numbers.{PLACE-OPEN, PLACE-PICKED, PLACE-SWAPPED, PLACE-SYNCHRONISING, PLACE-RAISED, PLACE-RETURNED}
 use Rattle.calls.specs.Told.{Told, told₀, tell}
 use Rattle.statement.specs.KeptInvariant.{Pend, pending}
 use Rattle.publication_law.specs.Onward.{Onward}
@@ -18,12 +19,12 @@ use Rattle.publication_law.specs.Onward.Onward.{stays-out, opens, picks}
 use Rattle.publication_law.specs.Grace.{Awaited, Grace}
 
 -- By an ENTER an open section stays open, and what is picked is current.
-onward-open : {cur pl pk pl′ pk′ : ℕ} → Onward cur pl pk pl′ pk′ → 4 ≤ pl → 4 ≤ pl′
+onward-open : {cur pl pk pl′ pk′ : ℕ} → Onward cur pl pk pl′ pk′ → PLACE-OPEN ≤ pl → PLACE-OPEN ≤ pl′
 onward-open (stays-out a b e) l = absurd (omega arith)
 onward-open (opens a b e) l = omega arith
 onward-open (picks a b e) l = omega arith
 
-onward-picked : {cur pl pk pl′ pk′ : ℕ} → Onward cur pl pk pl′ pk′ → pl′ ≡ 5 → pk′ ≡ cur
+onward-picked : {cur pl pk pl′ pk′ : ℕ} → Onward cur pl pk pl′ pk′ → pl′ ≡ PLACE-PICKED → pk′ ≡ cur
 onward-picked (stays-out a b e) five = absurd (omega arith)
 onward-picked (opens a b e) five = absurd (omega arith)
 onward-picked (picks a b e) five = e
@@ -51,7 +52,7 @@ module _ (t : Told) (w : Pend) (rpl rpk ppl : ℕ → ℕ) (F : ℕ → ℕ → 
   }
 
   -- A publisher that moves, and waits for the same readers as before.
-  move-grace : (p pl : ℕ) (G : ℕ → Bool) → ((r : ℕ) → w p r ≡ true → Awaited (rpl r) pl) → ((r : ℕ) → rpl r ≡ 5 → G (rpk r) ≡ true → 35 ≤ pl → w p r ≡ true)
+  move-grace : (p pl : ℕ) (G : ℕ → Bool) → ((r : ℕ) → w p r ≡ true → Awaited (rpl r) pl) → ((r : ℕ) → rpl r ≡ PLACE-PICKED → G (rpk r) ≡ true → PLACE-SYNCHRONISING ≤ pl → w p r ≡ true)
       → Grace (t .inside) w rpl rpk (upd ppl p pl) (upd F p G)
   move-grace p pl G a b = record {
     inside-is = g .inside-is;
@@ -60,17 +61,17 @@ module _ (t : Told) (w : Pend) (rpl rpk ppl : ℕ → ℕ) (F : ℕ → ℕ → 
   }
 
   -- CLAIM, WRITE, SWAP.
-  pub early-grace : (p pl : ℕ) (G : ℕ → Bool) → ppl p ≤ 34 → pl ≤ 34 → Grace (t .inside) w rpl rpk (upd ppl p pl) (upd F p G)
+  pub early-grace : (p pl : ℕ) (G : ℕ → Bool) → ppl p ≤ PLACE-SWAPPED → pl ≤ PLACE-SWAPPED → Grace (t .inside) w rpl rpk (upd ppl p pl) (upd F p G)
   early-grace p pl G old new = move-grace p pl G (λ r e. absurd (omega (arith, g .awaited p r e .low))) (λ r five e l. absurd (omega arith))
 
   -- From 35 to 37 a synchronise moves on, and it ends where it waits for nobody.
-  pub wait-grace : (p pl : ℕ) (G : ℕ → Bool) → 35 ≤ ppl p → 35 ≤ pl → pl ≤ 38 → (pl ≡ 38 → (r : ℕ) → w p r ≡ false) → ((y : ℕ) → G y ≡ F p y)
+  pub wait-grace : (p pl : ℕ) (G : ℕ → Bool) → PLACE-SYNCHRONISING ≤ ppl p → PLACE-SYNCHRONISING ≤ pl → pl ≤ PLACE-RETURNED → (pl ≡ PLACE-RETURNED → (r : ℕ) → w p r ≡ false) → ((y : ℕ) → G y ≡ F p y)
       → Grace (t .inside) w rpl rpk (upd ppl p pl) (upd F p G)
   wait-grace p pl G low new top done same-F = move-grace p pl G
       (λ r e. let a = g .awaited p r e in record { opened = a .opened; low = new; high = not38 r e (eqb pl 38) refl })
       (λ r five e _. g .covered p r five (sym (same-F _) ∙ e) low)
     where
-      not38 : (r : ℕ) → w p r ≡ true → (b : Bool) → eqb pl 38 ≡ b → pl ≤ 37
+      not38 : (r : ℕ) → w p r ≡ true → (b : Bool) → eqb pl PLACE-RETURNED ≡ b → pl ≤ PLACE-RAISED
       not38 r e true d = absurd (not-both _ e (done (eqb-true pl 38 d) r))
       not38 r e false d = let q = eqb-false pl 38 d in omega arith
 
@@ -82,10 +83,10 @@ module _ (t : Told) (w : Pend) (rpl rpk ppl : ℕ → ℕ) (F : ℕ → ℕ → 
   }
 
   -- At 38 nobody has picked a former slot.
-  pub nobody : (p : ℕ) → ppl p ≡ 38 → (r : ℕ) → rpl r ≡ 5 → F p (rpk r) ≡ true → ⊥
+  pub nobody : (p : ℕ) → ppl p ≡ PLACE-RETURNED → (r : ℕ) → rpl r ≡ PLACE-PICKED → F p (rpk r) ≡ true → ⊥
   nobody p at38 r five e = omega (arith, g .awaited p r (g .covered p r five e (omega arith)) .high)
 
-  pub release-grace : (p : ℕ) (G : ℕ → Bool) → ppl p ≡ 38 → Grace (t .inside) w rpl rpk (upd ppl p 0) (upd F p G)
+  pub release-grace : (p : ℕ) (G : ℕ → Bool) → ppl p ≡ PLACE-RETURNED → Grace (t .inside) w rpl rpk (upd ppl p 0) (upd F p G)
   release-grace p G at38 = move-grace p 0 G (λ r e. absurd (omega (arith, g .awaited p r e .high))) (λ r five e l. absurd (omega arith))
 
 pub fresh-grace : Grace (told₀ .inside) (λ p r. false) (λ r. 0) (λ r. 0) (λ p. 0) (λ p x. false)

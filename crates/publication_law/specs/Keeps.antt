@@ -14,7 +14,7 @@ use Rattle.base.specs.Base.{pick}
 use Rattle.base.specs.RowLaws.{not-both, or-false, within, none-below, no-below, pick-split, same, AllClear}
 use Rattle.calls.specs.declared.Call.the-variants.{Claim, Write, Swap}
 use Rattle.calls.specs.declared.Reply.the-variants.{Claimed, Written, Swapped}
-use Rattle.calls.specs.Numbers.{READERS-MAX, TABLE, FEATHERED}
+use Rattle.calls.specs.Numbers.{READERS-MAX, TABLE, FEATHERED, PLACE-OUT, PLACE-IDLE, PLACE-CLAIMED, PLACE-SWAPPED}
 use Rattle.calls.specs.Model.{entry, firstTable}
 use Rattle.calls.specs.ModelLaws.{entry-same}
 use Rattle.calls.specs.Told.{holds, Has}
@@ -52,7 +52,7 @@ module _ (K : DamageRules) (z : Given) (g : Ghost) (s : State) (i : Invariant K 
   not-current x e = eqb-false _ _ (or-false (eqb (current (s .words)) x) _ e .0)
 
   pub claim-keeps : (e : Bool) (p x : ℕ) → ClaimClear e s p x
-      → K .publisherDamaged (readers (s .words)) (slots (s .words)) (publisher s p atPlace 1 held≔ x) ≡ false
+      → K .publisherDamaged (readers (s .words)) (slots (s .words)) (publisher s p atPlace PLACE-CLAIMED held≔ x) ≡ false
       → Invariant K z (advance g (Claim p x) (Claimed x)) (claim s p x .after)
   claim-keeps e p x f ok =
       let lt = f .publisher-named in
@@ -74,7 +74,7 @@ module _ (K : DamageRules) (z : Given) (g : Ghost) (s : State) (i : Invariant K 
   write-keeps p v f held-below ok =
       let lt = leb-false (publishers (s .words)) p (f .0) in
       let range = within 1 32 (publisher s p .place) (f .1 .1 .0) in
-      let low : 1 ≤ publisher s p .place = range .0 in
+      let low : PLACE-CLAIMED ≤ publisher s p .place = range .0 in
       let high : publisher s p .place ≤ 32 = range .1 in
       let room : entryAt (publisher s p .held) (publisher s p .place - 1) < length (s .entries) = omega (arith, i .no-damage .head .entries-are) in
       publisher-moved K z g s i _ _ (set (s .entries) (entryAt (publisher s p .held) (publisher s p .place - 1)) v) p _ _ _ _ (publisher-moves (i .no-damage) p _ lt) (length-set (s .entries) _ v)
@@ -85,7 +85,7 @@ module _ (K : DamageRules) (z : Given) (g : Ghost) (s : State) (i : Invariant K 
       (stay-phases _ _ _ _ (i .phases) p (publisher s p .place + 1) (phase-writing (publisher s p .place + 1) (omega arith) (omega arith) ∙ sym (phase-writing (publisher s p .place) low (omega arith))))
 
   pub swap-keeps : (p : ℕ) → AllClear (swapTests s p) → publisher s p .held < slots (s .words)
-      → K .publisherDamaged (readers (s .words)) (slots (s .words)) (publisher s p atPlace 34 held≔ current (s .words)) ≡ false
+      → K .publisherDamaged (readers (s .words)) (slots (s .words)) (publisher s p atPlace PLACE-SWAPPED held≔ current (s .words)) ≡ false
       → Invariant K z (advance g (Swap p) (Swapped (current (s .words)))) (swap s p .after)
   swap-keeps p f held-below ok =
       let lt = leb-false (publishers (s .words)) p (f .0) in
@@ -123,29 +123,29 @@ module _ (K : DamageRules) (z : Given) (g : Ghost) (s : State) (i : Invariant K 
   placed p x e = subst (InPhase (publisher s p .place)) (sym (i .phases .phases p) ∙ e) (in-phase (publisher s p .place))
 
   -- Who is at a place other than 0 is told to hold a slot.
-  holding : (p : ℕ) → eqb (publisher s p .place) 0 ≡ false → holds (g .told) p (publisher s p .held) ≡ true
+  holding : (p : ℕ) → eqb (publisher s p .place) PLACE-IDLE ≡ false → holds (g .told) p (publisher s p .held) ≡ true
   holding p e = sym (held-told p (publisher s p .held)) ∙ rw (e, same (publisher s p .held)) refl
 
-  at-0 : (p : ℕ) → eqb (publisher s p .place) 0 ≡ true → g .tally .phase p ≡ idle
+  at-0 : (p : ℕ) → eqb (publisher s p .place) PLACE-IDLE ≡ true → g .tally .phase p ≡ idle
   at-0 p e = i .phases .phases p ∙ rw e refl
 
   -- Who is told to hold nothing is idle; and who is not idle is a publisher of the store, at a place other than 0.
   pub idle-told : (p : ℕ) → ((x : ℕ) → holds (g .told) p x ≡ false) → g .tally .phase p ≡ idle
-  idle-told p f = go (eqb (publisher s p .place) 0) refl
+  idle-told p f = go (eqb (publisher s p .place) PLACE-IDLE) refl
     where
-      go : (b : Bool) → eqb (publisher s p .place) 0 ≡ b → g .tally .phase p ≡ idle
+      go : (b : Bool) → eqb (publisher s p .place) PLACE-IDLE ≡ b → g .tally .phase p ≡ idle
       go true e = at-0 p e
       go false e = absurd (not-both _ (holding p e) (f (publisher s p .held)))
 
-  pub busy-told : (p : ℕ) → g .tally .phase p ≢ idle → (p < publishers (s .words)) × (eqb (publisher s p .place) 0 ≡ false)
-  busy-told p ne = go (eqb (publisher s p .place) 0) refl
+  pub busy-told : (p : ℕ) → g .tally .phase p ≢ idle → (p < publishers (s .words)) × (eqb (publisher s p .place) PLACE-IDLE ≡ false)
+  busy-told p ne = go (eqb (publisher s p .place) PLACE-IDLE) refl
     where
-      go : (b : Bool) → eqb (publisher s p .place) 0 ≡ b → (p < publishers (s .words)) × (eqb (publisher s p .place) 0 ≡ false)
+      go : (b : Bool) → eqb (publisher s p .place) PLACE-IDLE ≡ b → (p < publishers (s .words)) × (eqb (publisher s p .place) PLACE-IDLE ≡ false)
       go true e = absurd (ne (at-0 p e))
       go false e = (held-bound _ _ _ _ _ _ _ _ _ _ _ (i .core) p (publisher s p .held) (holding p e), e)
 
   -- The slot that a publisher at 34 to 38 holds is told to be a former one of its.
-  pub former-told : (p : ℕ) → 34 ≤ publisher s p .place → g .told .former p (publisher s p .held) ≡ true
+  pub former-told : (p : ℕ) → PLACE-SWAPPED ≤ publisher s p .place → g .told .former p (publisher s p .held) ≡ true
   former-told p l = i .core .publishers p .former-is (publisher s p .held) ∙ rw (le-leb 34 (publisher s p .place) l, same (publisher s p .held)) refl
 
   -- A slot that is told free is not in use.
@@ -197,7 +197,7 @@ module _ (K : DamageRules) (x : Reader) (z : Given) (s : State) (f : MakingClear
         (λ p l. rw (fresh-publisher (K .number) (z .readers) (z .publishers) (z .slots) (z .version) x p) publisher-ok);
   }
 
-  pub made-invariant : x .place ≡ 0 → x .picked ≡ 0 → K .readerDamaged (z .readers) (z .slots) x ≡ false → K .publisherDamaged (z .readers) (z .slots) noPublisher ≡ false
+  pub made-invariant : x .place ≡ PLACE-OUT → x .picked ≡ 0 → K .readerDamaged (z .readers) (z .slots) x ≡ false → K .publisherDamaged (z .readers) (z .slots) noPublisher ≡ false
       → Invariant K z (ghost₀ firstTable) (made (K .number) x z s)
   unfolding w
   made-invariant a b reader-ok publisher-ok = record {

@@ -17,7 +17,7 @@ use Rattle.calls.specs.declared.Call.the-variants.{Enter, Look, Leave, Claim, W
 use Rattle.calls.specs.declared.Reply.{Reply}
 use Rattle.calls.specs.declared.Reply.the-variants.{Made, At, Left, Synced, Walked, Freed, Refused}
 use Rattle.calls.specs.declared.WalkReply.the-variants.{Spent, Returned}
-use Rattle.calls.specs.Numbers.{READERS-MAX, FEATHERED, NUMBER-MAX, NOT-READING, MODULUS, DAMAGED}
+use Rattle.calls.specs.Numbers.{READERS-MAX, FEATHERED, NUMBER-MAX, NOT-READING, MODULUS, PLACE-OPEN, PLACE-IDLE, PLACE-CLAIMED, PLACE-WRITTEN, PLACE-SWAPPED, PLACE-RETURNED, DAMAGED}
 use Rattle.calls.specs.ReplyNumbersLaws.{Representable}
 use Rattle.calls.specs.Events.{accepted}
 use Rattle.calls.specs.Events.Event.{_⇒_}
@@ -77,16 +77,16 @@ pub record KindShows (R : Rules) (T : GraceTraits) : Type 1 where
   pub no-further : (z : Given) (g : Ghost) (s : State) → WholeInvariant (R .damage) Own z g s → R .further s ≡ false
   -- below 35 a publisher's move does not touch the kind's own invariant
   pub early-own : (g g′ : Ghost) (s : State) (w′ : List ℕ) (es′ : List ℤ) (p : ℕ) (y : Publisher) (cur rel : ℕ) → Own g s → g′ .pend ≡ g .pend
-      → MovesPublisher (s .words) w′ p y cur (version (s .words)) rel → y .walk ≡ publisher s p .walk → y .place ≤ 34 → Own g′ (state w′ es′)
+      → MovesPublisher (s .words) w′ p y cur (version (s .words)) rel → y .walk ≡ publisher s p .walk → y .place ≤ PLACE-SWAPPED → Own g′ (state w′ es′)
   pub enter-moves : (s : State) → Undamaged (R .damage) s → (r : ℕ) → r < readers (s .words) → MovesReader (s .words) (R .enterWords s r) r (R .entered s r)
   -- the reader after its LEAVE
   pub left : State → ℕ → Reader
   pub leave-moves : (s : State) → Undamaged (R .damage) s → (r : ℕ) → r < readers (s .words) → MovesReader (s .words) (R .leaveWords s r) r (left s r)
-  pub enter-place : (s : State) → Undamaged (R .damage) s → (r : ℕ) → r < readers (s .words) → reader s r .place ≤ 4 → R .entered s r .place ≡ T .onward (reader s r .place)
+  pub enter-place : (s : State) → Undamaged (R .damage) s → (r : ℕ) → r < readers (s .words) → reader s r .place ≤ PLACE-OPEN → R .entered s r .place ≡ T .onward (reader s r .place)
   -- which numbers ENTER and LEAVE move of the head, in a kind that publishes readers' versions, and of a reader
   pub enter-head : T .publishes ≡ true → (s : State) (r k : ℕ) → k < HEAD → getD (R .enterWords s r) k 0 ≡ getD (s .words) k 0
   pub leave-head : T .publishes ≡ true → (s : State) (r k : ℕ) → k < HEAD → getD (R .leaveWords s r) k 0 ≡ getD (s .words) k 0
-  pub enter-stays : (s : State) (r : ℕ) → reader s r .place ≤ 4 → PlaceAndOne (reader s r) (R .entered s r)
+  pub enter-stays : (s : State) (r : ℕ) → reader s r .place ≤ PLACE-OPEN → PlaceAndOne (reader s r) (R .entered s r)
   pub leave-stays : (s : State) (r : ℕ) → LeaveStays (T .publishes) (reader s r) (left s r)
   pub enter-kept : (z : Given) (g : Ghost) (s : State) → WholeInvariant (R .damage) Own z g s → (r : ℕ) → AllClear (enterTests s r)
       → WholeInvariant (R .damage) Own z (advance g (Enter r) (At (R .entered s r .place))) (state (R .enterWords s r) (s .entries))
@@ -99,8 +99,8 @@ pub record KindShows (R : Rules) (T : GraceTraits) : Type 1 where
   pub walk-kept : (z : Given) (g : Ghost) (s : State) → WholeInvariant (R .damage) Own z g s → (p b : ℕ) → p < publishers (s .words) → R .walksAt (publisher s p .place) ≡ true
       → WholeInvariant (R .damage) Own z (advance g (Walk p b) (Walked (R .looks s p b .reply))) (walk s p (R .looks s p b) .after)
   -- RAISE and WALK are in turn from 35 on alone; a WALK keeps its mark, and with no looks it comes to nothing
-  pub raises-late : (pl : ℕ) → pl ≤ 34 → R .raisesAt pl ≡ false
-  pub walks-late : (pl : ℕ) → pl ≤ 34 → R .walksAt pl ≡ false
+  pub raises-late : (pl : ℕ) → pl ≤ PLACE-SWAPPED → R .raisesAt pl ≡ false
+  pub walks-late : (pl : ℕ) → pl ≤ PLACE-SWAPPED → R .walksAt pl ≡ false
   pub mark-stays : (s : State) (p b : ℕ) → R .looks s p b .walk .mark ≡ publisher s p .walk .mark
   pub no-looks : (s : State) (p : ℕ) → R .looks s p 0 ≡ record { walk = publisher s p .walk; reply = Spent }
   pub return-shown : (z : Given) (g : Ghost) (s : State) → WholeInvariant (R .damage) Own z g s → (p b l w : ℕ) → p < publishers (s .words) → R .walksAt (publisher s p .place) ≡ true
@@ -179,8 +179,8 @@ module _ (R : Rules) (T : GraceTraits) (L : KindShows R T) where
     unfolding After
     claim-kept p x f =
         let c = claim-clear (R .exclusive) s p x f in
-        let y : Publisher = publisher s p atPlace 1 held≔ x in
-        let at-place-0 : publisher s p .place ≡ 0 = c .in-turn in
+        let y : Publisher = publisher s p atPlace PLACE-CLAIMED held≔ x in
+        let at-place-0 : publisher s p .place ≡ PLACE-IDLE = c .in-turn in
         let m = publisher-moves (i .shared .every .no-damage) p y (c .publisher-named) in record {
           shared = early-keeps (R .damage) z g s (i .shared) _ _ _ p y _ _ m
               (claim-keeps (R .damage) z g s (i .shared .every) (R .exclusive) p x c (early-fits (L .kind-law) (readers (s .words)) (slots (s .words)) y (omega arith) (λ _. c .slot-named)))
@@ -207,8 +207,8 @@ module _ (R : Rules) (T : GraceTraits) (L : KindShows R T) where
     unfolding After
     swap-kept p f =
         let lt : p < publishers (s .words) = leb-false _ _ (f .0) in
-        let at33 : publisher s p .place ≡ 33 = eqb-true _ _ (not-false _ (f .1 .0)) in
-        let y : Publisher = publisher s p atPlace 34 held≔ current (s .words) in
+        let at33 : publisher s p .place ≡ PLACE-WRITTEN = eqb-true _ _ (not-false _ (f .1 .0)) in
+        let y : Publisher = publisher s p atPlace PLACE-SWAPPED held≔ current (s .words) in
         let m = publisher-moves-head (i .shared .every .no-damage) p y lt CURRENT-AT (publisher s p .held) (omega arith) (omega arith) in record {
           shared = early-keeps (R .damage) z g s (i .shared) _ _ _ p y _ _ m
               (swap-keeps (R .damage) z g s (i .shared .every) p f (moved-publisher-undamaged (R .damage) (L .kind-law) z g s (i .shared) p lt .held-below (omega arith))
@@ -220,7 +220,7 @@ module _ (R : Rules) (T : GraceTraits) (L : KindShows R T) where
     release-kept : (p : ℕ) → AllClear (tableBy R .tests s (Release p)) → After (Release p) (tableBy R .act s (Release p))
     unfolding After
     release-kept p f =
-        let y : Publisher = publisher s p atPlace 0 in record {
+        let y : Publisher = publisher s p atPlace PLACE-IDLE in record {
           shared = release-keeps (R .damage) z g s (i .shared) p f (early-fits (L .kind-law) (readers (s .words)) (slots (s .words)) y (omega arith) (λ l. absurd (omega arith)));
           own = L .early-own g _ s _ _ p y _ _ (i .own) refl
               (publisher-moves-head (i .shared .every .no-damage) p y (leb-false _ _ (f .0)) RELEASES-AT (oneMore s) (omega arith) (omega arith)) refl (omega arith);
@@ -280,7 +280,7 @@ module _ (R : Rules) (T : GraceTraits) (L : KindShows R T) where
     syncs-on p pn ph low = rw (accepts (Sync p) (named-publisher (R .damage) z g s (i .shared .every) p pn, (negated _ (eq-eqb (publisher s p .place) 34 (placed (R .damage) z g s (i .shared .every) p swapped ph)), (L .below-last (version (s .words)) low, tt)))) refl
 
     -- Whether RAISE and WALK are in turn is told by the phase.
-    turn-told : (f : ℕ → Bool) → ((pl : ℕ) → pl ≤ 34 → f pl ≡ false) → (p : ℕ) → p < publishers (s .words) → f (firstPlace (g .tally .phase p)) ≡ f (publisher s p .place)
+    turn-told : (f : ℕ → Bool) → ((pl : ℕ) → pl ≤ PLACE-SWAPPED → f pl ≡ false) → (p : ℕ) → p < publishers (s .words) → f (firstPlace (g .tally .phase p)) ≡ f (publisher s p .place)
     turn-told f early p lt = rw (i .shared .every .phases .phases p)
         (phase-turn f early (publisher s p .place) (places (L .kind-law) (readers (s .words)) (slots (s .words)) (publisher s p) (i .shared .every .no-damage .publishers-undamaged p lt)))
 
@@ -327,7 +327,7 @@ module _ (R : Rules) (T : GraceTraits) (L : KindShows R T) where
     frees-on p pn ph =
         let at = placed (R .damage) z g s (i .shared .every) p returned ph in
         let top = places (L .kind-law) (readers (s .words)) (slots (s .words)) (publisher s p) (i .shared .every .no-damage .publishers-undamaged p (leb-false _ _ (named-publisher (R .damage) z g s (i .shared .every) p pn))) in
-        let turn : not (eqb (publisher s p .place) 38) ≡ false = negated _ (eq-eqb (publisher s p .place) 38 (omega arith)) in
+        let turn : not (eqb (publisher s p .place) PLACE-RETURNED) ≡ false = negated _ (eq-eqb (publisher s p .place) 38 (omega arith)) in
         let n : oneMore s ≡ (g .tally .releases + 1) % MODULUS = omega (arith, i .shared .tallied .releases-are) in
         (publisher s p .held, former-told (R .damage) z g s (i .shared .every) p (omega arith), rw (accepts (Release p) (named-publisher (R .damage) z g s (i .shared .every) p pn, (turn, tt)), n) refl)
 

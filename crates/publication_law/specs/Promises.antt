@@ -14,6 +14,7 @@ use Rattle.calls.specs.declared.Call.{Call}
 use Rattle.calls.specs.declared.Call.the-variants.{Sync, Raise, Walk}
 use Rattle.calls.specs.declared.Reply.the-variants.{Synced, Raised, Shared, Walked}
 use Rattle.calls.specs.declared.WalkReply.the-variants.{Spent}
+use Rattle.calls.specs.Numbers.{PLACE-SYNCHRONISING, PLACE-RAISED}
 use Rattle.calls.specs.ReplyNumbersLaws.{NarrowPitch, Representable}
 use Rattle.calls.specs.Events.{accepted}
 use Rattle.layout.specs.declared.Progress.{Progress}
@@ -38,13 +39,13 @@ use Rattle.publication_law.specs.KindShows.{KindShows, demand3-of, compa
 -- SYNC: the reply is the mark that it stores, the version's successor; next, looks and waits are 0.
 pub record SyncFacts (successor : ℕ → ℕ) (s : State) (p : ℕ) (o : Outcome) : Type 0 where
   pub reply-is : o .reply ≡ Synced (successor (version (s .words)))
-  pub record-is : publisher (o .after) p ≡ publisher s p atPlace 35 walk≔ (publisher s p .walk mark≔ (successor (version (s .words))) next≔ 0 looks≔ 0 waits≔ 0)
+  pub record-is : publisher (o .after) p ≡ publisher s p atPlace PLACE-SYNCHRONISING walk≔ (publisher s p .walk mark≔ (successor (version (s .words))) next≔ 0 looks≔ 0 waits≔ 0)
 
 -- RAISE: raised exactly if the version was one before the mark, and the version then is the mark; else shared, and the version stays. Place 37 either way.
 pub record RaiseFacts (successor : ℕ → ℕ) (s : State) (p : ℕ) (o : Outcome) : Type 0 where
   pub raised : successor (version (s .words)) ≡ publisher s p .walk .mark → (o .reply ≡ Raised) × (version (o .after .words) ≡ publisher s p .walk .mark)
   pub shared : successor (version (s .words)) ≢ publisher s p .walk .mark → (o .reply ≡ Shared) × (version (o .after .words) ≡ version (s .words))
-  pub record-is : publisher (o .after) p ≡ publisher s p atPlace 37
+  pub record-is : publisher (o .after) p ≡ publisher s p atPlace PLACE-RAISED
 
 pub record Promises (R : Table) (T : GraceTraits) : Type 0 where
   pub demand3 : Demand3 (machine R) (T .every .first)
@@ -75,13 +76,13 @@ module _ (R : Rules) (T : GraceTraits) (L : KindShows R T) where
   -- A RAISE of a publisher whose mark fits.
   raise-acts : (s : State) (p : ℕ) → Undamaged (R .damage) s → p < publishers (s .words) → R .damage .versions .wrongMark (publisher s p .walk .mark) ≡ false → RaiseFacts (T .successor) s p (raise (R .damage .versions) s p)
   raise-acts s p no-damage lt fits = rw (L .successor-is) (pick-split (λ (o : Outcome). RaiseFacts (R .damage .versions .markAt) s p o) (eqb (version (s .words)) (R .damage .versions .beforeMark (publisher s p .walk .mark)))
-      (λ e. let m = publisher-moves-head no-damage p (publisher s p atPlace 37) lt VERSION-AT (publisher s p .walk .mark) (omega arith) (omega arith) in
+      (λ e. let m = publisher-moves-head no-damage p (publisher s p atPlace PLACE-RAISED) lt VERSION-AT (publisher s p .walk .mark) (omega arith) (omega arith) in
       record {
         raised = λ _. (refl, m .version-is);
         shared = λ ne. absurd (ne (ap (R .damage .versions .markAt) (eqb-true _ _ e) ∙ L .kind-law .versions-law .mark-after _ fits));
         record-is = publisher-written m;
       })
-      (λ e. let m = publisher-moves no-damage p (publisher s p atPlace 37) lt in
+      (λ e. let m = publisher-moves no-damage p (publisher s p atPlace PLACE-RAISED) lt in
       record {
         raised = λ q. absurd (eqb-false _ _ e (sym (L .kind-law .versions-law .before-mark (version (s .words))) ∙ ap (R .damage .versions .beforeMark) q));
         shared = λ ne. (refl, m .version-is);
@@ -97,10 +98,10 @@ module _ (R : Rules) (T : GraceTraits) (L : KindShows R T) where
       raise-acts s p no-damage lt (undamaged-publisher (L .kind-law) _ _ (publisher s p) (no-damage .publishers-undamaged p lt) .mark-fits (late-turn (publisher s p .place) (not-false _ (f .1 .1 .0)))))
       (λ ok. clash (sym ok))
     where
-      late-turn : (pl : ℕ) → R .raisesAt pl ≡ true → 35 ≤ pl
+      late-turn : (pl : ℕ) → R .raisesAt pl ≡ true → PLACE-SYNCHRONISING ≤ pl
       late-turn pl e = go (leb 35 pl) refl
         where
-          go : (b : Bool) → leb 35 pl ≡ b → 35 ≤ pl
+          go : (b : Bool) → leb PLACE-SYNCHRONISING pl ≡ b → PLACE-SYNCHRONISING ≤ pl
           go true d = leb-true 35 pl d
           go false d = absurd (not-both _ e (L .raises-late pl (let q = leb-false 35 pl d in omega arith)))
 

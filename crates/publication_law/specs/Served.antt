@@ -13,7 +13,7 @@ use borrow.Author.Tests.{eqb-true, eqb-false, eq-eqb, ne-eqb, leb-false, lt-leb,
 use Rattle.base.specs.RowLaws.{clash, and-not, neither, negated, within, not-outside, no-below, some-below, AllClear}
 use Rattle.calls.specs.declared.Call.the-variants.{Look, Claim, Write, Swap}
 use Rattle.calls.specs.declared.Reply.the-variants.{Pitch, Claimed, Written, Swapped, Refused}
-use Rattle.calls.specs.Numbers.{TABLE, PITCH-LOW, PITCH-HIGH, BUSY}
+use Rattle.calls.specs.Numbers.{TABLE, PITCH-LOW, PITCH-HIGH, PLACE-PICKED, PLACE-IDLE, BUSY}
 use Rattle.calls.specs.Events.{accepted}
 use Rattle.calls.specs.Model.{entry}
 use Rattle.calls.specs.Told.{Has}
@@ -50,7 +50,7 @@ module _ (K : DamageRules) (z : Given) (g : Ghost) (s : State) (i : Invariant K 
   named-slot x l = lt-leb (slots (s .words)) x (omega (arith, i .sized .slots-are))
 
   -- A call to which no row applies is in its turn.
-  pub look-turn : (r k : ℕ) → AllClear (lookTests s r k) → g .tally .place r ≡ 5
+  pub look-turn : (r k : ℕ) → AllClear (lookTests s r k) → g .tally .place r ≡ PLACE-PICKED
   look-turn r k f = i .phases .places r ∙ eqb-true (reader s r .place) 5 (not-false _ (f .1 .1 .0))
 
   pub claim-turn : (e : Bool) (p x : ℕ) → AllClear (claimTests e s p x) → g .tally .phase p ≡ idle
@@ -69,7 +69,7 @@ module _ (K : DamageRules) (z : Given) (g : Ghost) (s : State) (i : Invariant K 
       (i .phases .phases p ∙ ap phaseAt at33, omega (arith, drafted, at33))
 
   nobody-busy : (e : Bool) (p : ℕ) → (e ≡ true → (q : ℕ) → q ≢ p → g .tally .phase q ≡ idle) → (e && anotherBusy s p) ≡ false
-  nobody-busy e p f = and-not e (anotherBusy s p) (λ d. no-below _ (publishers (s .words)) (λ q l. and-not (not (eqb q p)) (not (eqb (publisher s q .place) 0))
+  nobody-busy e p f = and-not e (anotherBusy s p) (λ d. no-below _ (publishers (s .words)) (λ q l. and-not (not (eqb q p)) (not (eqb (publisher s q .place) PLACE-IDLE))
       (λ ne. negated _ (eq-eqb (publisher s q .place) 0 (placed K z g s i q idle (f d q (eqb-false q p (not-true _ ne))))))))
 
   module _ (exclusive : Bool) (M : Machine) (c : SharedCalls exclusive M s) where
@@ -83,7 +83,7 @@ module _ (K : DamageRules) (z : Given) (g : Ghost) (s : State) (i : Invariant K 
         (λ f ok. claim-unpicked K z g s i exclusive p x (claim-clear exclusive s p x f) r) (λ ok. clash (sym ok)))
 
     -- The companions.
-    pub looks-on : (r k : ℕ) → r < z .readers → k < TABLE → g .tally .place r ≡ 5 → accepted (M .step s (Look r k) .reply) ≡ true
+    pub looks-on : (r k : ℕ) → r < z .readers → k < TABLE → g .tally .place r ≡ PLACE-PICKED → accepted (M .step s (Look r k) .reply) ≡ true
     looks-on r k rn k32 five = rw (
       c .looks r k,
       decide-accepts (lookTests s r k) (look s r k) s
@@ -107,7 +107,7 @@ module _ (K : DamageRules) (z : Given) (g : Ghost) (s : State) (i : Invariant K 
         → M .step s (Claim p x) .reply ≡ Refused BUSY
     refused-busy e p x q pn xn idle-now ne busy =
         let b = busy-told K z g s i q busy in
-        let another : anotherBusy s p ≡ true = some-below (λ q. not (eqb q p) && not (eqb (publisher s q .place) 0)) (publishers (s .words)) q (b .0) (rw (ne-eqb q p ne, b .1) refl) in
+        let another : anotherBusy s p ≡ true = some-below (λ q. not (eqb q p) && not (eqb (publisher s q .place) PLACE-IDLE)) (publishers (s .words)) q (b .0) (rw (ne-eqb q p ne, b .1) refl) in
         rw (c .claims p x, named-publisher p pn, named-slot x xn, eq-eqb (publisher s p .place) 0 (placed K z g s i p idle idle-now), e, another) refl
 
     pub writes-on : (p : ℕ) (v : ℤ) → p < z .publishers → g .tally .phase p ≡ writing → length (g .model .draft p) < TABLE → ltZ v PITCH-LOW ≡ false → ltZ PITCH-HIGH v ≡ false

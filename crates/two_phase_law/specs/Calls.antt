@@ -16,7 +16,7 @@ use Rattle.base.specs.RowLaws.{clash, pick-split, or-false, count-zero}
 use Rattle.calls.specs.declared.Call.the-variants.{Enter, Leave}
 use Rattle.calls.specs.declared.Reply.the-variants.{At, Left}
 use Rattle.calls.specs.declared.WalkReply.the-variants.{Waiting, Spent, Quiet, Returned}
-use Rattle.calls.specs.Numbers.{READERS-MAX}
+use Rattle.calls.specs.Numbers.{READERS-MAX, PLACE-OUT, PLACE-LOADED, PLACE-PUBLISHED, PLACE-OPEN, PLACE-PICKED, PLACE-SYNCHRONISING}
 use Rattle.layout.specs.declared.Reader.{Reader}
 use Rattle.layout.specs.declared.Publisher.{Publisher}
 use Rattle.layout.specs.declared.WalkRecord.{WalkRecord}
@@ -56,11 +56,11 @@ module _ (w : List ℕ) where
   counts-none = refl
 
   -- A reader below 4 is not counted.
-  pub counts-out : (r : ℕ) → readerAt w r .place < 4 → addedCounts w r ≡ addedCounts w (r + 1)
+  pub counts-out : (r : ℕ) → readerAt w r .place < PLACE-OPEN → addedCounts w r ≡ addedCounts w (r + 1)
   counts-out r l = rw (count-more (λ q. addedTo 0 (readerAt w q)) r, count-more (λ q. addedTo 1 (readerAt w q)) r, lt-leb 4 (readerAt w r .place) l) refl
 
   -- One at 4 or 5 is, by the parity of its loaded version.
-  pub counts-in : (r i : ℕ) → 4 ≤ readerAt w r .place → i ≡ readerAt w r .first % 2 → set (addedCounts w r) i (getD (addedCounts w r) i 0 + 1) ≡ addedCounts w (r + 1)
+  pub counts-in : (r i : ℕ) → PLACE-OPEN ≤ readerAt w r .place → i ≡ readerAt w r .first % 2 → set (addedCounts w r) i (getD (addedCounts w r) i 0 + 1) ≡ addedCounts w (r + 1)
   counts-in r i l e = rw (count-more (λ q. addedTo 0 (readerAt w q)) r, count-more (λ q. addedTo 1 (readerAt w q)) r, le-leb 4 (readerAt w r .place) l, ← e) (go i (omega arith))
     where
       go : (j : ℕ) → j < 2 → set (addedCounts w r) j (getD (addedCounts w r) j 0 + 1)
@@ -103,7 +103,7 @@ counted-of s e i l = let q = or-false (miscounted s 0) (miscounted s 1) (undamag
 pub indicator-low : (s : State) → damaged rules s ≡ false → (i : ℕ) → i < 2 → indicator (s .words) i ≤ READERS-MAX
 indicator-low s e i l = omega (arith, counted-of s e i l, count-most (λ r. addedTo i (reader s r)) (readers (s .words)), no-damage s e .head .readers-high)
 
-pub indicator-some : (s : State) → damaged rules s ≡ false → (r : ℕ) → r < readers (s .words) → 4 ≤ reader s r .place → 1 ≤ indicator (s .words) (reader s r .first % 2)
+pub indicator-some : (s : State) → damaged rules s ≡ false → (r : ℕ) → r < readers (s .words) → PLACE-OPEN ≤ reader s r .place → 1 ≤ indicator (s .words) (reader s r .first % 2)
 indicator-some s e r named turn = go (indicator (s .words) (reader s r .first % 2)) refl
   where
     here : addedTo (reader s r .first % 2) (reader s r) ≡ true
@@ -116,19 +116,19 @@ indicator-some s e r named turn = go (indicator (s .words) (reader s r .first % 
 -- What the pass over the readers finds at a reader, by its place.
 pub record InSection (ss : ℕ) (x : Reader) : Type 0 where
   pub fits : anyTrue (readerRows ss x) ≡ false
-  pub arrived : 4 ≤ x .place
+  pub arrived : PLACE-OPEN ≤ x .place
 
 module _ (ss : ℕ) (x : Reader) where
-  pub picked-right : x .place ≡ 5 → x .picked < ss → InSection ss x
+  pub picked-right : x .place ≡ PLACE-PICKED → x .picked < ss → InSection ss x
   picked-right e l = record { fits = picked-rows ss x e ∙ lt-leb ss (x .picked) l; arrived = omega arith }
 
-  pub picked-wrong : x .place ≡ 5 → ss ≤ x .picked → anyTrue (readerRows ss x) ≡ true
+  pub picked-wrong : x .place ≡ PLACE-PICKED → ss ≤ x .picked → anyTrue (readerRows ss x) ≡ true
   picked-wrong e l = picked-rows ss x e ∙ le-leb ss (x .picked) l
 
-  pub not-picked : x .place ≡ 4 → InSection ss x
+  pub not-picked : x .place ≡ PLACE-OPEN → InSection ss x
   not-picked e = record { fits = rw e refl; arrived = omega arith }
 
-  pub outside-fits : x .place < 2 → anyTrue (readerRows ss x) ≡ false
+  pub outside-fits : x .place < PLACE-PUBLISHED → anyTrue (readerRows ss x) ≡ false
   outside-fits l = go (x .place) refl l
     where
       go : (n : ℕ) → x .place ≡ n → n < 2 → anyTrue (readerRows ss x) ≡ false
@@ -137,7 +137,7 @@ module _ (ss : ℕ) (x : Reader) where
       go (suc (suc n)) e h = absurd (omega arith)
 
   -- 2 and 3 are the new store's.
-  pub no-reader-place : x .place ≢ 5 → 2 ≤ x .place → x .place ≢ 4 → anyTrue (readerRows ss x) ≡ true
+  pub no-reader-place : x .place ≢ PLACE-PICKED → PLACE-PUBLISHED ≤ x .place → x .place ≢ PLACE-OPEN → anyTrue (readerRows ss x) ≡ true
   no-reader-place five low four = go (x .place) refl low
     where
       go : (n : ℕ) → x .place ≡ n → 2 ≤ n → anyTrue (readerRows ss x) ≡ true
@@ -151,40 +151,40 @@ module _ (ss : ℕ) (x : Reader) where
 
 -- A reader one place on, by its place.
 module _ (v cur : ℕ) (x : Reader) where
-  pub onward-loads : x .place ≡ 0 → (x place≔ 1 first≔ v) ≡ onward v cur x
+  pub onward-loads : x .place ≡ PLACE-OUT → (x place≔ PLACE-LOADED first≔ v) ≡ onward v cur x
   unfolding onward
   onward-loads e = rw e refl
 
-  pub onward-arrives : x .place ≡ 1 → (x place≔ 4) ≡ onward v cur x
+  pub onward-arrives : x .place ≡ PLACE-LOADED → (x place≔ PLACE-OPEN) ≡ onward v cur x
   unfolding onward
   onward-arrives e = rw e refl
 
-  pub onward-picks : x .place ≢ 0 → x .place ≢ 1 → (x place≔ 5 picked≔ cur) ≡ onward v cur x
+  pub onward-picks : x .place ≢ PLACE-OUT → x .place ≢ PLACE-LOADED → (x place≔ PLACE-PICKED picked≔ cur) ≡ onward v cur x
   unfolding onward
   onward-picks a b = rw (ne-eqb (x .place) 0 a, ne-eqb (x .place) 1 b) refl
 
 module _ (s : State) (clean : damaged rules s ≡ false) where
   -- ENTER to 4 counts the reader, and to 1 and 5 leaves the indicators.
-  pub arrive-is : (v : List ℕ) (r i count : ℕ) (x y : Reader) → r < readers (s .words) → x ≡ reader s r → x .place ≡ 1 → y ≡ onward (version (s .words)) (current (s .words)) x
+  pub arrive-is : (v : List ℕ) (r i count : ℕ) (x y : Reader) → r < readers (s .words) → x ≡ reader s r → x .place ≡ PLACE-LOADED → y ≡ onward (version (s .words)) (current (s .words)) x
       → i ≡ x .first % 2 → count ≡ indicator (s .words) i → v ≡ withIndicator (withReader (s .words) r y) i (count + 1)
       → outcome (At (y .place)) (state v (s .entries)) ≡ step rules s (Enter r)
   arrive-is v r i count x y named is turn moved index counted put =
-      let t : reader s r .place ≡ 1 = rw is at turn in
+      let t : reader s r .place ≡ PLACE-LOADED = rw is at turn in
       rw (put, counted, index, moved, is) (words t ∙ enter-accepted fixed s clean r x named is (omega (arith, turn)))
     where
-      words : reader s r .place ≡ 1
+      words : reader s r .place ≡ PLACE-LOADED
           → outcome (At (entered s r .place)) (state (withIndicator (withReader (s .words) r (entered s r)) (reader s r .first % 2) (indicator (s .words) (reader s r .first % 2) + 1)) (s .entries)) ≡ rules .act s (Enter r)
       words t = ap (λ (b : Bool). outcome (At (entered s r .place)) (state (pick b (withIndicator (withReader (s .words) r (entered s r)) (reader s r .first % 2) (indicator (s .words) (reader s r .first % 2) + 1)) (withReader (s .words) r (entered s r))) (s .entries))) (sym (eq-eqb (reader s r .place) 1 t))
 
-  pub enter-is : (v : List ℕ) (r : ℕ) (x y : Reader) → r < readers (s .words) → x ≡ reader s r → x .place < 5 → x .place ≢ 1 → y ≡ onward (version (s .words)) (current (s .words)) x → v ≡ withReader (s .words) r y
+  pub enter-is : (v : List ℕ) (r : ℕ) (x y : Reader) → r < readers (s .words) → x ≡ reader s r → x .place < PLACE-PICKED → x .place ≢ PLACE-LOADED → y ≡ onward (version (s .words)) (current (s .words)) x → v ≡ withReader (s .words) r y
       → outcome (At (y .place)) (state v (s .entries)) ≡ step rules s (Enter r)
   enter-is v r x y named is turn ne moved put =
       rw (put, moved, is) (words (rw is at ne) ∙ enter-accepted fixed s clean r x named is turn)
     where
-      words : reader s r .place ≢ 1 → outcome (At (entered s r .place)) (state (withReader (s .words) r (entered s r)) (s .entries)) ≡ rules .act s (Enter r)
+      words : reader s r .place ≢ PLACE-LOADED → outcome (At (entered s r .place)) (state (withReader (s .words) r (entered s r)) (s .entries)) ≡ rules .act s (Enter r)
       words t = ap (λ (b : Bool). outcome (At (entered s r .place)) (state (pick b (withIndicator (withReader (s .words) r (entered s r)) (reader s r .first % 2) (indicator (s .words) (reader s r .first % 2) + 1)) (withReader (s .words) r (entered s r))) (s .entries))) (sym (ne-eqb (reader s r .place) 1 t))
 
-  pub leave-is : (v : List ℕ) (r i count : ℕ) (x : Reader) → r < readers (s .words) → x ≡ reader s r → 4 ≤ x .place → i ≡ x .first % 2 → count ≡ indicator (s .words) i
+  pub leave-is : (v : List ℕ) (r i count : ℕ) (x : Reader) → r < readers (s .words) → x ≡ reader s r → PLACE-OPEN ≤ x .place → i ≡ x .first % 2 → count ≡ indicator (s .words) i
       → v ≡ withIndicator (withReader (s .words) r (leaving x)) i (count - 1) → outcome Left (state v (s .entries)) ≡ step rules s (Leave r)
   leave-is v r i count x named is turn index counted put =
       rw (put, counted, index, is) (leave-accepted fixed s clean r x named is turn)
@@ -199,7 +199,7 @@ walks-not n f = rw (ne-eqb n 35 (λ e. f (inl e)), ne-eqb n 37 (λ e. f (inr e))
 
 -- There are two indicators.
 pub watched-low : (y : Publisher) → watched y < 2
-watched-low y = pick-split (λ (i : ℕ). i < 2) (eqb (y .place) 35) (λ _. omega arith) (λ _. omega arith)
+watched-low y = pick-split (λ (i : ℕ). i < 2) (eqb (y .place) PLACE-SYNCHRONISING) (λ _. omega arith) (λ _. omega arith)
 
 -- What a look gives; one that is made leaves the walk m.
 module _ (count : ℕ) (y : Publisher) (b : ℕ) where
@@ -211,10 +211,10 @@ module _ (count : ℕ) (y : Publisher) (b : ℕ) where
   unfolding lookAt
   look-waits m is e f = rw (is, add-zero (y .walk .next), ne-eqb b 0 e, ne-eqb count 0 f) refl
 
-  pub look-quiet : (m : WalkRecord) → m ≡ withLook (y .walk) 0 0 → b ≢ 0 → count ≡ 0 → y .place ≡ 35 → record { walk = m; reply = Quiet } ≡ lookAt count y b
+  pub look-quiet : (m : WalkRecord) → m ≡ withLook (y .walk) 0 0 → b ≢ 0 → count ≡ 0 → y .place ≡ PLACE-SYNCHRONISING → record { walk = m; reply = Quiet } ≡ lookAt count y b
   unfolding lookAt
   look-quiet m is e f t = rw (is, add-zero (y .walk .next), add-zero (y .walk .waits), ne-eqb b 0 e, eq-eqb count 0 f, eq-eqb (y .place) 35 t) refl
 
-  pub look-returned : (m : WalkRecord) → m ≡ withLook (y .walk) 0 0 → b ≢ 0 → count ≡ 0 → y .place ≢ 35 → record { walk = m; reply = Returned (m .looks) (m .waits) } ≡ lookAt count y b
+  pub look-returned : (m : WalkRecord) → m ≡ withLook (y .walk) 0 0 → b ≢ 0 → count ≡ 0 → y .place ≢ PLACE-SYNCHRONISING → record { walk = m; reply = Returned (m .looks) (m .waits) } ≡ lookAt count y b
   unfolding lookAt
   look-returned m is e f t = rw (is, add-zero (y .walk .next), add-zero (y .walk .waits), ne-eqb b 0 e, eq-eqb count 0 f, ne-eqb (y .place) 35 t) refl

@@ -10,6 +10,7 @@ use Rattle.base.specs.Base.{pick, upd}
 use Rattle.base.specs.Rows.{countBelow}
 use Rattle.base.specs.RowLaws.{and-false, negated, neither, pick-split, same, count-zero, count-upd}
 use Rattle.calls.specs.declared.WalkReply.the-variants.{Quiet, Waiting, Spent, Returned}
+use Rattle.calls.specs.Numbers.{PLACE-LOADED-AGAIN, PLACE-OPEN, PLACE-SYNCHRONISING, PLACE-RAISED, PLACE-RETURNED}
 use Rattle.layout.specs.declared.Reader.{Reader}
 use Rattle.layout.specs.declared.Publisher.{Publisher}
 use Rattle.layout.specs.declared.Progress.{Progress}
@@ -27,9 +28,9 @@ pub counted-to : (s : State) → Counted (readers (s .words)) (indicator (s .wor
 counted-to s c = neither (miscounted s 0) (miscounted s 1) (negated _ (eq-eqb _ _ (c 0 (omega arith)))) (negated _ (eq-eqb _ _ (c 1 (omega arith))))
 
 -- No reader at 4 or 5 added to an indicator that is zero.
-pub none-added : (n : ℕ) (ind : ℕ → ℕ) (R : ℕ → Reader) → Counted n ind R → (i : ℕ) → i < 2 → ind i ≡ 0 → (r : ℕ) → r < n → 4 ≤ R r .place → parity (R r .first) ≢ i
+pub none-added : (n : ℕ) (ind : ℕ → ℕ) (R : ℕ → Reader) → Counted n ind R → (i : ℕ) → i < 2 → ind i ≡ 0 → (r : ℕ) → r < n → PLACE-OPEN ≤ R r .place → parity (R r .first) ≢ i
 none-added n ind R c i i2 z r lt l = eqb-false (parity (R r .first)) i
-    (and-false (leb 4 (R r .place)) (eqb (parity (R r .first)) i) (count-zero (λ r. addedTo i (R r)) n r (sym (c i i2) ∙ z) lt) (le-leb 4 (R r .place) l))
+    (and-false (leb PLACE-OPEN (R r .place)) (eqb (parity (R r .first)) i) (count-zero (λ r. addedTo i (R r)) n r (sym (c i i2) ∙ z) lt) (le-leb 4 (R r .place) l))
 
 -- One reader changes: the counts follow.
 module _ (n : ℕ) (ind : ℕ → ℕ) (R : ℕ → Reader) (c : Counted n ind R) (r : ℕ) (rn : r < n) (x : Reader) where
@@ -41,14 +42,14 @@ module _ (n : ℕ) (ind : ℕ → ℕ) (R : ℕ → Reader) (c : Counted n ind R
   stays-counted e i i2 = let q = changed i in let a = e i in let d = c i i2 in c i i2 ∙ omega (arith, rw a at q)
 
   -- It arrives, or it leaves.
-  pub arrives-counted : (ind′ : ℕ → ℕ) → R r .place ≤ 3 → 4 ≤ x .place → ((i : ℕ) → i < 2 → ind′ i ≡ pick (eqb (parity (x .first)) i) (ind i + 1) (ind i)) → Counted n ind′ (upd R r x)
+  pub arrives-counted : (ind′ : ℕ → ℕ) → R r .place ≤ PLACE-LOADED-AGAIN → PLACE-OPEN ≤ x .place → ((i : ℕ) → i < 2 → ind′ i ≡ pick (eqb (parity (x .first)) i) (ind i + 1) (ind i)) → Counted n ind′ (upd R r x)
   arrives-counted ind′ out inside e i i2 = e i i2 ∙ go (eqb (parity (x .first)) i) refl
     where
       go : (b : Bool) → eqb (parity (x .first)) i ≡ b → pick b (ind i + 1) (ind i) ≡ countBelow (λ j. addedTo i (upd R r x j)) n
       go true d = let q = rw (lt-leb 4 (R r .place) (omega arith), le-leb 4 (x .place) inside, d) at (changed i) in omega (arith, c i i2)
       go false d = let q = rw (lt-leb 4 (R r .place) (omega arith), le-leb 4 (x .place) inside, d) at (changed i) in omega (arith, c i i2)
 
-  pub leaves-counted : (ind′ : ℕ → ℕ) → 4 ≤ R r .place → x .place ≤ 3 → ((i : ℕ) → i < 2 → ind′ i ≡ pick (eqb (parity (R r .first)) i) (ind i - 1) (ind i)) → Counted n ind′ (upd R r x)
+  pub leaves-counted : (ind′ : ℕ → ℕ) → PLACE-OPEN ≤ R r .place → x .place ≤ PLACE-LOADED-AGAIN → ((i : ℕ) → i < 2 → ind′ i ≡ pick (eqb (parity (R r .first)) i) (ind i - 1) (ind i)) → Counted n ind′ (upd R r x)
   leaves-counted ind′ inside out e i i2 = e i i2 ∙ go (eqb (parity (R r .first)) i) refl
     where
       go : (b : Bool) → eqb (parity (R r .first)) i ≡ b → pick b (ind i - 1) (ind i) ≡ countBelow (λ j. addedTo i (upd R r x j)) n
@@ -57,7 +58,7 @@ module _ (n : ℕ) (ind : ℕ → ℕ) (R : ℕ → Reader) (c : Counted n ind R
 
 -- How many of a walk's two looks have passed at a place.
 abbrev pub passedAt : ℕ → ℕ
-passedAt place = pick (eqb place 35) 0 (pick (eqb place 38) 2 1)
+passedAt place = pick (eqb place PLACE-SYNCHRONISING) 0 (pick (eqb place PLACE-RETURNED) 2 1)
 
 -- What one look gives.
 pub record LookFacts (count : ℕ) (y : Publisher) (b : ℕ) (k : Progress) : Type 0 where
@@ -66,15 +67,15 @@ pub record LookFacts (count : ℕ) (y : Publisher) (b : ℕ) (k : Progress) : Ty
   -- each look passed or waited
   pub counted : k .walk .looks + passedAt (y .place) + y .walk .waits ≡ y .walk .looks + passedAt (placeAfter (y .place) (k .reply)) + k .walk .waits
   pub waits-are : k .walk .waits ≡ waitsAfter (y .walk .waits) (k .reply)
-  pub quiet-zero : y .place ≡ 35 → placeAfter (y .place) (k .reply) ≢ 35 → count ≡ 0
-  pub returned-zero : y .place ≡ 37 → placeAfter (y .place) (k .reply) ≢ 37 → count ≡ 0
+  pub quiet-zero : y .place ≡ PLACE-SYNCHRONISING → placeAfter (y .place) (k .reply) ≢ PLACE-SYNCHRONISING → count ≡ 0
+  pub returned-zero : y .place ≡ PLACE-RAISED → placeAfter (y .place) (k .reply) ≢ PLACE-RAISED → count ≡ 0
   -- quiet is said at 35 only; waiting names the indicator looked at, which is not zero; spent exactly if b = 0
-  pub quiets : k .reply ≡ Quiet → y .place ≡ 35
+  pub quiets : k .reply ≡ Quiet → y .place ≡ PLACE-SYNCHRONISING
   pub waiting-is : (w : ℕ) → k .reply ≡ Waiting w → (w ≡ watched y) × (count ≢ 0)
   pub spent-only : k .reply ≡ Spent → b ≡ 0
   pub spent-if : b ≡ 0 → k .reply ≡ Spent
-  pub returns : (l w : ℕ) → k .reply ≡ Returned l w → (y .place ≢ 35) × (l ≡ k .walk .looks) × (w ≡ k .walk .waits)
-  pub high : placeAfter (y .place) (k .reply) ≤ 38
+  pub returns : (l w : ℕ) → k .reply ≡ Returned l w → (y .place ≢ PLACE-SYNCHRONISING) × (l ≡ k .walk .looks) × (w ≡ k .walk .waits)
+  pub high : placeAfter (y .place) (k .reply) ≤ PLACE-RETURNED
 
 -- A look keeps the mark.
 pub look-mark : (count : ℕ) (y : Publisher) (b : ℕ) → lookAt count y b .walk .mark ≡ y .walk .mark
@@ -82,29 +83,29 @@ unfolding lookAt
 look-mark count y b = pick-split (λ (k : Progress). k .walk .mark ≡ y .walk .mark) (eqb b 0) (λ _. refl)
     (λ _. pick-split (λ (k : Progress). k .walk .mark ≡ y .walk .mark) (eqb count 0) (λ _. refl) (λ _. refl))
 
-pub walk-places : (place : ℕ) → (eqb place 35 || eqb place 37) ≡ true → (place ≡ 35) ⊎ (place ≡ 37)
+pub walk-places : (place : ℕ) → (eqb place PLACE-SYNCHRONISING || eqb place PLACE-RAISED) ≡ true → (place ≡ PLACE-SYNCHRONISING) ⊎ (place ≡ PLACE-RAISED)
 walk-places place e = go (eqb place 35) refl
   where
-    go : (b : Bool) → eqb place 35 ≡ b → (place ≡ 35) ⊎ (place ≡ 37)
+    go : (b : Bool) → eqb place PLACE-SYNCHRONISING ≡ b → (place ≡ PLACE-SYNCHRONISING) ⊎ (place ≡ PLACE-RAISED)
     go true d = inl (eqb-true place 35 d)
     go false d = inr (eqb-true place 37 (rw d at e))
 
-pub turn-low : (place : ℕ) → (place ≡ 35) ⊎ (place ≡ 37) → 35 ≤ place
+pub turn-low : (place : ℕ) → (place ≡ PLACE-SYNCHRONISING) ⊎ (place ≡ PLACE-RAISED) → PLACE-SYNCHRONISING ≤ place
 turn-low place (inl e) = omega arith
 turn-low place (inr e) = omega arith
 
-pub turn-high : (place : ℕ) → (place ≡ 35) ⊎ (place ≡ 37) → place ≤ 37
+pub turn-high : (place : ℕ) → (place ≡ PLACE-SYNCHRONISING) ⊎ (place ≡ PLACE-RAISED) → place ≤ PLACE-RAISED
 turn-high place (inl e) = omega arith
 turn-high place (inr e) = omega arith
 
 -- A look that passes is quiet at 35 and a return at 37; one that waits and none at all leave the place.
 module _ (count : ℕ) (y : Publisher) (b : ℕ) where
-  passing : count ≡ 0 → b ≢ 0 → (y .place ≡ 35) ⊎ (y .place ≡ 37)
-      → LookFacts count y b (lookResult y (y .walk .looks + 1) (y .walk .waits) (pick (eqb (y .place) 35) Quiet (Returned (y .walk .looks + 1) (y .walk .waits))))
+  passing : count ≡ 0 → b ≢ 0 → (y .place ≡ PLACE-SYNCHRONISING) ⊎ (y .place ≡ PLACE-RAISED)
+      → LookFacts count y b (lookResult y (y .walk .looks + 1) (y .walk .waits) (pick (eqb (y .place) PLACE-SYNCHRONISING) Quiet (Returned (y .walk .looks + 1) (y .walk .waits))))
   passing z s (inl e) = rw (eq-eqb (y .place) 35 e) (record { mark-same = refl; next-same = refl; counted = rw (eq-eqb (y .place) 35 e) (omega arith); waits-are = refl; quiet-zero = λ _ _. z; returned-zero = λ q. absurd (omega arith); quiets = λ _. e; waiting-is = λ w q. absurd (let d : _≡_ {A = ℕ} 0 1 = cc in omega arith); spent-only = λ q. absurd (let d : _≡_ {A = ℕ} 0 1 = cc in omega arith); spent-if = λ q. absurd (s q); returns = λ l w q. absurd (let d : _≡_ {A = ℕ} 0 1 = cc in omega arith); high = omega arith })
   passing z s (inr e) = rw (ne-eqb (y .place) 35 (λ q. omega arith)) (record { mark-same = refl; next-same = refl; counted = rw e (omega arith); waits-are = refl; quiet-zero = λ q. absurd (omega arith); returned-zero = λ _ _. z; quiets = λ q. absurd (let d : _≡_ {A = ℕ} 0 1 = cc in omega arith); waiting-is = λ w q. absurd (let d : _≡_ {A = ℕ} 0 1 = cc in omega arith); spent-only = λ q. absurd (let d : _≡_ {A = ℕ} 0 1 = cc in omega arith); spent-if = λ q. absurd (s q); returns = λ l w q. (λ f. omega arith, (let c : y .walk .looks + 1 ≡ l = cc in sym c), (let d : y .walk .waits ≡ w = cc in sym d)); high = omega arith })
 
-  pub look-facts : (y .place ≡ 35) ⊎ (y .place ≡ 37) → LookFacts count y b (lookAt count y b)
+  pub look-facts : (y .place ≡ PLACE-SYNCHRONISING) ⊎ (y .place ≡ PLACE-RAISED) → LookFacts count y b (lookAt count y b)
   unfolding lookAt
   look-facts turn = pick-split (LookFacts count y b) (eqb b 0)
       (λ s. record { mark-same = refl; next-same = refl; counted = refl; waits-are = refl; quiet-zero = λ e n. absurd (n e); returned-zero = λ e n. absurd (n e); quiets = λ q. absurd (let d : _≡_ {A = ℕ} 0 1 = cc in omega arith); waiting-is = λ w q. absurd (let d : _≡_ {A = ℕ} 0 1 = cc in omega arith); spent-only = λ _. eqb-true b 0 s; spent-if = λ _. refl; returns = λ l w q. absurd (let d : _≡_ {A = ℕ} 0 1 = cc in omega arith); high = omega (arith, turn-high (y .place) turn) })

@@ -17,7 +17,7 @@ use Rattle.calls.specs.declared.Call.the-variants.{Enter, Leave, Sync, Raise, W
 use Rattle.calls.specs.declared.Reply.the-variants.{At, Left, Synced, Walked}
 use Rattle.calls.specs.declared.WalkReply.{WalkReply}
 use Rattle.calls.specs.declared.WalkReply.the-variants.{Waiting, Spent, Quiet, Returned}
-use Rattle.calls.specs.Numbers.{READERS-MAX, KIND-OLD}
+use Rattle.calls.specs.Numbers.{READERS-MAX, KIND-OLD, PLACE-OUT, PLACE-LOADED, PLACE-PUBLISHED, PLACE-LOADED-AGAIN, PLACE-OPEN, PLACE-PICKED, PLACE-SYNCHRONISING, PLACE-QUIET, PLACE-RAISED, PLACE-RETURNED}
 use Rattle.layout.specs.declared.Reader.{Reader}
 use Rattle.layout.specs.Layout.{HEAD, INDICATORS, INDICATORS-AT, readers, publishers, slots, current, version, indicator, readerAt, withReader, withIndicator}
 use Rattle.layout.specs.Records.{_place≔_, _first≔_, _picked≔_}
@@ -40,14 +40,14 @@ use Rattle.two_phase_law.specs.Traits.{traits}
 use Rattle.two_phase_law.specs.Counts.{Counted, counted-to, none-added, stays-counted, arrives-counted, leaves-counted, passedAt, LookFacts, look-mark, walk-places, turn-low, turn-high, look-facts}
 
 -- At 5 a reader is damaged by its pick alone.
-pub picked-rows : (ss : ℕ) (x : Reader) → x .place ≡ 5 → anyTrue (readerRows ss x) ≡ leb ss (x .picked)
+pub picked-rows : (ss : ℕ) (x : Reader) → x .place ≡ PLACE-PICKED → anyTrue (readerRows ss x) ≡ leb ss (x .picked)
 picked-rows ss x e = rw e (or-none (leb ss (x .picked)))
 
 abbrev pub law : KindLaw damageRules
 law = record {
   versions-law = up-to-law LAST;
   reader-picked = λ rs ss x e f. leb-false ss (x .picked) (sym (picked-rows ss x e) ∙ f);
-  extraDamage = λ rs y. ltb 38 (y .place);
+  extraDamage = λ rs y. ltb PLACE-RETURNED (y .place);
   extra-rows = λ rs ss y. refl;
   extra-early = λ rs y l. le-ltb 38 (y .place) (omega arith);
   extra-beyond = λ rs y e. ltb-false 38 (y .place) e;
@@ -56,7 +56,7 @@ law = record {
 -- From 36 on a synchronise waits only for readers that added to the other indicator; a look passes at 35 and at 37.
 abbrev detector : Detector
 detector = record {
-  Behind = λ n x y r. 36 ≤ y .place → parity (x .first) ≢ parity (y .walk .mark);
+  Behind = λ n x y r. PLACE-QUIET ≤ y .place → parity (x .first) ≢ parity (y .walk .mark);
   early = λ n x y y′ r e low b l. absurd (omega arith);
   passed = λ y. passedAt (y .place);
   Readers = λ ver n ind R. Counted n ind R;
@@ -64,7 +64,7 @@ detector = record {
 
 -- ENTER, by the place.
 module _ (ver cur : ℕ) where
-  onward-goes : (x : Reader) (pl : ℕ) → pl ≤ 4 → pl ≢ 2 → pl ≢ 3 → let y = onward ver cur (x place≔ pl) in Onward cur pl (x .picked) (y .place) (y .picked)
+  onward-goes : (x : Reader) (pl : ℕ) → pl ≤ PLACE-OPEN → pl ≢ PLACE-PUBLISHED → pl ≢ PLACE-LOADED-AGAIN → let y = onward ver cur (x place≔ pl) in Onward cur pl (x .picked) (y .place) (y .picked)
   unfolding onward
   onward-goes x zero l n2 n3 = stays-out (omega arith) (omega arith) refl
   onward-goes x (suc zero) l n2 n3 = opens (omega arith) refl refl
@@ -81,30 +81,30 @@ module _ (ver cur : ℕ) where
 
 onward-place : (ver cur : ℕ) (x : Reader) → onward ver cur x .place ≡ placeOn (x .place)
 unfolding onward
-onward-place ver cur x = go (eqb (x .place) 0) (eqb (x .place) 1)
+onward-place ver cur x = go (eqb (x .place) PLACE-OUT) (eqb (x .place) PLACE-LOADED)
   where
-    go : (a b : Bool) → pick {A = Reader} a (x place≔ 1 first≔ ver)
-        (pick b (x place≔ 4)
-        (x place≔ 5 picked≔ cur)) .place ≡ pick a 1 (pick b 4 5)
+    go : (a b : Bool) → pick {A = Reader} a (x place≔ PLACE-LOADED first≔ ver)
+        (pick b (x place≔ PLACE-OPEN)
+        (x place≔ PLACE-PICKED picked≔ cur)) .place ≡ pick a 1 (pick b 4 5)
     go true b = refl
     go false true = refl
     go false false = refl
 
-onward-first : (ver cur : ℕ) (x : Reader) → 4 ≤ x .place → onward ver cur x .first ≡ x .first
+onward-first : (ver cur : ℕ) (x : Reader) → PLACE-OPEN ≤ x .place → onward ver cur x .first ≡ x .first
 unfolding onward
 onward-first ver cur x l = rw (ne-eqb (x .place) 0 (λ z. omega arith), ne-eqb (x .place) 1 (λ z. omega arith)) refl
 
 -- The place and at most one number more.
 onward-stays : (ver cur : ℕ) (x : Reader) → PlaceAndOne x (onward ver cur x)
 unfolding onward
-onward-stays ver cur x = pick-split (PlaceAndOne x) (eqb (x .place) 0) (λ _. place-and-one _ _ 1 (λ n. absurd (n refl)) (λ _. refl) (λ _. refl) (λ _. refl))
-    (λ _. pick-split (PlaceAndOne x) (eqb (x .place) 1) (λ _. place-and-one _ _ 0 (λ _. refl) (λ _. refl) (λ _. refl) (λ _. refl))
+onward-stays ver cur x = pick-split (PlaceAndOne x) (eqb (x .place) PLACE-OUT) (λ _. place-and-one _ _ 1 (λ n. absurd (n refl)) (λ _. refl) (λ _. refl) (λ _. refl))
+    (λ _. pick-split (PlaceAndOne x) (eqb (x .place) PLACE-LOADED) (λ _. place-and-one _ _ 0 (λ _. refl) (λ _. refl) (λ _. refl) (λ _. refl))
     (λ _. place-and-one _ _ 4 (λ _. refl) (λ _. refl) (λ _. refl) (λ n. absurd (n refl))))
 
 -- The words after an ENTER and a LEAVE.
 pub enter-moves : (s : State) → Undamaged damageRules s → (r : ℕ) → r < readers (s .words) → MovesReader (s .words) (enterWords s r) r (entered s r)
 enter-moves s f r l =
-    pick-split (λ (w : List ℕ). MovesReader (s .words) w r (entered s r)) (eqb (reader s r .place) 1)
+    pick-split (λ (w : List ℕ). MovesReader (s .words) w r (entered s r)) (eqb (reader s r .place) PLACE-LOADED)
     (λ _. reader-moves-indicator f r (entered s r) l (INDICATORS-AT + parity (reader s r .first)) _ (omega arith) (omega arith)) (λ _. reader-moves f r (entered s r) l)
 
 pub leave-moves : (s : State) → Undamaged damageRules s → (r : ℕ) → r < readers (s .words) → MovesReader (s .words) (leaveWords s r) r (leaving (reader s r))
@@ -125,19 +125,19 @@ module _ (z : Given) (g : Ghost) (s : State) (i : WholeInvariant damageRules (Ow
   head-long = omega (arith, i .shared .every .no-damage .head .long)
 
   -- ENTER from 0, from 1 and from 4: what is counted of reader r.
-  out-added : (x : Reader) (k : ℕ) → x .place ≤ 3 → addedTo k x ≡ false
+  out-added : (x : Reader) (k : ℕ) → x .place ≤ PLACE-LOADED-AGAIN → addedTo k x ≡ false
   out-added x k l = rw (lt-leb 4 (x .place) (omega arith)) refl
 
-  in-added : (x : Reader) (k : ℕ) → 4 ≤ x .place → addedTo k x ≡ eqb (parity (x .first)) k
+  in-added : (x : Reader) (k : ℕ) → PLACE-OPEN ≤ x .place → addedTo k x ≡ eqb (parity (x .first)) k
   in-added x k l = rw (le-leb 4 (x .place) l) refl
 
   same-counted : (r : ℕ) (x : Reader) → r < readers (s .words) → ((k : ℕ) → addedTo k x ≡ addedTo k (reader s r)) → Counted (readers (s .words)) (indicator (withReader (s .words) r x)) (upd (readerAt (s .words)) r x)
   same-counted r x rn e = rw (indicator-reader (s .words) r x) (stays-counted (readers (s .words)) (indicator (s .words)) (readerAt (s .words)) (i .own .readers-are) r rn x e)
 
-  arrived : (r pl : ℕ) → r < readers (s .words) → reader s r .place ≡ pl → pl ≤ 4 → pl ≢ 2 → pl ≢ 3 → Counted (readers (s .words)) (indicator (enterWords s r)) (upd (readerAt (s .words)) r (entered s r))
+  arrived : (r pl : ℕ) → r < readers (s .words) → reader s r .place ≡ pl → pl ≤ PLACE-OPEN → pl ≢ PLACE-PUBLISHED → pl ≢ PLACE-LOADED-AGAIN → Counted (readers (s .words)) (indicator (enterWords s r)) (upd (readerAt (s .words)) r (entered s r))
   unfolding onward
   arrived r zero rn e l n2 n3 =
-      let x : Reader = reader s r place≔ 1 first≔ version (s .words) in
+      let x : Reader = reader s r place≔ PLACE-LOADED first≔ version (s .words) in
       rw (eq-eqb (reader s r .place) 0 e, ne-eqb (reader s r .place) 1 (λ q. omega arith)) (same-counted r x rn (λ k. sym (out-added (reader s r) k (omega arith))))
   arrived r (suc zero) rn e l n2 n3 = rw (ne-eqb (reader s r .place) 0 (λ q. omega arith), eq-eqb (reader s r .place) 1 e)
       (arrives-counted _ (indicator (s .words)) (readerAt (s .words)) (i .own .readers-are) r rn _ _ (omega arith) (omega arith)
@@ -145,14 +145,14 @@ module _ (z : Given) (g : Ghost) (s : State) (i : WholeInvariant damageRules (Ow
   arrived r (suc (suc zero)) rn e l n2 n3 = absurd (n2 refl)
   arrived r (suc (suc (suc zero))) rn e l n2 n3 = absurd (n3 refl)
   arrived r (suc (suc (suc (suc zero)))) rn e l n2 n3 =
-      let x : Reader = reader s r place≔ 5 picked≔ current (s .words) in
+      let x : Reader = reader s r place≔ PLACE-PICKED picked≔ current (s .words) in
       rw (ne-eqb (reader s r .place) 0 (λ q. omega arith), ne-eqb (reader s r .place) 1 (λ q. omega arith)) (same-counted r x rn (λ k. sym (in-added (reader s r) k (omega arith))))
   arrived r (suc (suc (suc (suc (suc pl))))) rn e l n2 n3 = absurd (omega arith)
 
   enter-kept : (r : ℕ) → AllClear (enterTests s r) → WholeInvariant damageRules (OwnOf detector) z (kept.advance g (Enter r) (At (entered s r .place))) (state (enterWords s r) (s .entries))
   enter-kept r f =
       let lt : r < readers (s .words) = leb-false _ _ (f .0) in
-      let l : reader s r .place ≤ 4 = let q = leb-false 5 (reader s r .place) (f .1 .0) in omega arith in
+      let l : reader s r .place ≤ PLACE-OPEN = let q = leb-false 5 (reader s r .place) (f .1 .0) in omega arith in
       let rf = all-false (readerRows (slots (s .words)) (reader s r)) (i .shared .every .no-damage .readers-undamaged r lt) in
       let n2 = eqb-false (reader s r .place) 2 (rf .1 .0) in
       let n3 = eqb-false (reader s r .place) 3 (rf .1 .1 .0) in
@@ -170,20 +170,20 @@ module _ (z : Given) (g : Ghost) (s : State) (i : WholeInvariant damageRules (Ow
   sync-kept : (p : ℕ) → AllClear (syncTests versions s p) → WholeInvariant damageRules (OwnOf detector) z (kept.advance g (Sync p) (Synced (version (s .words) + 1))) (sync versions s p .after)
   sync-kept p f = sync-invariant detector damageRules law z g s i p f refl refl (λ r _ l. absurd (omega arith))
 
-  raise-kept : (p : ℕ) → p < publishers (s .words) → eqb (publisher s p .place) 36 ≡ true → WholeInvariant damageRules (OwnOf detector) z (kept.advance g (Raise p) (raise versions s p .reply)) (raise versions s p .after)
+  raise-kept : (p : ℕ) → p < publishers (s .words) → eqb (publisher s p .place) PLACE-QUIET ≡ true → WholeInvariant damageRules (OwnOf detector) z (kept.advance g (Raise p) (raise versions s p .reply)) (raise versions s p .after)
   raise-kept p lt turn =
       let at36 = eqb-true (publisher s p .place) 36 turn in
       raise-invariant detector damageRules law z g s i p lt (omega arith) (omega arith) refl (rw at36 refl) (λ r b _. b (omega arith)) (λ _. i .own .readers-are)
 
   -- A look of publisher p.
-  module _ (p b : ℕ) (lt : p < publishers (s .words)) (turn : (publisher s p .place ≡ 35) ⊎ (publisher s p .place ≡ 37)) where
+  module _ (p b : ℕ) (lt : p < publishers (s .words)) (turn : (publisher s p .place ≡ PLACE-SYNCHRONISING) ⊎ (publisher s p .place ≡ PLACE-RAISED)) where
     came : LookFacts (indicator (s .words) (watched (publisher s p))) (publisher s p) b (looksOf s (publisher s p) b)
     came = look-facts (indicator (s .words) (watched (publisher s p))) (publisher s p) b turn
 
-    low : 35 ≤ publisher s p .place
+    low : PLACE-SYNCHRONISING ≤ publisher s p .place
     low = turn-low (publisher s p .place) turn
 
-    high : publisher s p .place ≤ 37
+    high : publisher s p .place ≤ PLACE-RAISED
     high = turn-high (publisher s p .place) turn
 
     -- A reader that is waited for did not add to an indicator that is zero.
@@ -191,21 +191,21 @@ module _ (z : Given) (g : Ghost) (s : State) (i : WholeInvariant damageRules (Ow
     not-added k k2 e r q = let a = i .shared .grace .awaited p r q in
         none-added _ (indicator (s .words)) (readerAt (s .words)) (i .own .readers-are) k k2 e r (i .shared .every .core .readers r .bound (omega (arith, a .opened))) (a .opened)
 
-    after-behind : (r : ℕ) → g .pend p r ≡ true → 36 ≤ placeAfter (publisher s p .place) (looksOf s (publisher s p) b .reply) → parity (reader s r .first) ≢ parity (publisher s p .walk .mark)
+    after-behind : (r : ℕ) → g .pend p r ≡ true → PLACE-QUIET ≤ placeAfter (publisher s p .place) (looksOf s (publisher s p) b .reply) → parity (reader s r .first) ≢ parity (publisher s p .walk .mark)
     after-behind r q l = go turn
       where
-        go : (publisher s p .place ≡ 35) ⊎ (publisher s p .place ≡ 37) → parity (reader s r .first) ≢ parity (publisher s p .walk .mark)
+        go : (publisher s p .place ≡ PLACE-SYNCHRONISING) ⊎ (publisher s p .place ≡ PLACE-RAISED) → parity (reader s r .first) ≢ parity (publisher s p .walk .mark)
         go (inl at35) = not-added (parity (publisher s p .walk .mark)) (omega arith)
             (rw (eq-eqb (publisher s p .place) 35 at35) at (came .quiet-zero at35 (λ e. omega arith))) r q
         go (inr at37) = i .own .behind p r q (omega arith)
 
-    none-pending : placeAfter (publisher s p .place) (looksOf s (publisher s p) b .reply) ≡ 38 → (r : ℕ) → g .pend p r ≡ false
+    none-pending : placeAfter (publisher s p .place) (looksOf s (publisher s p) b .reply) ≡ PLACE-RETURNED → (r : ℕ) → g .pend p r ≡ false
     none-pending done r = by-test (g .pend p r) (λ q. go turn q)
       where
-        go : (publisher s p .place ≡ 35) ⊎ (publisher s p .place ≡ 37) → g .pend p r ≡ true → ⊥
+        go : (publisher s p .place ≡ PLACE-SYNCHRONISING) ⊎ (publisher s p .place ≡ PLACE-RAISED) → g .pend p r ≡ true → ⊥
         go (inl at35) q = not-35 (looksOf s (publisher s p) b .reply) refl at35 done
           where
-            not-35 : (o : WalkReply) → looksOf s (publisher s p) b .reply ≡ o → publisher s p .place ≡ 35 → placeAfter (publisher s p .place) o ≡ 38 → ⊥
+            not-35 : (o : WalkReply) → looksOf s (publisher s p) b .reply ≡ o → publisher s p .place ≡ PLACE-SYNCHRONISING → placeAfter (publisher s p .place) o ≡ PLACE-RETURNED → ⊥
             not-35 (Waiting w) e a d = omega arith
             not-35 Spent e a d = omega arith
             not-35 Quiet e a d = omega arith
@@ -223,7 +223,7 @@ module _ (z : Given) (g : Ghost) (s : State) (i : WholeInvariant damageRules (Ow
         none-pending (came .mark-same) (le-ltb 38 _ (came .high)) (λ r q l. rw (came .mark-same) (after-behind r q l))
 
     -- A return is said at 37.
-    returned-at37 : (publisher s p .place ≡ 35) ⊎ (publisher s p .place ≡ 37) → publisher s p .place ≢ 35 → publisher s p .place ≡ 37
+    returned-at37 : (publisher s p .place ≡ PLACE-SYNCHRONISING) ⊎ (publisher s p .place ≡ PLACE-RAISED) → publisher s p .place ≢ PLACE-SYNCHRONISING → publisher s p .place ≡ PLACE-RAISED
     returned-at37 (inl at35) ne = absurd (ne at35)
     returned-at37 (inr at37) ne = at37
 
