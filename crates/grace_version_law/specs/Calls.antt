@@ -36,10 +36,10 @@ module _ (ss : ℕ) (x : Reader) where
     where
       go : (b : Bool) → eqb (x .place) PLACE-PUBLISHED ≡ b → anyTrue (readerRows ss x) ≡ not (eqb (x .published) (x .first))
       go true e = rw (eqb-true (x .place) 2 e) (or-none _)
-      go false e = let three : x .place ≡ PLACE-LOADED-AGAIN = (let q = eqb-false (x .place) 2 e in omega arith) in rw three (or-none _)
+      go false e = let three : x .place ≡ PLACE-LOADED-AGAIN = (let unequal = eqb-false (x .place) 2 e in omega arith) in rw three (or-none _)
 
   pub reader-rests : x .place ≤ PLACE-OPEN → x .place % 4 < 2 → anyTrue (readerRows ss x) ≡ false
-  reader-rests high low = rw (le-ltb 5 (x .place) (omega arith), ne-eqb (x .place) 5 (λ z. omega arith), ne-eqb (x .place) 2 (λ z. omega arith), ne-eqb (x .place) 3 (λ z. omega arith)) refl
+  reader-rests high low = rw (le-ltb 5 (x .place) (omega arith), ne-eqb (x .place) 5 (λ eq. omega arith), ne-eqb (x .place) 2 (λ eq. omega arith), ne-eqb (x .place) 3 (λ eq. omega arith)) refl
 
   pub reader-beyond : PLACE-PICKED < x .place → anyTrue (readerRows ss x) ≡ true
   reader-beyond l = rw (lt-ltb 5 (x .place) l) refl
@@ -66,7 +66,7 @@ module _ (rs : ℕ) (y : Publisher) where
     where
       go : y .place ≤ PLACE-RETURNED → (y .place ≡ PLACE-QUIET → ⊥) → (b : Bool) → eqb (y .place) PLACE-SYNCHRONISING ≡ b → anyTrue (extraRows rs y) ≡ leb rs (y .walk .next)
       go high other true e = rw (eqb-true (y .place) 35 e) (or-none _)
-      go high other false e = let d : y .place ≡ PLACE-RAISED = (let q = eqb-false (y .place) 35 e in omega arith) in rw d (or-none _)
+      go high other false e = let d : y .place ≡ PLACE-RAISED = (let unequal = eqb-false (y .place) 35 e in omega arith) in rw d (or-none _)
 
 -- At 3 a reader has published the version that it loaded first.
 pub published-of : (s : State) → damaged rules s ≡ false → (r : ℕ) → r < readers (s .words) → reader s r .place ≡ PLACE-LOADED-AGAIN → reader s r .published ≡ reader s r .first

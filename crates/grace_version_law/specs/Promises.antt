@@ -124,7 +124,7 @@ waits-published z g s i p b r e =
       where
         go : (d : Bool) → leb PLACE-PUBLISHED (reader s r .place) ≡ d → reader s r .published < publisher s p .walk .mark → publisher s p .walk .mark ≤ LAST → r < readers (s .words) → PLACE-PUBLISHED ≤ g .tally .place r
         go true d l high rn = omega (arith, leb-true 2 (reader s r .place) d, i .shared .every .phases .places r)
-        go false d l high rn = absurd (omega (arith, l, high, i .own .readers-are r .out rn (let q = leb-false 2 (reader s r .place) d in omega arith)))
+        go false d l high rn = absurd (omega (arith, l, high, i .own .readers-are r .out rn (let less = leb-false 2 (reader s r .place) d in omega arith)))
 
 pub new-waits-for : (s : State) (f : Fresh GraceVersion s) (cs : List Call) (p b r : ℕ)
     → step rules (afterAll GraceVersion s cs) (Walk p b) .reply ≡ Walked (Waiting r) → PLACE-PUBLISHED ≤ tallyOf (events GraceVersion s cs) .place r

@@ -151,7 +151,7 @@ module _ (ver cur : ℕ) where
 
 onward-published : (ver cur : ℕ) (x : Reader) → PLACE-OPEN ≤ x .place → onward ver cur x .published ≡ x .published
 unfolding onward
-onward-published ver cur x l = rw (ne-eqb (x .place) 0 (λ z. omega arith), ne-eqb (x .place) 1 (λ z. omega arith), ne-eqb (x .place) 2 (λ z. omega arith), ne-eqb (x .place) 3 (λ z. omega arith)) refl
+onward-published ver cur x l = rw (ne-eqb (x .place) 0 (λ eq. omega arith), ne-eqb (x .place) 1 (λ eq. omega arith), ne-eqb (x .place) 2 (λ eq. omega arith), ne-eqb (x .place) 3 (λ eq. omega arith)) refl
 
 -- Each of the kind's own steps keeps the invariant.
 module _ (z : Given) (g : Ghost) (s : State) (i : WholeInvariant damageRules (OwnOf detector) z g s) where
@@ -162,7 +162,7 @@ module _ (z : Given) (g : Ghost) (s : State) (i : WholeInvariant damageRules (Ow
   enter-kept : (r : ℕ) → AllClear (enterTests s r) → WholeInvariant damageRules (OwnOf detector) z (kept.advance g (Enter r) (At (entered s r .place))) (state (withReader (s .words) r (entered s r)) (s .entries))
   enter-kept r f =
       let lt : r < readers (s .words) = leb-false _ _ (f .0) in
-      let l : reader s r .place ≤ PLACE-OPEN = let q = leb-false 5 (reader s r .place) (f .1 .0) in omega arith in
+      let l : reader s r .place ≤ PLACE-OPEN = let less = leb-false 5 (reader s r .place) (f .1 .0) in omega arith in
       enter-invariant detector damageRules law z g s i _ r (entered s r) (reader-moves (i .shared .every .no-damage) r (entered s r) lt)
       (none-true (readerRows (slots (s .words)) (entered s r)) (onward-fits _ _ _ (reader s r) _ l (i .shared .every .no-damage .head .current-below) (all-false (readerRows (slots (s .words)) (reader s r)) (i .shared .every .no-damage .readers-undamaged r lt))))
       (shown-anew r _ (onward-shown _ _ _ _ (reader s r) _ l (i .own .readers-are r))) lt (onward-goes _ _ (reader s r) _ l)
@@ -218,10 +218,10 @@ module _ (z : Given) (g : Ghost) (s : State) (i : WholeInvariant damageRules (Ow
     returned-all (Returned l u) nx lk wt e z = e .0
 
     after-clear : (o : WalkReply) (k : WalkRecord) → EndsHere (k .next) (k .looks) (k .waits) o → anyTrue (extraRows (readers (s .words)) (publisher s p atPlace (placeAfter 37 o) walk≔ k)) ≡ false
-    after-clear (Waiting r) k e = extra-clear (readers (s .words)) (publisher s p atPlace PLACE-RAISED walk≔ k) (omega arith) (λ z. omega arith) (λ c d. e .0)
-    after-clear Spent k e = extra-clear (readers (s .words)) (publisher s p atPlace PLACE-RAISED walk≔ k) (omega arith) (λ z. omega arith) (λ c d. e .0)
+    after-clear (Waiting r) k e = extra-clear (readers (s .words)) (publisher s p atPlace PLACE-RAISED walk≔ k) (omega arith) (λ eq. omega arith) (λ c d. e .0)
+    after-clear Spent k e = extra-clear (readers (s .words)) (publisher s p atPlace PLACE-RAISED walk≔ k) (omega arith) (λ eq. omega arith) (λ c d. e .0)
     after-clear Quiet k e = absurd e
-    after-clear (Returned a c) k e = extra-clear (readers (s .words)) (publisher s p atPlace PLACE-RETURNED walk≔ k) (omega arith) (λ z. omega arith) (λ c d. absurd (omega arith))
+    after-clear (Returned a c) k e = extra-clear (readers (s .words)) (publisher s p atPlace PLACE-RETURNED walk≔ k) (omega arith) (λ eq. omega arith) (λ c d. absurd (omega arith))
 
     still-counted : looksOf s (publisher s p .walk) b .walk .looks ≡ looksOf s (publisher s p .walk) b .walk .next + looksOf s (publisher s p .walk) b .walk .waits
     still-counted = omega (arith, came .counted, i .own .counted p (omega arith))

@@ -247,7 +247,7 @@ module _ (number rs ps ss ver : ℕ) (x : Reader) where
   fresh-head j lt = rw (fresh-at j, u0-head j lt) refl
 
   fresh-behind : (j : ℕ) → VERSION-AT < j → getD (fresh number rs ps ss ver x) j 0 ≡ getD u0 j 0
-  fresh-behind j lt = rw (fresh-at j, ne-eqb j VERSION-AT (λ z. omega arith), ne-eqb j SLOTS-AT (λ z. omega arith), ne-eqb j PUBLISHERS-AT (λ z. omega arith), ne-eqb j READERS-AT (λ z. omega arith), ne-eqb j KIND-AT (λ z. omega arith)) refl
+  fresh-behind j lt = rw (fresh-at j, ne-eqb j VERSION-AT (λ eq. omega arith), ne-eqb j SLOTS-AT (λ eq. omega arith), ne-eqb j PUBLISHERS-AT (λ eq. omega arith), ne-eqb j READERS-AT (λ eq. omega arith), ne-eqb j KIND-AT (λ eq. omega arith)) refl
 
   pub fresh-reader : (r : ℕ) → readerAt (fresh number rs ps ss ver x) r ≡ pick (ltb r READERS-MAX) x noReader
   fresh-reader r = ap (λ (f : ℕ → Reader). f r) (reader-by (fresh number rs ps ss ver x) u0 (λ j low high. fresh-behind j (omega arith))) ∙ u0-reader r
@@ -279,7 +279,7 @@ publish-suc n ver = sym (go (withReaders n (replicate WORDS 0) (blankReader ver)
     go : (w : List ℕ) → ((j : ℕ) → HEAD + READER-WORDS * n ≤ j → getD w j 0 ≡ 0) → putWords w (HEAD + READER-WORDS * n) 0 (readerWords (blankReader ver)) ≡ set w (HEAD + READER-WORDS * n + 3) ver
     go w e =
         let start = HEAD + READER-WORDS * n in
-        let after : set (set w (start + 3) ver) (start + 4) 0 ≡ set w (start + 3) ver = set-zero (set w (start + 3) ver) (start + 4) (getD-set-other w (start + 3) (start + 4) ver 0 (λ z. omega arith) ∙ e (start + 4) (omega arith)) in
+        let after : set (set w (start + 3) ver) (start + 4) 0 ≡ set w (start + 3) ver = set-zero (set w (start + 3) ver) (start + 4) (getD-set-other w (start + 3) (start + 4) ver 0 (λ eq. omega arith) ∙ e (start + 4) (omega arith)) in
         rw (set-zero w (start + 0) (e (start + 0) (omega arith)), set-zero w (start + 1) (e (start + 1) (omega arith)), set-zero w (start + 2) (e (start + 2) (omega arith))) after
 
 pub publish-next : (n ver : ℕ) → set (withReaders n (replicate WORDS 0) (blankReader ver)) (HEAD + READER-WORDS * n + 3) ver ≡ withReaders (n + 1) (replicate WORDS 0) (blankReader ver)

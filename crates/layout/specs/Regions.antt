@@ -21,8 +21,8 @@ length-put (n ∷ ns) w start i = length-put ns (set w (start + i) n) start (i +
 
 put-other : (ns w : List ℕ) (start i j : ℕ) → (j < start + i) ⊎ (start + i + length ns ≤ j) → getD (putWords w start i ns) j 0 ≡ getD w j 0
 put-other [] w start i j o = refl
-put-other (n ∷ ns) w start i j (inl l) = put-other ns (set w (start + i) n) start (i + 1) j (inl (omega arith)) ∙ getD-set-other w (start + i) j n 0 (λ z. omega arith)
-put-other (n ∷ ns) w start i j (inr l) = put-other ns (set w (start + i) n) start (i + 1) j (inr (omega arith)) ∙ getD-set-other w (start + i) j n 0 (λ z. omega arith)
+put-other (n ∷ ns) w start i j (inl l) = put-other ns (set w (start + i) n) start (i + 1) j (inl (omega arith)) ∙ getD-set-other w (start + i) j n 0 (λ eq. omega arith)
+put-other (n ∷ ns) w start i j (inr l) = put-other ns (set w (start + i) n) start (i + 1) j (inr (omega arith)) ∙ getD-set-other w (start + i) j n 0 (λ eq. omega arith)
 
 put-here : (ns w : List ℕ) (start i m : ℕ) → m < length ns → start + i + length ns ≤ length w → getD (putWords w start i ns) (start + (i + m)) 0 ≡ getD ns m 0
 put-here [] w start i m l f = absurd (omega arith)
@@ -104,7 +104,7 @@ module _ {A : Type 0} {region : Region A} (exact : Exact region) where
 
   -- A word stored before the region leaves its records.
   pub region-set : (w : List ℕ) (m n : ℕ) → m < region .start → recordAt region (set w m n) ≡ recordAt region w
-  region-set w m n l = region-by (set w m n) w (λ i low high. getD-set-other w m i n 0 (λ z. omega arith))
+  region-set w m n l = region-by (set w m n) w (λ i low high. getD-set-other w m i n 0 (λ eq. omega arith))
 
   -- A record written is read there, and every other one stays; of a field or of the whole record.
   pub record-put : {B : Type 0} (f : A → B) (w : List ℕ) (j : ℕ) (x : A) → ends region ≤ length w → j < region .count → (λ i. f (recordAt region (withRecord region w j x) i)) ≡ upd (λ i. f (recordAt region w i)) j (f x)
@@ -119,7 +119,7 @@ module _ {A : Type 0} {region : Region A} (exact : Exact region) where
 
       apart : (i m : ℕ) → i ≢ j → m < region .stride → (b : Bool) → ltb i j ≡ b → (begins region i + m < begins region j) ⊎ (begins region j + region .stride ≤ begins region i + m)
       apart i m ne l true e = inl (omega (arith, spaced region i j (ltb-true i j e)))
-      apart i m ne l false e = inr (let q = ltb-false i j e in omega (arith, spaced region j i (omega arith)))
+      apart i m ne l false e = inr (let not-less = ltb-false i j e in omega (arith, spaced region j i (omega arith)))
 
       go : (i : ℕ) (b : Bool) → eqb i j ≡ b → f (recordAt region (withRecord region w j x) i) ≡ upd (λ i. f (recordAt region w i)) j (f x) i
       go i true e = rw (e, eqb-true i j e) (ap f here)

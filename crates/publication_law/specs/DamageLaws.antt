@@ -124,7 +124,7 @@ pub record UndamagedPublisher (vs : Versions) (slots : ℕ) (y : Publisher) : Ty
 
 pub publisher-of : (vs : Versions) (slots : ℕ) (y : Publisher) → anyTrue (publisherRows vs slots y) ≡ false → UndamagedPublisher vs slots y
 publisher-of vs slots y e = let f = all-false (publisherRows vs slots y) e in record {
-  held-below = λ l. leb-false _ _ (and-false (not (eqb (y .place) PLACE-IDLE)) (leb slots (y .held)) (f .0) (rw (ne-eqb (y .place) 0 (λ z. omega arith)) refl));
+  held-below = λ l. leb-false _ _ (and-false (not (eqb (y .place) PLACE-IDLE)) (leb slots (y .held)) (f .0) (rw (ne-eqb (y .place) 0 (λ eq. omega arith)) refl));
   mark-fits = λ l. and-false (leb PLACE-SYNCHRONISING (y .place)) (vs .wrongMark (y .walk .mark)) (f .1 .0) (le-leb _ _ l);
   waits-low = λ l. ltb-false _ _ (and-false (leb PLACE-SYNCHRONISING (y .place)) (ltb (y .walk .looks) (y .walk .waits)) (f .1 .1 .0) (le-leb _ _ l));
 }
@@ -139,7 +139,7 @@ publisher-to vs slots y f = none-true (publisherRows vs slots y) (
 )
   where
     some-place : (n : ℕ) → not (eqb n 0) ≡ true → 1 ≤ n
-    some-place n e = let q = eqb-false n 0 (not-true (eqb n 0) e) in omega arith
+    some-place n e = let unequal = eqb-false n 0 (not-true (eqb n 0) e) in omega arith
 
 -- A store with every number 0 is damaged.
 pub zero-damaged : (T : Table) (es : List ℤ) → damaged T (state (replicate WORDS 0) es) ≡ true

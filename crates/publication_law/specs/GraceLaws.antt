@@ -31,7 +31,7 @@ onward-picked (picks a b e) five = e
 
 module _ (t : Told) (w : Pend) (rpl rpk ppl : ℕ → ℕ) (F : ℕ → ℕ → Bool) (g : Grace (t .inside) w rpl rpk ppl F) where
   enter-inside : (cur r pl pk : ℕ) → Onward cur (rpl r) (rpk r) pl pk → (j : ℕ) → tell t (Enter r) (At pl) .inside j ≡ leb 4 (upd rpl r pl j)
-  enter-inside cur r pl pk (stays-out a b e) = rw (ne-eqb pl 4 (λ z. omega arith), ne-eqb pl 5 (λ z. omega arith))
+  enter-inside cur r pl pk (stays-out a b e) = rw (ne-eqb pl 4 (λ eq. omega arith), ne-eqb pl 5 (λ eq. omega arith))
       (at-or r (rw (same r) (g .inside-is r ∙ rw (lt-leb 4 (rpl r) (omega arith), lt-leb 4 pl (omega arith)) refl)) (λ j d. rw d (g .inside-is j)))
   enter-inside cur r pl pk (opens a b e) = rw b (at-or r (rw (same r) refl) (λ j d. rw d (g .inside-is j)))
   enter-inside cur r pl pk (picks a b e) = rw b (at-or r (rw (same r) (g .inside-is r ∙ rw a refl)) (λ j d. rw d (g .inside-is j)))
@@ -73,7 +73,7 @@ module _ (t : Told) (w : Pend) (rpl rpk ppl : ℕ → ℕ) (F : ℕ → ℕ → 
     where
       not38 : (r : ℕ) → w p r ≡ true → (b : Bool) → eqb pl PLACE-RETURNED ≡ b → pl ≤ PLACE-RAISED
       not38 r e true d = absurd (not-both _ e (done (eqb-true pl 38 d) r))
-      not38 r e false d = let q = eqb-false pl 38 d in omega arith
+      not38 r e false d = let unequal = eqb-false pl 38 d in omega arith
 
   pub sync-grace : (p : ℕ) (G : ℕ → Bool) → Grace (t .inside) (pending w t (Sync p)) rpl rpk (upd ppl p 35) (upd F p G)
   sync-grace p G = record {

@@ -98,7 +98,7 @@ module _ (K : DamageRules) (z : Given) (g : Ghost) (s : State) (i : Invariant K 
   -- What an accepted LOOK gives is the model's entry.
   pub look-right : (r k : ℕ) → AllClear (lookTests s r k) → entry (g .model .note r) k ≡ some (getD (s .entries) (entryAt (reader s r .picked) k) (pos 0))
   look-right r k f =
-      let k32 : k < TABLE = let q = ltb-false 31 k (f .1 .0) in omega arith in
+      let k32 : k < TABLE = let not-less = ltb-false 31 k (f .1 .0) in omega arith in
       rw (lt-ltb k TABLE k32) at (i .core .readers r .noted (eqb-true _ _ (not-false _ (f .1 .1 .0))) k k32)
 
   pub held-told : (p x : ℕ) → heldSlot s p x ≡ holds (g .told) p x

@@ -29,7 +29,7 @@ up-to-law last = record {
   before-mark = λ v. omega arith;
   mark-after = λ m e. let ne = eqb-false m 0 (or-false (eqb m 0) (ltb last m) e .0) in omega arith;
   mark-fits = λ v a b. let l = ltb-false last v a in let ne = eqb-false v last b in
-      neither (eqb (upTo last .markAt v) 0) (ltb last (upTo last .markAt v)) (ne-eqb (upTo last .markAt v) 0 (λ z. omega arith)) (le-ltb last (upTo last .markAt v) (omega arith));
+      neither (eqb (upTo last .markAt v) 0) (ltb last (upTo last .markAt v)) (ne-eqb (upTo last .markAt v) 0 (λ eq. omega arith)) (le-ltb last (upTo last .markAt v) (omega arith));
   mark-low = λ m e. let ne = eqb-false m 0 (or-false (eqb m 0) (ltb last m) e .0) in omega arith;
   raised-fits = λ m e. or-false (eqb m 0) (ltb last m) e .1;
 }

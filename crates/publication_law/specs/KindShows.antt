@@ -125,7 +125,7 @@ module _ (R : Rules) (T : GraceTraits) (L : KindShows R T) where
     accepts = refl;
     representable = λ _. tt;
     framed = reader-framed (T .publishes) (Enter r) _ _ r _ (L .enter-moves s (undamaged-facts (tableBy R) s (f .0)) r (leb-false _ _ (f .1 .0))) refl refl (λ b. L .enter-head b s r)
-        (λ e. subst (λ (x : Reader). PlaceAndOne (reader s r) x) (sym e) (L .enter-stays s r (let q = leb-false 5 (reader s r .place) (f .1 .1 .0) in omega arith)));
+        (λ e. subst (λ (x : Reader). PlaceAndOne (reader s r) x) (sym e) (L .enter-stays s r (let less = leb-false 5 (reader s r .place) (f .1 .1 .0) in omega arith)));
     entries-stay = λ _. refl;
   }
   act-facts s (Look r k) f = record { accepts = refl; representable = λ n. n _; framed = same-framed (T .publishes) (Look r k) (s .words); entries-stay = λ _. refl }

@@ -71,8 +71,8 @@ moves-head : (w w′ : List ℕ) (p : ℕ) (y : Publisher) (cur ver rel : ℕ) �
     → MovesPublisher w (set w′ k v) p y (pick (eqb CURRENT-AT k) v cur) (pick (eqb VERSION-AT k) v ver) (pick (eqb RELEASES-AT k) v rel)
 moves-head w w′ p y cur ver rel m len k v low high = record {
   long = length-set w′ k v ∙ m .long;
-  head = λ j l. getD-set-other w′ k j v 0 (λ z. omega arith) ∙ m .head j l;
-  indicators-stay = indicator-by (set w′ k v) w′ (λ j a b. getD-set-other w′ k j v 0 (λ z. omega arith)) ∙ m .indicators-stay;
+  head = λ j l. getD-set-other w′ k j v 0 (λ eq. omega arith) ∙ m .head j l;
+  indicators-stay = indicator-by (set w′ k v) w′ (λ j a b. getD-set-other w′ k j v 0 (λ eq. omega arith)) ∙ m .indicators-stay;
   current-is = read CURRENT-AT cur (m .current-is);
   version-is = read VERSION-AT ver (m .version-is);
   releases-is = read RELEASES-AT rel (m .releases-is);
@@ -115,7 +115,7 @@ moves-reader w r x len lt = record {
 moves-indicator : (w : List ℕ) (r : ℕ) (x : Reader) → MovesReader w (withReader w r x) r x → (k v : ℕ) → RELEASES-AT < k → k < HEAD → MovesReader w (set (withReader w r x) k v) r x
 moves-indicator w r x m k v low high = record {
   long = length-set (withReader w r x) k v ∙ m .long;
-  head = λ j l. getD-set-other (withReader w r x) k j v 0 (λ z. omega arith) ∙ m .head j l;
+  head = λ j l. getD-set-other (withReader w r x) k j v 0 (λ eq. omega arith) ∙ m .head j l;
   one = one-moved w (withReader w r x) k v (head-reader w r x);
   readers-are = reader-head (withReader w r x) k v high ∙ m .readers-are;
   publishers-stay = publisher-head (withReader w r x) k v high ∙ m .publishers-stay;

@@ -33,16 +33,16 @@ in-phase pl = go (eqb pl 0) refl (leb pl 33) refl
     late false eb false ec true ed e ee l = eqb-true pl 36 ed
     late false eb false ec false ed true ee l = eqb-true pl 37 ee
     late false eb false ec false ed false ee l =
-        let q = eqb-false pl 34 eb in let r = eqb-false pl 35 ec in let t = eqb-false pl 36 ed in let u = eqb-false pl 37 ee in omega arith
+        let unequal = eqb-false pl 34 eb in let r = eqb-false pl 35 ec in let t = eqb-false pl 36 ed in let u = eqb-false pl 37 ee in omega arith
 
     go : (a : Bool) → eqb pl PLACE-IDLE ≡ a → (b : Bool) → leb pl PLACE-WRITTEN ≡ b
         → InPhase pl (pick a idle (pick b writing (pick (eqb pl PLACE-SWAPPED) swapped (pick (eqb pl PLACE-SYNCHRONISING) synchronising (pick (eqb pl PLACE-QUIET) quiet (pick (eqb pl PLACE-RAISED) raised returned))))))
     go true ea b eb = eqb-true pl 0 ea
-    go false ea true eb = let q = eqb-false pl 0 ea in (omega arith, leb-true pl 33 eb)
+    go false ea true eb = let unequal = eqb-false pl 0 ea in (omega arith, leb-true pl 33 eb)
     go false ea false eb = late (eqb pl 34) refl (eqb pl 35) refl (eqb pl 36) refl (eqb pl 37) refl (leb-false pl 33 eb)
 
 pub phase-writing : (pl : ℕ) → PLACE-CLAIMED ≤ pl → pl ≤ PLACE-WRITTEN → phaseAt pl ≡ writing
-phase-writing pl l h = rw (ne-eqb pl 0 (λ z. omega arith), le-leb pl 33 h) refl
+phase-writing pl l h = rw (ne-eqb pl 0 (λ eq. omega arith), le-leb pl 33 h) refl
 
 -- A test that is false below 35 comes out alike at a place and at the first place of its phase.
 pub phase-turn : (f : ℕ → Bool) → ((pl : ℕ) → pl ≤ PLACE-SWAPPED → f pl ≡ false) → (pl : ℕ) → pl ≤ PLACE-RETURNED → f (firstPlace (phaseAt pl)) ≡ f pl

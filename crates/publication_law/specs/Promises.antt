@@ -103,7 +103,7 @@ module _ (R : Rules) (T : GraceTraits) (L : KindShows R T) where
         where
           go : (b : Bool) → leb PLACE-SYNCHRONISING pl ≡ b → PLACE-SYNCHRONISING ≤ pl
           go true d = leb-true 35 pl d
-          go false d = absurd (not-both _ e (L .raises-late pl (let q = leb-false 35 pl d in omega arith)))
+          go false d = absurd (not-both _ e (L .raises-late pl (let less = leb-false 35 pl d in omega arith)))
 
 pub promises-of : (R : Rules) (T : GraceTraits) → KindShows R T → Promises (tableBy R) T
 promises-of R T L = record {

@@ -28,14 +28,14 @@ single pl hd x = go (eqb pl 0) refl (leb 34 pl) refl (eqb hd x)
     go true d true e c = absurd (omega (arith, eqb-true pl 0 d, leb-true 34 pl e))
     go true d false e c = rw (lt-leb 1 pl (omega (arith, eqb-true pl 0 d))) refl
     go false d true e c = rw (lt-leb pl 33 (omega (arith, leb-true 34 pl e)), le-leb 1 pl (omega (arith, leb-true 34 pl e))) refl
-    go false d false e true = rw (le-leb 1 pl (let q = eqb-false pl 0 d in omega arith), le-leb pl 33 (let q = leb-false 34 pl e in omega arith)) refl
-    go false d false e false = rw (le-leb 1 pl (let q = eqb-false pl 0 d in omega arith), le-leb pl 33 (let q = leb-false 34 pl e in omega arith)) refl
+    go false d false e true = rw (le-leb 1 pl (let unequal = eqb-false pl 0 d in omega arith), le-leb pl 33 (let less = leb-false 34 pl e in omega arith)) refl
+    go false d false e false = rw (le-leb 1 pl (let unequal = eqb-false pl 0 d in omega arith), le-leb pl 33 (let less = leb-false 34 pl e in omega arith)) refl
 
 pub single-free : (pl hd x : ℕ) → (not (eqb pl PLACE-IDLE) && eqb hd x) ≡ false → Hold pl hd (formerAt pl hd) x → ⊥
 single-free pl hd x free o = hold-map pl hd (formerAt pl hd) x o
-    (λ a b e. not-both (not (eqb pl 0) && eqb hd x) (rw (ne-eqb pl 0 (λ z. omega arith), eq-eqb hd x e) refl) free)
+    (λ a b e. not-both (not (eqb pl 0) && eqb hd x) (rw (ne-eqb pl 0 (λ eq. omega arith), eq-eqb hd x e) refl) free)
     (λ e. go (leb 34 pl) refl e)
   where
     go : (b : Bool) → leb PLACE-SWAPPED pl ≡ b → (b && eqb hd x) ≡ true → ⊥
-    go true d e = not-both (not (eqb pl 0) && eqb hd x) (rw (ne-eqb pl 0 (λ z. omega (arith, leb-true 34 pl d)), e) refl) free
+    go true d e = not-both (not (eqb pl 0) && eqb hd x) (rw (ne-eqb pl 0 (λ eq. omega (arith, leb-true 34 pl d)), e) refl) free
     go false d e = clash (sym e)

@@ -36,7 +36,7 @@ pub record Versions : Type 0 where
 
 -- The last version is a fixed number of each kind of store: none is above it, a mark is neither 0 nor above it, mark = version + 1.
 abbrev pub upTo : ℕ → Versions
-upTo last = record { tooLarge = λ v. ltb last v; isLast = λ v. eqb v last; wrongMark = λ m. eqb m 0 || ltb last m; markAt = λ v. v + 1; beforeMark = λ m. m - 1 }
+upTo last = record { tooLarge = λ ver. ltb last ver; isLast = λ ver. eqb ver last; wrongMark = λ mark. eqb mark 0 || ltb last mark; markAt = λ ver. ver + 1; beforeMark = λ mark. mark - 1 }
 
 abbrev pub reader : State → ℕ → Reader
 reader s r = readerAt (s .words) r
@@ -62,7 +62,7 @@ noSuchPublisher s p = leb (publishers (s .words)) p gives NO-SUCH-PUBLISHER
 
 -- Second argument: 12 no such slot; 13 entry above 31; 14 pitch out of range.
 abbrev pub noSuchSlot : State → ℕ → Test
-noSuchSlot s x = leb (slots (s .words)) x gives NO-SUCH-SLOT
+noSuchSlot s slot = leb (slots (s .words)) slot gives NO-SUCH-SLOT
 
 abbrev pub noSuchEntry : ℕ → Test
 noSuchEntry k = ltb 31 k gives NO-SUCH-ENTRY
@@ -99,15 +99,15 @@ anotherBusy s p = anyBelow (λ q. not (eqb q p) && not (eqb (publisher s q .plac
 
 -- A slot is free if it is not current and no publisher at a place other than 0 holds it.
 abbrev pub inUse : State → ℕ → Bool
-inUse s x = eqb (current (s .words)) x || anyBelow (λ q. heldSlot s q x) (publishers (s .words))
+inUse s slot = eqb (current (s .words)) slot || anyBelow (λ q. heldSlot s q slot) (publishers (s .words))
 
 abbrev pub claimTests : Bool → State → ℕ → ℕ → List Test
-claimTests exclusive s p x =
-    noSuchPublisher s p ∷ noSuchSlot s x ∷ publisherTurn (not (eqb (publisher s p .place) PLACE-IDLE))
-    ∷ ((exclusive && anotherBusy s p) gives BUSY) ∷ (inUse s x gives SLOT-IN-USE) ∷ []
+claimTests exclusive s p slot =
+    noSuchPublisher s p ∷ noSuchSlot s slot ∷ publisherTurn (not (eqb (publisher s p .place) PLACE-IDLE))
+    ∷ ((exclusive && anotherBusy s p) gives BUSY) ∷ (inUse s slot gives SLOT-IN-USE) ∷ []
 
 abbrev pub claim : State → ℕ → ℕ → Outcome
-claim s p x = outcome (Claimed x) (putPublisher s p (publisher s p atPlace PLACE-CLAIMED held≔ x))
+claim s p slot = outcome (Claimed slot) (putPublisher s p (publisher s p atPlace PLACE-CLAIMED held≔ slot))
 
 -- WRITE p v: stores the next entry, replies with the number written. At places 1 to 32 place - 1 entries are written.
 abbrev pub writeTests : State → ℕ → ℤ → List Test
@@ -133,7 +133,7 @@ syncTests vs s p =
     noSuchPublisher s p ∷ publisherTurn (not (eqb (publisher s p .place) PLACE-SWAPPED)) ∷ (vs .isLast (version (s .words)) gives VERSION-IS-LAST) ∷ []
 
 abbrev pub newWalk : WalkRecord → ℕ → WalkRecord
-newWalk k m = k mark≔ m next≔ 0 looks≔ 0 waits≔ 0
+newWalk walk mark = walk mark≔ mark next≔ 0 looks≔ 0 waits≔ 0
 
 abbrev pub sync : Versions → State → ℕ → Outcome
 sync vs s p = outcome (Synced (vs .markAt (version (s .words))))
@@ -156,16 +156,16 @@ walkTests walksAt s p b =
 
 -- A quiet look leads to place 36, a return to 38; waiting and spent stay.
 abbrev pub placeAfter : ℕ → WalkReply → ℕ
-placeAfter place (Waiting w) = place
+placeAfter place (Waiting who) = place
 placeAfter place Spent = place
 placeAfter place Quiet = PLACE-QUIET
-placeAfter place (Returned l w) = PLACE-RETURNED
+placeAfter place (Returned looks waits) = PLACE-RETURNED
 
 abbrev pub walked : Publisher → Progress → Publisher
-walked y k = y atPlace (placeAfter (y .place) (k .reply)) walk≔ k .walk
+walked y progress = y atPlace (placeAfter (y .place) (progress .reply)) walk≔ progress .walk
 
 abbrev pub walk : State → ℕ → Progress → Outcome
-walk s p k = outcome (Walked (k .reply)) (putPublisher s p (walked (publisher s p) k))
+walk s p progress = outcome (Walked (progress .reply)) (putPublisher s p (walked (publisher s p) progress))
 
 -- RELEASE p: 38 to 0, which by itself frees the held slot (its number stays), adds one to releases (modulo 2^64), replies with slot and releases.
 abbrev pub releaseTests : State → ℕ → List Test
@@ -182,16 +182,16 @@ release s p = outcome (Freed (publisher s p .held) (oneMore s)) (state
 -- Making. 1 at any other length of the words, before all else;
 -- 2 readers, 3 publishers, 4 slots out of range; 5 entries' length; 6 first version above the last.
 abbrev pub makingTests : Versions → Given → State → List Test
-makingTests vs g s =
+makingTests vs z s =
     (not (eqb (length (s .words)) WORDS) gives DAMAGED)
-    ∷ (outside 1 READERS-MAX (g .readers) gives BAD-READERS)
-    ∷ (outside 1 PUBLISHERS-MAX (g .publishers) gives BAD-PUBLISHERS)
-    ∷ (outside SLOTS-MIN SLOTS-MAX (g .slots) gives BAD-SLOTS)
-    ∷ (not (eqb (length (s .entries)) (g .slots * TABLE)) gives BAD-ENTRIES)
-    ∷ (vs .tooLarge (g .version) gives BAD-VERSION)
+    ∷ (outside 1 READERS-MAX (z .readers) gives BAD-READERS)
+    ∷ (outside 1 PUBLISHERS-MAX (z .publishers) gives BAD-PUBLISHERS)
+    ∷ (outside SLOTS-MIN SLOTS-MAX (z .slots) gives BAD-SLOTS)
+    ∷ (not (eqb (length (s .entries)) (z .slots * TABLE)) gives BAD-ENTRIES)
+    ∷ (vs .tooLarge (z .version) gives BAD-VERSION)
     ∷ []
 
 -- A fresh store has every entry feathered, slot 0 current, readers and publishers at place 0, the version and the sizes as given
 -- and every other number 0, but for the kind word and what a kind's fresh reader x has.
 abbrev pub made : ℕ → Reader → Given → State → State
-made kind x g s = state (fresh kind (g .readers) (g .publishers) (g .slots) (g .version) x) (replicate (length (s .entries)) FEATHERED)
+made kind x z s = state (fresh kind (z .readers) (z .publishers) (z .slots) (z .version) x) (replicate (length (s .entries)) FEATHERED)

@@ -68,7 +68,7 @@ old-enter-facts s r = decided (λ (o : Outcome). accepted (o .reply) ≡ true �
       reply-is = ap (λ (x : Reader). At (x .place)) (sym is);
       from-0 = λ e. is ∙ sym (onward-loads _ (current (s .words)) (reader s r) e);
       from-1 = λ e. is ∙ sym (onward-arrives (version (s .words)) (current (s .words)) (reader s r) e);
-      from-4 = λ e. is ∙ sym (onward-picks (version (s .words)) _ (reader s r) (λ z. omega arith) (λ z. omega arith));
+      from-4 = λ e. is ∙ sym (onward-picks (version (s .words)) _ (reader s r) (λ eq. omega arith) (λ eq. omega arith));
       counts = enter-counts s no-damage r;
     })
     (λ ok. clash (sym ok))

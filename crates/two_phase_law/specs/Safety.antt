@@ -77,7 +77,7 @@ module _ (ver cur : ℕ) where
   unfolding onward
   onward-fits slots x zero c = (refl, (refl, (refl, (refl, tt))))
   onward-fits slots x (suc zero) c = (refl, (refl, (refl, (refl, tt))))
-  onward-fits slots x (suc (suc pl)) c = rw (ne-eqb (suc (suc pl)) 0 (λ z. omega arith), ne-eqb (suc (suc pl)) 1 (λ z. omega arith)) (refl, (refl, (refl, (lt-leb slots cur c, tt))))
+  onward-fits slots x (suc (suc pl)) c = rw (ne-eqb (suc (suc pl)) 0 (λ eq. omega arith), ne-eqb (suc (suc pl)) 1 (λ eq. omega arith)) (refl, (refl, (refl, (lt-leb slots cur c, tt))))
 
 onward-place : (ver cur : ℕ) (x : Reader) → onward ver cur x .place ≡ placeOn (x .place)
 unfolding onward
@@ -92,7 +92,7 @@ onward-place ver cur x = go (eqb (x .place) PLACE-OUT) (eqb (x .place) PLACE-LOA
 
 onward-first : (ver cur : ℕ) (x : Reader) → PLACE-OPEN ≤ x .place → onward ver cur x .first ≡ x .first
 unfolding onward
-onward-first ver cur x l = rw (ne-eqb (x .place) 0 (λ z. omega arith), ne-eqb (x .place) 1 (λ z. omega arith)) refl
+onward-first ver cur x l = rw (ne-eqb (x .place) 0 (λ eq. omega arith), ne-eqb (x .place) 1 (λ eq. omega arith)) refl
 
 -- The place and at most one number more.
 onward-stays : (ver cur : ℕ) (x : Reader) → PlaceAndOne x (onward ver cur x)
@@ -152,7 +152,7 @@ module _ (z : Given) (g : Ghost) (s : State) (i : WholeInvariant damageRules (Ow
   enter-kept : (r : ℕ) → AllClear (enterTests s r) → WholeInvariant damageRules (OwnOf detector) z (kept.advance g (Enter r) (At (entered s r .place))) (state (enterWords s r) (s .entries))
   enter-kept r f =
       let lt : r < readers (s .words) = leb-false _ _ (f .0) in
-      let l : reader s r .place ≤ PLACE-OPEN = let q = leb-false 5 (reader s r .place) (f .1 .0) in omega arith in
+      let l : reader s r .place ≤ PLACE-OPEN = let less = leb-false 5 (reader s r .place) (f .1 .0) in omega arith in
       let rf = all-false (readerRows (slots (s .words)) (reader s r)) (i .shared .every .no-damage .readers-undamaged r lt) in
       let n2 = eqb-false (reader s r .place) 2 (rf .1 .0) in
       let n3 = eqb-false (reader s r .place) 3 (rf .1 .1 .0) in
