@@ -65,31 +65,31 @@ head-of K s e =
 
 pub undamaged-of : (K : DamageRules) (s : State) → sharedDamage K s ≡ false → Undamaged K s
 undamaged-of K s e =
-    let a = or-false (anyTrue (headRows K s) || readersDamaged K s) (publishersDamaged K s) e in
-    let b = or-false (anyTrue (headRows K s)) (readersDamaged K s) (a .0) in
+    let publishers-ok = or-false (anyTrue (headRows K s) || readersDamaged K s) (publishersDamaged K s) e in
+    let readers-ok = or-false (anyTrue (headRows K s)) (readersDamaged K s) (publishers-ok .0) in
     record {
-      head = head-of K s (b .0);
-      readers-undamaged = λ r l. none-below (λ r. K .readerDamaged (readers (s .words)) (slots (s .words)) (reader s r)) (readers (s .words)) r (b .1) l;
-      publishers-undamaged = λ p l. none-below (λ p. K .publisherDamaged (readers (s .words)) (slots (s .words)) (publisher s p)) (publishers (s .words)) p (a .1) l;
+      head = head-of K s (readers-ok .0);
+      readers-undamaged = λ r l. none-below (λ r. K .readerDamaged (readers (s .words)) (slots (s .words)) (reader s r)) (readers (s .words)) r (readers-ok .1) l;
+      publishers-undamaged = λ p l. none-below (λ p. K .publisherDamaged (readers (s .words)) (slots (s .words)) (publisher s p)) (publishers (s .words)) p (publishers-ok .1) l;
     }
 
 pub undamaged-to : (K : DamageRules) (s : State) → Undamaged K s → sharedDamage K s ≡ false
-undamaged-to K s f = let h = f .head in
+undamaged-to K s f = let head = f .head in
     neither (anyTrue (headRows K s) || readersDamaged K s) (publishersDamaged K s)
     (neither (anyTrue (headRows K s)) (readersDamaged K s)
     (none-true (headRows K s) (
-      negated _ (eq-eqb _ _ (h .long)),
+      negated _ (eq-eqb _ _ (head .long)),
       (
-        negated _ (eq-eqb _ _ (h .kind-is)),
+        negated _ (eq-eqb _ _ (head .kind-is)),
         (
-          not-outside 1 READERS-MAX _ (h .readers-low) (h .readers-high),
+          not-outside 1 READERS-MAX _ (head .readers-low) (head .readers-high),
           (
-            not-outside 1 PUBLISHERS-MAX _ (h .publishers-low) (h .publishers-high),
+            not-outside 1 PUBLISHERS-MAX _ (head .publishers-low) (head .publishers-high),
             (
-              not-outside SLOTS-MIN SLOTS-MAX _ (h .slots-low) (h .slots-high),
+              not-outside SLOTS-MIN SLOTS-MAX _ (head .slots-low) (head .slots-high),
               (
-                negated _ (eq-eqb _ _ (h .entries-are)),
-                (lt-leb _ _ (h .current-below), (h .version-fits, tt)),
+                negated _ (eq-eqb _ _ (head .entries-are)),
+                (lt-leb _ _ (head .current-below), (head .version-fits, tt)),
               ),
             ),
           ),
@@ -102,19 +102,19 @@ undamaged-to K s f = let h = f .head in
 -- The damage test is that of the head, of the readers and of the publishers, each by itself.
 module _ (K : DamageRules) (s : State) where
   pub readers-test-false : Undamaged K s → readersTest K s ≡ false
-  readers-test-false f = let h = f .head in neither (not (eqb (length (s .words)) WORDS) || outside 1 READERS-MAX (readers (s .words))) (readersDamaged K s)
-      (neither (not (eqb (length (s .words)) WORDS)) (outside 1 READERS-MAX (readers (s .words))) (negated _ (eq-eqb _ _ (h .long))) (not-outside 1 READERS-MAX _ (h .readers-low) (h .readers-high)))
+  readers-test-false f = let head = f .head in neither (not (eqb (length (s .words)) WORDS) || outside 1 READERS-MAX (readers (s .words))) (readersDamaged K s)
+      (neither (not (eqb (length (s .words)) WORDS)) (outside 1 READERS-MAX (readers (s .words))) (negated _ (eq-eqb _ _ (head .long))) (not-outside 1 READERS-MAX _ (head .readers-low) (head .readers-high)))
       (no-below (λ r. K .readerDamaged (readers (s .words)) (slots (s .words)) (reader s r)) (readers (s .words)) (f .readers-undamaged))
 
   pub publishers-test-false : Undamaged K s → publishersTest K s ≡ false
-  publishers-test-false f = let h = f .head in neither (not (eqb (length (s .words)) WORDS) || outside 1 PUBLISHERS-MAX (publishers (s .words))) (publishersDamaged K s)
-      (neither (not (eqb (length (s .words)) WORDS)) (outside 1 PUBLISHERS-MAX (publishers (s .words))) (negated _ (eq-eqb _ _ (h .long))) (not-outside 1 PUBLISHERS-MAX _ (h .publishers-low) (h .publishers-high)))
+  publishers-test-false f = let head = f .head in neither (not (eqb (length (s .words)) WORDS) || outside 1 PUBLISHERS-MAX (publishers (s .words))) (publishersDamaged K s)
+      (neither (not (eqb (length (s .words)) WORDS)) (outside 1 PUBLISHERS-MAX (publishers (s .words))) (negated _ (eq-eqb _ _ (head .long))) (not-outside 1 PUBLISHERS-MAX _ (head .publishers-low) (head .publishers-high)))
       (no-below (λ p. K .publisherDamaged (readers (s .words)) (slots (s .words)) (publisher s p)) (publishers (s .words)) (f .publishers-undamaged))
 
   pub tests-shared : anyTrue (headRows K s) ≡ false → readersTest K s ≡ false → publishersTest K s ≡ false → sharedDamage K s ≡ false
-  tests-shared h r p = neither (anyTrue (headRows K s) || readersDamaged K s) (publishersDamaged K s)
-      (neither (anyTrue (headRows K s)) (readersDamaged K s) h (or-false (not (eqb (length (s .words)) WORDS) || outside 1 READERS-MAX (readers (s .words))) (readersDamaged K s) r .1))
-      (or-false (not (eqb (length (s .words)) WORDS) || outside 1 PUBLISHERS-MAX (publishers (s .words))) (publishersDamaged K s) p .1)
+  tests-shared head-ok readers-ok publishers-ok = neither (anyTrue (headRows K s) || readersDamaged K s) (publishersDamaged K s)
+      (neither (anyTrue (headRows K s)) (readersDamaged K s) head-ok (or-false (not (eqb (length (s .words)) WORDS) || outside 1 READERS-MAX (readers (s .words))) (readersDamaged K s) readers-ok .1))
+      (or-false (not (eqb (length (s .words)) WORDS) || outside 1 PUBLISHERS-MAX (publishers (s .words))) (publishersDamaged K s) publishers-ok .1)
 
 -- The rows of a publisher that the kinds share.
 pub record UndamagedPublisher (vs : Versions) (slots : ℕ) (y : Publisher) : Type 0 where
