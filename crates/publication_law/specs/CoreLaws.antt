@@ -18,7 +18,7 @@ use Rattle.base.specs.RowLaws.{clash, not-both, or-left, or-right, or-none, or-
 use Rattle.calls.specs.declared.Call.the-variants.{Enter, Leave, Claim, Write, Swap, Release}
 use Rattle.calls.specs.declared.Reply.{Reply}
 use Rattle.calls.specs.declared.Reply.the-variants.{At}
-use Rattle.calls.specs.Numbers.{TABLE, PLACE-LOADED-AGAIN, PLACE-PICKED, PLACE-CLAIMED, PLACE-WRITTEN, PLACE-SWAPPED}
+use Rattle.calls.specs.Numbers.{TABLE, PLACE-OUT, PLACE-LOADED-AGAIN, PLACE-OPEN, PLACE-PICKED, PLACE-IDLE, PLACE-CLAIMED, PLACE-WRITTEN, PLACE-SWAPPED}
 use Rattle.calls.specs.Model.{Model, model₀, modelStep, entry}
 use Rattle.calls.specs.ModelLaws.{entry-old, entry-new}
 use Rattle.calls.specs.Told.{Told, told₀, tell, holds, Role, Has}
@@ -84,7 +84,7 @@ module _ (h : Model) (t : Told) (n m cur : ℕ) (rpl rpk ppl pcl : ℕ → ℕ) 
   })) (λ j e. rw e (i .readers j))))
 
   enter-at-4 : (r : ℕ) → r < n
-      → Core (modelStep h (Enter r) (At 4)) (tell t (Enter r) (At 4)) n m cur (upd rpl r 4) (upd rpk r (rpk r)) ppl pcl F E
+      → Core (modelStep h (Enter r) (At PLACE-OPEN)) (tell t (Enter r) (At PLACE-OPEN)) n m cur (upd rpl r PLACE-OPEN) (upd rpk r (rpk r)) ppl pcl F E
   enter-at-4 r rn = reader-core r 4 _ _ _ _ (at-or r (rw (same r) (record {
     bound = λ _. rn;
     picked-is = refl;
@@ -93,7 +93,7 @@ module _ (h : Model) (t : Told) (n m cur : ℕ) (rpl rpk ppl pcl : ℕ → ℕ) 
   })) (λ j e. rw e (i .readers j)))
 
   enter-at-5 : (r : ℕ) → r < n
-      → Core (modelStep h (Enter r) (At 5)) (tell t (Enter r) (At 5)) n m cur (upd rpl r 5) (upd rpk r cur) ppl pcl F E
+      → Core (modelStep h (Enter r) (At PLACE-PICKED)) (tell t (Enter r) (At PLACE-PICKED)) n m cur (upd rpl r PLACE-PICKED) (upd rpk r cur) ppl pcl F E
   enter-at-5 r rn = reader-core r 5 _ _ _ _ (at-or r (rw (same r, i .current-is) (record {
     bound = λ _. rn;
     picked-is = refl;
@@ -106,7 +106,7 @@ module _ (h : Model) (t : Told) (n m cur : ℕ) (rpl rpk ppl pcl : ℕ → ℕ) 
   enter-core r pl pk rn (opens old new e) = rw (new, e) (enter-at-4 r rn)
   enter-core r pl pk rn (picks old new e) = rw (new, e) (enter-at-5 r rn)
 
-  pub leave-core : (r pk : ℕ) (a : Reply) → Core h (tell t (Leave r) a) n m cur (upd rpl r 0) (upd rpk r pk) ppl pcl F E
+  pub leave-core : (r pk : ℕ) (a : Reply) → Core h (tell t (Leave r) a) n m cur (upd rpl r PLACE-OUT) (upd rpk r pk) ppl pcl F E
   leave-core r pk a = reader-core r 0 pk _ _ _ (at-or r (rw (same r) (record {
     bound = λ e. absurd (omega arith);
     picked-is = refl;
@@ -137,7 +137,7 @@ module _ (h : Model) (t : Told) (n m cur : ℕ) (rpl rpk ppl pcl : ℕ → ℕ) 
 
   -- CLAIM, of a slot that nobody holds, by a publisher that is not writing; its former slots stay.
   pub claim-core : (p x : ℕ) (a : Reply) (G : ℕ → Bool) → p < m → (PLACE-CLAIMED ≤ ppl p → ppl p ≤ PLACE-WRITTEN → ⊥) → cur ≢ x → ((q : ℕ) → Hold (ppl q) (pcl q) (F q) x → ⊥) → ((x′ : ℕ) → G x′ ≡ F p x′)
-      → Core (modelStep h (Claim p x) a) (tell t (Claim p x) a) n m cur rpl rpk (upd ppl p 1) (upd pcl p x) (upd F p G) E
+      → Core (modelStep h (Claim p x) a) (tell t (Claim p x) a) n m cur rpl rpk (upd ppl p PLACE-CLAIMED) (upd pcl p x) (upd F p G) E
   claim-core p x a G pm late nc nh G-is = record {
     readers = readers-moved p G (λ r five e. G-is _ ∙ e);
     publishers = at-or p (rw (same p) (let at-p = i .publishers p in record {
@@ -184,7 +184,7 @@ module _ (h : Model) (t : Told) (n m cur : ℕ) (rpl rpk ppl pcl : ℕ → ℕ) 
 
   -- SWAP: the claimed slot becomes current, the one that was current is one of the former slots.
   pub swap-core : (p cl : ℕ) (a : Reply) (G : ℕ → Bool) → ppl p ≡ PLACE-WRITTEN → ((x′ : ℕ) → G x′ ≡ eqb cur x′ || F p x′)
-      → Core (modelStep h (Swap p) a) (tell t (Swap p) a) n m (pcl p) rpl rpk (upd ppl p 34) (upd pcl p cl) (upd F p G) E
+      → Core (modelStep h (Swap p) a) (tell t (Swap p) a) n m (pcl p) rpl rpk (upd ppl p PLACE-SWAPPED) (upd pcl p cl) (upd F p G) E
   swap-core p cl a G at33 G-is = record {
     readers = λ r. let at-r = i .readers r in record {
       bound = at-r .bound;
@@ -237,7 +237,7 @@ module _ (h : Model) (t : Told) (n m cur : ℕ) (rpl rpk ppl pcl : ℕ → ℕ) 
 
   -- RELEASE, where no reader picked a former slot of the publisher.
   pub release-core : (p cl : ℕ) (a : Reply) (G : ℕ → Bool) → PLACE-SWAPPED ≤ ppl p → ((r : ℕ) → rpl r ≡ PLACE-PICKED → F p (rpk r) ≡ true → ⊥) → ((x′ : ℕ) → G x′ ≡ false)
-      → Core h (tell t (Release p) a) n m cur rpl rpk (upd ppl p 0) (upd pcl p cl) (upd F p G) E
+      → Core h (tell t (Release p) a) n m cur rpl rpk (upd ppl p PLACE-IDLE) (upd pcl p cl) (upd F p G) E
   release-core p cl a G late nobody G-is = record {
     readers = readers-moved p G (λ r five e. absurd (nobody r five e));
     publishers = at-or p (rw (same p) (let at-p = i .publishers p in record {

@@ -33,7 +33,7 @@ in-phase pl = go (eqb pl 0) refl (leb pl 33) refl
     late false eb false ec true ed e ee l = eqb-true pl 36 ed
     late false eb false ec false ed true ee l = eqb-true pl 37 ee
     late false eb false ec false ed false ee l =
-        let unequal = eqb-false pl 34 eb in let r = eqb-false pl 35 ec in let t = eqb-false pl 36 ed in let u = eqb-false pl 37 ee in omega arith
+        let not-34 = eqb-false pl 34 eb in let not-35 = eqb-false pl 35 ec in let not-36 = eqb-false pl 36 ed in let not-37 = eqb-false pl 37 ee in omega arith
 
     go : (a : Bool) → eqb pl PLACE-IDLE ≡ a → (b : Bool) → leb pl PLACE-WRITTEN ≡ b
         → InPhase pl (pick a idle (pick b writing (pick (eqb pl PLACE-SWAPPED) swapped (pick (eqb pl PLACE-SYNCHRONISING) synchronising (pick (eqb pl PLACE-QUIET) quiet (pick (eqb pl PLACE-RAISED) raised returned))))))
@@ -48,7 +48,7 @@ phase-writing pl l h = rw (ne-eqb pl 0 (λ eq. omega arith), le-leb pl 33 h) ref
 pub phase-turn : (f : ℕ → Bool) → ((pl : ℕ) → pl ≤ PLACE-SWAPPED → f pl ≡ false) → (pl : ℕ) → pl ≤ PLACE-RETURNED → f (firstPlace (phaseAt pl)) ≡ f pl
 phase-turn f early pl high = go (phaseAt pl) (in-phase pl)
   where
-    go : (x : Phase) → InPhase pl x → f (firstPlace x) ≡ f pl
+    go : (phase : Phase) → InPhase pl phase → f (firstPlace phase) ≡ f pl
     go idle e = ap f (sym e)
     go writing e = early 1 (omega arith) ∙ sym (early pl (omega (arith, e .1)))
     go swapped e = ap f (sym e)
@@ -63,8 +63,8 @@ module _ (place : ℕ → ℕ) (phase : ℕ → Phase) (rpl ppl : ℕ → ℕ) (
   place-phases r pl = record { places = at-or r (rw (same r) refl) (λ j e. rw e (i .places j)); phases = i .phases }
 
   -- A publisher at another place, of the phase told; and of the same phase.
-  pub move-phases : (p pl : ℕ) (x : Phase) → x ≡ phaseAt pl → Phases place (upd phase p x) rpl (upd ppl p pl)
-  move-phases p pl x e = record { places = i .places; phases = at-or p (rw (same p) e) (λ q d. rw d (i .phases q)) }
+  pub move-phases : (p pl : ℕ) (new : Phase) → new ≡ phaseAt pl → Phases place (upd phase p new) rpl (upd ppl p pl)
+  move-phases p pl new e = record { places = i .places; phases = at-or p (rw (same p) e) (λ q d. rw d (i .phases q)) }
 
   pub stay-phases : (p pl : ℕ) → phaseAt pl ≡ phaseAt (ppl p) → Phases place phase rpl (upd ppl p pl)
   stay-phases p pl e = record { places = i .places; phases = at-or p (rw (same p) (i .phases p ∙ sym e)) (λ q d. rw d (i .phases q)) }

@@ -32,8 +32,8 @@ single pl hd x = go (eqb pl 0) refl (leb 34 pl) refl (eqb hd x)
     go false d false e false = rw (le-leb 1 pl (let unequal = eqb-false pl 0 d in omega arith), le-leb pl 33 (let less = leb-false 34 pl e in omega arith)) refl
 
 pub single-free : (pl hd x : ℕ) → (not (eqb pl PLACE-IDLE) && eqb hd x) ≡ false → Hold pl hd (formerAt pl hd) x → ⊥
-single-free pl hd x free o = hold-map pl hd (formerAt pl hd) x o
-    (λ a b e. not-both (not (eqb pl 0) && eqb hd x) (rw (ne-eqb pl 0 (λ eq. omega arith), eq-eqb hd x e) refl) free)
+single-free pl hd x free held = hold-map pl hd (formerAt pl hd) x held
+    (λ low high e. not-both (not (eqb pl 0) && eqb hd x) (rw (ne-eqb pl 0 (λ eq. omega arith), eq-eqb hd x e) refl) free)
     (λ e. go (leb 34 pl) refl e)
   where
     go : (b : Bool) → leb PLACE-SWAPPED pl ≡ b → (b && eqb hd x) ≡ true → ⊥

@@ -7,7 +7,7 @@ use mathlib.Core.Bool.{false}
 use lib.Dec.{eqb}
 use Rattle.base.specs.Base.{upd}
 use Rattle.base.specs.RowLaws.{same, at-or}
-use Rattle.calls.specs.Numbers.{MODULUS, PLACE-SWAPPED, PLACE-SYNCHRONISING}
+use Rattle.calls.specs.Numbers.{MODULUS, PLACE-IDLE, PLACE-SWAPPED, PLACE-SYNCHRONISING}
 use Rattle.calls.specs.Tally.{tally₀}
 use Rattle.publication_law.specs.Tallied.{Tallied}
 
@@ -23,7 +23,7 @@ module _ (waits : ℕ → ℕ) (count : ℕ) (ppl pws : ℕ → ℕ) (rel : ℕ)
   pub early-tallied : (p pl ws : ℕ) → pl ≤ PLACE-SWAPPED → Tallied waits count (upd ppl p pl) (upd pws p ws) rel
   early-tallied p pl ws low = move-tallied p pl ws waits (λ l. absurd (omega arith)) (λ q d. refl)
 
-  pub sync-tallied : (p : ℕ) → Tallied (upd waits p 0) count (upd ppl p 35) (upd pws p 0) rel
+  pub sync-tallied : (p : ℕ) → Tallied (upd waits p 0) count (upd ppl p PLACE-SYNCHRONISING) (upd pws p 0) rel
   sync-tallied p = move-tallied p 35 0 _ (λ l. rw (same p) refl) (λ q d. rw d refl)
 
   -- A WALK that replies waiting; and a RAISE and any other WALK.
@@ -33,7 +33,7 @@ module _ (waits : ℕ → ℕ) (count : ℕ) (ppl pws : ℕ → ℕ) (rel : ℕ)
   pub late-tallied : (p pl ws : ℕ) → PLACE-SYNCHRONISING ≤ ppl p → ws ≡ pws p → Tallied waits count (upd ppl p pl) (upd pws p ws) rel
   late-tallied p pl ws low e = move-tallied p pl ws waits (λ l. i .waits-are p low ∙ sym e) (λ q d. refl)
 
-  pub release-tallied : (p ws : ℕ) → Tallied waits (suc count) (upd ppl p 0) (upd pws p ws) ((rel + 1) % MODULUS)
+  pub release-tallied : (p ws : ℕ) → Tallied waits (suc count) (upd ppl p PLACE-IDLE) (upd pws p ws) ((rel + 1) % MODULUS)
   release-tallied p ws = record {
     waits-are = at-or p (rw (same p) (λ l. absurd (omega arith))) (λ q d. rw d (i .waits-are q));
     releases-are = omega (arith, i .releases-are);
