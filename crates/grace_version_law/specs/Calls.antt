@@ -34,7 +34,7 @@ module _ (ss : ℕ) (x : Reader) where
   pub reader-loaded : x .place ≤ PLACE-OPEN → 2 ≤ x .place % 4 → anyTrue (readerRows ss x) ≡ not (eqb (x .published) (x .first))
   reader-loaded high low = go (eqb (x .place) PLACE-PUBLISHED) refl
     where
-      go : (b : Bool) → eqb (x .place) PLACE-PUBLISHED ≡ b → anyTrue (readerRows ss x) ≡ not (eqb (x .published) (x .first))
+      go : (test : Bool) → eqb (x .place) PLACE-PUBLISHED ≡ test → anyTrue (readerRows ss x) ≡ not (eqb (x .published) (x .first))
       go true e = rw (eqb-true (x .place) 2 e) (or-none _)
       go false e = let three : x .place ≡ PLACE-LOADED-AGAIN = (let unequal = eqb-false (x .place) 2 e in omega arith) in rw three (or-none _)
 
@@ -49,22 +49,22 @@ module _ (rs : ℕ) (y : Publisher) where
   pub no-such-place : (ltb PLACE-RETURNED (y .place) || eqb (y .place) PLACE-QUIET) ≡ true → anyTrue (extraRows rs y) ≡ true
   no-such-place e = go (ltb PLACE-RETURNED (y .place)) (eqb (y .place) PLACE-QUIET) (((eqb (y .place) PLACE-SYNCHRONISING || eqb (y .place) PLACE-RAISED) && leb rs (y .walk .next)) || false) e
     where
-      go : (a b t : Bool) → a || b ≡ true → (a || (b || t)) ≡ true
-      go true b t d = refl
-      go false true t d = refl
-      go false false t d = clash (sym d)
+      go : (beyond quiet rest : Bool) → beyond || quiet ≡ true → (beyond || (quiet || rest)) ≡ true
+      go true quiet rest d = refl
+      go false true rest d = refl
+      go false false rest d = clash (sym d)
 
   pub own-returned : y .place ≡ PLACE-RETURNED → anyTrue (extraRows rs y) ≡ false
   own-returned e = rw e refl
 
   pub own-walking : PLACE-SYNCHRONISING ≤ y .place → (ltb PLACE-RETURNED (y .place) || eqb (y .place) PLACE-QUIET) ≡ false → y .place ≢ PLACE-RETURNED → anyTrue (extraRows rs y) ≡ leb rs (y .walk .next)
   own-walking late place ne =
-      let q = or-false (ltb PLACE-RETURNED (y .place)) (eqb (y .place) PLACE-QUIET) place in
-      let high = ltb-false 38 (y .place) (q .0) in
-      let other = eqb-false (y .place) 36 (q .1) in
+      let parts = or-false (ltb PLACE-RETURNED (y .place)) (eqb (y .place) PLACE-QUIET) place in
+      let high = ltb-false 38 (y .place) (parts .0) in
+      let other = eqb-false (y .place) 36 (parts .1) in
       go high other (eqb (y .place) PLACE-SYNCHRONISING) refl
     where
-      go : y .place ≤ PLACE-RETURNED → (y .place ≡ PLACE-QUIET → ⊥) → (b : Bool) → eqb (y .place) PLACE-SYNCHRONISING ≡ b → anyTrue (extraRows rs y) ≡ leb rs (y .walk .next)
+      go : y .place ≤ PLACE-RETURNED → (y .place ≡ PLACE-QUIET → ⊥) → (test : Bool) → eqb (y .place) PLACE-SYNCHRONISING ≡ test → anyTrue (extraRows rs y) ≡ leb rs (y .walk .next)
       go high other true e = rw (eqb-true (y .place) 35 e) (or-none _)
       go high other false e = let d : y .place ≡ PLACE-RAISED = (let unequal = eqb-false (y .place) 35 e in omega arith) in rw d (or-none _)
 
@@ -79,73 +79,73 @@ pub next-low : (s : State) → damaged rules s ≡ false → (p : ℕ) → p < p
 next-low s e p named turn = next-below (readers (s .words)) (slots (s .words)) (publisher s p) (undamaged-facts rules s e .publishers-undamaged p named) turn
 
 module _ (s : State) (clean : damaged rules s ≡ false) where
-  pub enter-is : (v : List ℕ) (r : ℕ) (x y : Reader) → r < readers (s .words) → x ≡ reader s r → x .place < PLACE-PICKED → y ≡ onward (version (s .words)) (current (s .words)) x → v ≡ withReader (s .words) r y
-      → outcome (At (y .place)) (state v (s .entries)) ≡ step rules s (Enter r)
-  enter-is v r x y named is turn moved put =
+  pub enter-is : (w′ : List ℕ) (r : ℕ) (x x′ : Reader) → r < readers (s .words) → x ≡ reader s r → x .place < PLACE-PICKED → x′ ≡ onward (version (s .words)) (current (s .words)) x → w′ ≡ withReader (s .words) r x′
+      → outcome (At (x′ .place)) (state w′ (s .entries)) ≡ step rules s (Enter r)
+  enter-is w′ r x x′ named is turn moved put =
       rw (put, moved, is) (enter-accepted fixed s clean r x named is turn)
 
-  pub leave-is : (v : List ℕ) (r : ℕ) (x : Reader) → r < readers (s .words) → x ≡ reader s r → PLACE-OPEN ≤ x .place → v ≡ withReader (s .words) r (leaving x)
-      → outcome Left (state v (s .entries)) ≡ step rules s (Leave r)
-  leave-is v r x named is turn put =
+  pub leave-is : (w′ : List ℕ) (r : ℕ) (x : Reader) → r < readers (s .words) → x ≡ reader s r → PLACE-OPEN ≤ x .place → w′ ≡ withReader (s .words) r (leaving x)
+      → outcome Left (state w′ (s .entries)) ≡ step rules s (Leave r)
+  leave-is w′ r x named is turn put =
       rw (put, is) (leave-accepted fixed s clean r x named is turn)
 
 -- No place of ENTER's: 5 or beyond.
-pub past-enter : (n : ℕ) → n ≢ 0 → n ≢ 1 → n ≢ 2 → n ≢ 3 → n ≢ 4 → 5 ≤ n
-past-enter zero a b c d e = absurd (a refl)
-past-enter (suc zero) a b c d e = absurd (b refl)
-past-enter (suc (suc zero)) a b c d e = absurd (c refl)
-past-enter (suc (suc (suc zero))) a b c d e = absurd (d refl)
-past-enter (suc (suc (suc (suc zero)))) a b c d e = absurd (e refl)
-past-enter (suc (suc (suc (suc (suc n))))) a b c d e = omega arith
+pub past-enter : (pl : ℕ) → pl ≢ PLACE-OUT → pl ≢ PLACE-LOADED → pl ≢ PLACE-PUBLISHED → pl ≢ PLACE-LOADED-AGAIN → pl ≢ PLACE-OPEN → PLACE-PICKED ≤ pl
+past-enter zero not-0 not-1 not-2 not-3 not-4 = absurd (not-0 refl)
+past-enter (suc zero) not-0 not-1 not-2 not-3 not-4 = absurd (not-1 refl)
+past-enter (suc (suc zero)) not-0 not-1 not-2 not-3 not-4 = absurd (not-2 refl)
+past-enter (suc (suc (suc zero))) not-0 not-1 not-2 not-3 not-4 = absurd (not-3 refl)
+past-enter (suc (suc (suc (suc zero)))) not-0 not-1 not-2 not-3 not-4 = absurd (not-4 refl)
+past-enter (suc (suc (suc (suc (suc pl))))) not-0 not-1 not-2 not-3 not-4 = omega arith
 
 -- A reader one place on, by its place.
-module _ (v cur : ℕ) (x : Reader) where
-  pub onward-loads : (n : ℕ) → n ≡ v → x .place ≡ PLACE-OUT → (x place≔ PLACE-LOADED first≔ n) ≡ onward v cur x
+module _ (ver cur : ℕ) (x : Reader) where
+  pub onward-loads : (n : ℕ) → n ≡ ver → x .place ≡ PLACE-OUT → (x place≔ PLACE-LOADED first≔ n) ≡ onward ver cur x
   unfolding onward
   onward-loads n d e = rw (d, e) refl
 
-  pub onward-publishes : x .place ≡ PLACE-LOADED → (x place≔ PLACE-PUBLISHED published≔ x .first) ≡ onward v cur x
+  pub onward-publishes : x .place ≡ PLACE-LOADED → (x place≔ PLACE-PUBLISHED published≔ x .first) ≡ onward ver cur x
   unfolding onward
   onward-publishes e = rw e refl
 
-  pub onward-loads-again : (n : ℕ) → n ≡ v → x .place ≡ PLACE-PUBLISHED → (x place≔ PLACE-LOADED-AGAIN second≔ n) ≡ onward v cur x
+  pub onward-loads-again : (n : ℕ) → n ≡ ver → x .place ≡ PLACE-PUBLISHED → (x place≔ PLACE-LOADED-AGAIN second≔ n) ≡ onward ver cur x
   unfolding onward
   onward-loads-again n d e = rw (d, e) refl
 
   -- Where the two versions are equal, the second is published already.
-  pub onward-publishes-second : x .place ≡ PLACE-LOADED-AGAIN → x .published ≡ x .first → (x place≔ PLACE-OPEN published≔ x .second) ≡ onward v cur x
+  pub onward-publishes-second : x .place ≡ PLACE-LOADED-AGAIN → x .published ≡ x .first → (x place≔ PLACE-OPEN published≔ x .second) ≡ onward ver cur x
   unfolding onward
   onward-publishes-second e f = rw (e, f) (go (eqb (x .first) (x .second)) refl)
     where
-      go : (b : Bool) → eqb (x .first) (x .second) ≡ b
-          → (x place≔ PLACE-OPEN published≔ x .second) ≡ (x place≔ PLACE-OPEN published≔ pick b (x .first) (x .second))
+      go : (test : Bool) → eqb (x .first) (x .second) ≡ test
+          → (x place≔ PLACE-OPEN published≔ x .second) ≡ (x place≔ PLACE-OPEN published≔ pick test (x .first) (x .second))
       go true d = rw (eqb-true (x .first) (x .second) d) refl
       go false d = refl
 
-  pub onward-picks : (n : ℕ) → n ≡ cur → x .place ≡ PLACE-OPEN → (x place≔ PLACE-PICKED picked≔ n) ≡ onward v cur x
+  pub onward-picks : (n : ℕ) → n ≡ cur → x .place ≡ PLACE-OPEN → (x place≔ PLACE-PICKED picked≔ n) ≡ onward ver cur x
   unfolding onward
   onward-picks n d e = rw (d, e) refl
 
--- How a walk's looks go on from the walk k, by the first: none left, not passed, the last reader passed, another passed. A look leaves the walk m.
-module _ (w : List ℕ) (n : ℕ) (k : WalkRecord) where
+-- How the looks of a walk go on, by the first: none left, not passed, the last reader passed, another passed. A look leaves the walk moved.
+module _ (w : List ℕ) (n : ℕ) (walk : WalkRecord) where
   abbrev looksOn : WalkRecord → ℕ → Progress
-  looksOn j b = looksFrom w n (j .mark) (j .waits) b (j .next) (j .looks)
+  looksOn walk′ b = looksFrom w n (walk′ .mark) (walk′ .waits) b (walk′ .next) (walk′ .looks)
 
-  pub looks-spent : (b : ℕ) → b ≡ 0 → looksOn k b ≡ record { walk = k; reply = Spent }
+  pub looks-spent : (b : ℕ) → b ≡ 0 → looksOn walk b ≡ record { walk = walk; reply = Spent }
   unfolding looksFrom
   looks-spent b e = rw e refl
 
-  pub looks-wait : (b : ℕ) (m : WalkRecord) → 0 < b → m ≡ withLook k 0 1 → readerAt w (lookedAt n (k .next)) .published < k .mark → looksOn k b ≡ record { walk = m; reply = Waiting (lookedAt n (k .next)) }
+  pub looks-wait : (b : ℕ) (moved : WalkRecord) → 0 < b → moved ≡ withLook walk 0 1 → readerAt w (lookedAt n (walk .next)) .published < walk .mark → looksOn walk b ≡ record { walk = moved; reply = Waiting (lookedAt n (walk .next)) }
   unfolding looksFrom
-  looks-wait zero m l is e = absurd (omega arith)
-  looks-wait (suc b) m l is e = rw (is, add-zero (k .next), lt-ltb _ _ e) refl
+  looks-wait zero moved l is e = absurd (omega arith)
+  looks-wait (suc b) moved l is e = rw (is, add-zero (walk .next), lt-ltb _ _ e) refl
 
-  pub looks-return : (b : ℕ) (m : WalkRecord) → 0 < b → m ≡ withLook k 1 0 → k .mark ≤ readerAt w (lookedAt n (k .next)) .published → n ≤ m .next → looksOn k b ≡ record { walk = m; reply = Returned (m .looks) (m .waits) }
+  pub looks-return : (b : ℕ) (moved : WalkRecord) → 0 < b → moved ≡ withLook walk 1 0 → walk .mark ≤ readerAt w (lookedAt n (walk .next)) .published → n ≤ moved .next → looksOn walk b ≡ record { walk = moved; reply = Returned (moved .looks) (moved .waits) }
   unfolding looksFrom
-  looks-return zero m l is e f = absurd (omega arith)
-  looks-return (suc b) m l is e f = rw (is, add-zero (k .waits), le-ltb _ _ e, le-leb _ _ (rw is at f)) refl
+  looks-return zero moved l is e f = absurd (omega arith)
+  looks-return (suc b) moved l is e f = rw (is, add-zero (walk .waits), le-ltb _ _ e, le-leb _ _ (rw is at f)) refl
 
-  pub looks-on : (b : ℕ) (m : WalkRecord) → 0 < b → m ≡ withLook k 1 0 → k .mark ≤ readerAt w (lookedAt n (k .next)) .published → m .next < n → looksOn k b ≡ looksOn m (b - 1)
+  pub looks-on : (b : ℕ) (moved : WalkRecord) → 0 < b → moved ≡ withLook walk 1 0 → walk .mark ≤ readerAt w (lookedAt n (walk .next)) .published → moved .next < n → looksOn walk b ≡ looksOn moved (b - 1)
   unfolding looksFrom
-  looks-on zero m l is e f = absurd (omega arith)
-  looks-on (suc b) m l is e f = let d : suc b - 1 ≡ b = omega arith in rw (is, add-zero (k .waits), le-ltb _ _ e, lt-leb _ _ (rw is at f), d) refl
+  looks-on zero moved l is e f = absurd (omega arith)
+  looks-on (suc b) moved l is e f = let d : suc b - 1 ≡ b = omega arith in rw (is, add-zero (walk .waits), le-ltb _ _ e, lt-leb _ _ (rw is at f), d) refl

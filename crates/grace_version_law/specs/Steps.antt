@@ -89,7 +89,7 @@ looksFrom w n mark waits (suc b) next looks =
     (looksFrom w n mark waits b (next + 1) (looks + 1)))
 
 abbrev pub looksOf : State → WalkRecord → ℕ → Progress
-looksOf s k b = looksFrom (s .words) (readers (s .words)) (k .mark) (k .waits) b (k .next) (k .looks)
+looksOf s walk b = looksFrom (s .words) (readers (s .words)) (walk .mark) (walk .waits) b (walk .next) (walk .looks)
 
 -- A fresh reader's published version is NOT_READING, in all 64 records.
 abbrev pub freshReader : Reader

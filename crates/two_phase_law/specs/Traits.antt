@@ -19,10 +19,10 @@ traits = record {
     lacks = λ c. false;
     exclusive = true;
     raisesIn = inPhase quiet;
-    walksIn = λ x. inPhase synchronising x || inPhase raised x;
+    walksIn = λ phase. inPhase synchronising phase || inPhase raised phase;
   };
   passes = λ z. 2;
-  successor = λ v. v + 1;
+  successor = λ ver. ver + 1;
   onward = λ place. pick (eqb place PLACE-OUT) PLACE-LOADED (pick (eqb place PLACE-LOADED) PLACE-OPEN PLACE-PICKED);
   publishes = false;
 }
