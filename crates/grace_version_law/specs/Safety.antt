@@ -84,7 +84,7 @@ pub record Shown (ver n r : ℕ) (x : Reader) : Type 0 where
 -- A synchronise waits for a reader that published a version below its mark and that its walk has not passed.
 pub record Behind (n : ℕ) (x : Reader) (walk : WalkRecord) (r : ℕ) : Type 0 where
   pub below : x .published < walk .mark
-  pub unpassed : (i : ℕ) → i < walk .next → lookedAt n i ≢ r
+  pub unpassed : (j : ℕ) → j < walk .next → lookedAt n j ≢ r
 
 abbrev pub detector : Detector
 detector = record {

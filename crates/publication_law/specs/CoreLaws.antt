@@ -1,7 +1,7 @@
 -- Each call keeps what Core says of slots, and what it gives: each slot has one role, and a picked slot is not free.
 -- A move of one reader or publisher leaves the others as they are, and the slot that it takes nobody held. Assumes nothing.
 -- h is the model, t what is told, n and m the numbers of readers and publishers, cur the current slot; rpl and rpk are the readers' places and picks,
--- ppl and pcl the publishers' places and claimed slots, F their former slots, E the entries.
+-- ppl and pcl the publishers' places and claimed slots, F their former slots, E the entries; pl, pk, cl and G are new ones of one reader or publisher.
 use Prim.Native.Nat.{ℕ, _+_, _-_, _<_, _≤_}
 use native.Mathlib.Omega.{arith}
 use mathlib.Core.Path.{_≡_, refl, sym, ap, _∙_}

@@ -1,5 +1,5 @@
 -- Each call keeps what Grace says of open sections and of whom a synchronise waits for, and at 38 nobody has picked a former slot. Assumes nothing.
--- t is what is told, w who is waited for; rpl and rpk are the readers' places and picks, ppl the publishers' places, F their former slots.
+-- t is what is told, pend who is waited for; rpl and rpk are the readers' places and picks, ppl the publishers' places, F their former slots.
 use Prim.Native.Nat.{ℕ, _≤_}
 use native.Mathlib.Omega.{arith}
 use mathlib.Core.Path.{_≡_, refl, sym, _∙_}

@@ -111,12 +111,12 @@ pub leave-moves : (s : State) → Undamaged damageRules s → (r : ℕ) → r < 
 leave-moves s f r l = reader-moves-indicator f r (leaving (reader s r)) l (INDICATORS-AT + parity (reader s r .first)) _ (omega arith) (omega arith)
 
 -- The indicators after a reader is written, with one of them changed.
-pub changed-indicator : (w : List ℕ) → HEAD ≤ length w → (r : ℕ) (x : Reader) (i : ℕ) → i < INDICATORS → (f : ℕ → ℕ) (i′ : ℕ)
-    → indicator (withIndicator (withReader w r x) i (f (indicator w i))) i′ ≡ pick (eqb i i′) (f (indicator w i′)) (indicator w i′)
-changed-indicator w len r x i low f i′ = indicator-put (withReader w r x) i (f (indicator w i)) low (rw (length-reader w r x) len) i′ ∙ rw (indicator-reader w r x) (go (eqb i i′) refl)
+pub changed-indicator : (w : List ℕ) → HEAD ≤ length w → (r : ℕ) (x : Reader) (j : ℕ) → j < INDICATORS → (f : ℕ → ℕ) (j′ : ℕ)
+    → indicator (withIndicator (withReader w r x) j (f (indicator w j))) j′ ≡ pick (eqb j j′) (f (indicator w j′)) (indicator w j′)
+changed-indicator w len r x j low f j′ = indicator-put (withReader w r x) j (f (indicator w j)) low (rw (length-reader w r x) len) j′ ∙ rw (indicator-reader w r x) (go (eqb j j′) refl)
   where
-    go : (test : Bool) → eqb i i′ ≡ test → pick test (f (indicator w i)) (indicator w i′) ≡ pick test (f (indicator w i′)) (indicator w i′)
-    go true e = rw (eqb-true i i′ e) refl
+    go : (test : Bool) → eqb j j′ ≡ test → pick test (f (indicator w j)) (indicator w j′) ≡ pick test (f (indicator w j′)) (indicator w j′)
+    go true e = rw (eqb-true j j′ e) refl
     go false e = refl
 
 -- Each of the kind's own steps keeps the invariant.
@@ -235,13 +235,13 @@ module _ (z : Given) (g : Ghost) (s : State) (i : WholeInvariant damageRules (Ow
 
 -- At the start no reader has added to an indicator.
 start-counted : (z : Given) (s : State) → let w = made KIND-OLD freshReader z s .words in Counted (readers w) (indicator w) (readerAt w)
-start-counted z s i _ = fresh-indicator KIND-OLD (z .readers) (z .publishers) (z .slots) (z .version) freshReader i ∙ sym (count-none (λ r. addedTo i (readerAt w r)) (readers w) (λ r l. none r))
+start-counted z s j _ = fresh-indicator KIND-OLD (z .readers) (z .publishers) (z .slots) (z .version) freshReader j ∙ sym (count-none (λ r. addedTo j (readerAt w r)) (readers w) (λ r l. none r))
   where
     w : List ℕ
     w = made KIND-OLD freshReader z s .words
 
-    none : (r : ℕ) → addedTo i (readerAt w r) ≡ false
-    none r = rw (fresh-reader KIND-OLD (z .readers) (z .publishers) (z .slots) (z .version) freshReader r) (pick-split (λ (x : Reader). addedTo i x ≡ false) (ltb r READERS-MAX) (λ _. refl) (λ _. refl))
+    none : (r : ℕ) → addedTo j (readerAt w r) ≡ false
+    none r = rw (fresh-reader KIND-OLD (z .readers) (z .publishers) (z .slots) (z .version) freshReader r) (pick-split (λ (x : Reader). addedTo j x ≡ false) (ltb r READERS-MAX) (λ _. refl) (λ _. refl))
 
 no-looks : (s : State) (p : ℕ) → looksOf s (publisher s p) 0 ≡ record { walk = publisher s p .walk; reply = Spent }
 unfolding lookAt
