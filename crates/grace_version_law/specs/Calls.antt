@@ -14,6 +14,7 @@ use Rattle.base.specs.RowLaws.{clash, and-false, or-false, or-none, all-false}
 use Rattle.calls.specs.declared.Call.the-variants.{Enter, Leave}
 use Rattle.calls.specs.declared.Reply.the-variants.{At, Left}
 use Rattle.calls.specs.declared.WalkReply.the-variants.{Waiting, Spent, Returned}
+use Rattle.calls.specs.Numbers.{PLACE-OUT, PLACE-LOADED, PLACE-PUBLISHED, PLACE-LOADED-AGAIN, PLACE-OPEN, PLACE-PICKED, PLACE-SYNCHRONISING, PLACE-QUIET, PLACE-RAISED, PLACE-RETURNED}
 use Rattle.layout.specs.declared.Reader.{Reader}
 use Rattle.layout.specs.declared.Publisher.{Publisher}
 use Rattle.layout.specs.declared.WalkRecord.{WalkRecord}
@@ -30,121 +31,121 @@ use Rattle.grace_version_law.specs.Safety.{next-below}
 
 -- The damage test of a reader, by its place.
 module _ (ss : ℕ) (x : Reader) where
-  pub reader-loaded : x .place ≤ 4 → 2 ≤ x .place % 4 → anyTrue (readerRows ss x) ≡ not (eqb (x .published) (x .first))
-  reader-loaded high low = go (eqb (x .place) 2) refl
+  pub reader-loaded : x .place ≤ PLACE-OPEN → 2 ≤ x .place % 4 → anyTrue (readerRows ss x) ≡ not (eqb (x .published) (x .first))
+  reader-loaded high low = go (eqb (x .place) PLACE-PUBLISHED) refl
     where
-      go : (b : Bool) → eqb (x .place) 2 ≡ b → anyTrue (readerRows ss x) ≡ not (eqb (x .published) (x .first))
+      go : (test : Bool) → eqb (x .place) PLACE-PUBLISHED ≡ test → anyTrue (readerRows ss x) ≡ not (eqb (x .published) (x .first))
       go true e = rw (eqb-true (x .place) 2 e) (or-none _)
-      go false e = let three : x .place ≡ 3 = (let q = eqb-false (x .place) 2 e in omega arith) in rw three (or-none _)
+      go false e = let three : x .place ≡ PLACE-LOADED-AGAIN = (let unequal = eqb-false (x .place) 2 e in omega arith) in rw three (or-none _)
 
-  pub reader-rests : x .place ≤ 4 → x .place % 4 < 2 → anyTrue (readerRows ss x) ≡ false
-  reader-rests high low = rw (le-ltb 5 (x .place) (omega arith), ne-eqb (x .place) 5 (λ z. omega arith), ne-eqb (x .place) 2 (λ z. omega arith), ne-eqb (x .place) 3 (λ z. omega arith)) refl
+  pub reader-rests : x .place ≤ PLACE-OPEN → x .place % 4 < 2 → anyTrue (readerRows ss x) ≡ false
+  reader-rests high low = rw (le-ltb 5 (x .place) (omega arith), ne-eqb (x .place) 5 (λ eq. omega arith), ne-eqb (x .place) 2 (λ eq. omega arith), ne-eqb (x .place) 3 (λ eq. omega arith)) refl
 
-  pub reader-beyond : 5 < x .place → anyTrue (readerRows ss x) ≡ true
+  pub reader-beyond : PLACE-PICKED < x .place → anyTrue (readerRows ss x) ≡ true
   reader-beyond l = rw (lt-ltb 5 (x .place) l) refl
 
 -- What the kind adds to the damage test of a publisher, by its place.
 module _ (rs : ℕ) (y : Publisher) where
-  pub no-such-place : (ltb 38 (y .place) || eqb (y .place) 36) ≡ true → anyTrue (extraRows rs y) ≡ true
-  no-such-place e = go (ltb 38 (y .place)) (eqb (y .place) 36) (((eqb (y .place) 35 || eqb (y .place) 37) && leb rs (y .walk .next)) || false) e
+  pub no-such-place : (ltb PLACE-RETURNED (y .place) || eqb (y .place) PLACE-QUIET) ≡ true → anyTrue (extraRows rs y) ≡ true
+  no-such-place e = go (ltb PLACE-RETURNED (y .place)) (eqb (y .place) PLACE-QUIET) (((eqb (y .place) PLACE-SYNCHRONISING || eqb (y .place) PLACE-RAISED) && leb rs (y .walk .next)) || false) e
     where
-      go : (a b t : Bool) → a || b ≡ true → (a || (b || t)) ≡ true
-      go true b t d = refl
-      go false true t d = refl
-      go false false t d = clash (sym d)
+      go : (beyond quiet rest : Bool) → beyond || quiet ≡ true → (beyond || (quiet || rest)) ≡ true
+      go true quiet rest d = refl
+      go false true rest d = refl
+      go false false rest d = clash (sym d)
 
-  pub own-returned : y .place ≡ 38 → anyTrue (extraRows rs y) ≡ false
+  pub own-returned : y .place ≡ PLACE-RETURNED → anyTrue (extraRows rs y) ≡ false
   own-returned e = rw e refl
 
-  pub own-walking : 35 ≤ y .place → (ltb 38 (y .place) || eqb (y .place) 36) ≡ false → y .place ≢ 38 → anyTrue (extraRows rs y) ≡ leb rs (y .walk .next)
+  pub own-walking : PLACE-SYNCHRONISING ≤ y .place → (ltb PLACE-RETURNED (y .place) || eqb (y .place) PLACE-QUIET) ≡ false → y .place ≢ PLACE-RETURNED → anyTrue (extraRows rs y) ≡ leb rs (y .walk .next)
   own-walking late place ne =
-      let q = or-false (ltb 38 (y .place)) (eqb (y .place) 36) place in
-      let high = ltb-false 38 (y .place) (q .0) in
-      let other = eqb-false (y .place) 36 (q .1) in
-      go high other (eqb (y .place) 35) refl
+      let parts = or-false (ltb PLACE-RETURNED (y .place)) (eqb (y .place) PLACE-QUIET) place in
+      let high = ltb-false 38 (y .place) (parts .0) in
+      let other = eqb-false (y .place) 36 (parts .1) in
+      go high other (eqb (y .place) PLACE-SYNCHRONISING) refl
     where
-      go : y .place ≤ 38 → (y .place ≡ 36 → ⊥) → (b : Bool) → eqb (y .place) 35 ≡ b → anyTrue (extraRows rs y) ≡ leb rs (y .walk .next)
+      go : y .place ≤ PLACE-RETURNED → (y .place ≡ PLACE-QUIET → ⊥) → (test : Bool) → eqb (y .place) PLACE-SYNCHRONISING ≡ test → anyTrue (extraRows rs y) ≡ leb rs (y .walk .next)
       go high other true e = rw (eqb-true (y .place) 35 e) (or-none _)
-      go high other false e = let d : y .place ≡ 37 = (let q = eqb-false (y .place) 35 e in omega arith) in rw d (or-none _)
+      go high other false e = let d : y .place ≡ PLACE-RAISED = (let unequal = eqb-false (y .place) 35 e in omega arith) in rw d (or-none _)
 
 -- At 3 a reader has published the version that it loaded first.
-pub published-of : (s : State) → damaged rules s ≡ false → (r : ℕ) → r < readers (s .words) → reader s r .place ≡ 3 → reader s r .published ≡ reader s r .first
+pub published-of : (s : State) → damaged rules s ≡ false → (r : ℕ) → r < readers (s .words) → reader s r .place ≡ PLACE-LOADED-AGAIN → reader s r .published ≡ reader s r .first
 published-of s e r named turn =
     let f = all-false (readerRows (slots (s .words)) (reader s r)) (undamaged-facts rules s e .readers-undamaged r named) in
-    eqb-true _ _ (not-false _ (and-false (eqb (reader s r .place) 2 || eqb (reader s r .place) 3) (not (eqb (reader s r .published) (reader s r .first))) (f .1 .1 .0) (rw turn refl)))
+    eqb-true _ _ (not-false _ (and-false (eqb (reader s r .place) PLACE-PUBLISHED || eqb (reader s r .place) PLACE-LOADED-AGAIN) (not (eqb (reader s r .published) (reader s r .first))) (f .1 .1 .0) (rw turn refl)))
 
 -- At 35 and at 37 a walk has readers left to pass.
-pub next-low : (s : State) → damaged rules s ≡ false → (p : ℕ) → p < publishers (s .words) → (eqb (publisher s p .place) 35 || eqb (publisher s p .place) 37) ≡ true → publisher s p .walk .next < readers (s .words)
+pub next-low : (s : State) → damaged rules s ≡ false → (p : ℕ) → p < publishers (s .words) → (eqb (publisher s p .place) PLACE-SYNCHRONISING || eqb (publisher s p .place) PLACE-RAISED) ≡ true → publisher s p .walk .next < readers (s .words)
 next-low s e p named turn = next-below (readers (s .words)) (slots (s .words)) (publisher s p) (undamaged-facts rules s e .publishers-undamaged p named) turn
 
 module _ (s : State) (clean : damaged rules s ≡ false) where
-  pub enter-is : (v : List ℕ) (r : ℕ) (x y : Reader) → r < readers (s .words) → x ≡ reader s r → x .place < 5 → y ≡ onward (version (s .words)) (current (s .words)) x → v ≡ withReader (s .words) r y
-      → outcome (At (y .place)) (state v (s .entries)) ≡ step rules s (Enter r)
-  enter-is v r x y named is turn moved put =
+  pub enter-is : (w′ : List ℕ) (r : ℕ) (x x′ : Reader) → r < readers (s .words) → x ≡ reader s r → x .place < PLACE-PICKED → x′ ≡ onward (version (s .words)) (current (s .words)) x → w′ ≡ withReader (s .words) r x′
+      → outcome (At (x′ .place)) (state w′ (s .entries)) ≡ step rules s (Enter r)
+  enter-is w′ r x x′ named is turn moved put =
       rw (put, moved, is) (enter-accepted fixed s clean r x named is turn)
 
-  pub leave-is : (v : List ℕ) (r : ℕ) (x : Reader) → r < readers (s .words) → x ≡ reader s r → 4 ≤ x .place → v ≡ withReader (s .words) r (leaving x)
-      → outcome Left (state v (s .entries)) ≡ step rules s (Leave r)
-  leave-is v r x named is turn put =
+  pub leave-is : (w′ : List ℕ) (r : ℕ) (x : Reader) → r < readers (s .words) → x ≡ reader s r → PLACE-OPEN ≤ x .place → w′ ≡ withReader (s .words) r (leaving x)
+      → outcome Left (state w′ (s .entries)) ≡ step rules s (Leave r)
+  leave-is w′ r x named is turn put =
       rw (put, is) (leave-accepted fixed s clean r x named is turn)
 
 -- No place of ENTER's: 5 or beyond.
-pub past-enter : (n : ℕ) → n ≢ 0 → n ≢ 1 → n ≢ 2 → n ≢ 3 → n ≢ 4 → 5 ≤ n
-past-enter zero a b c d e = absurd (a refl)
-past-enter (suc zero) a b c d e = absurd (b refl)
-past-enter (suc (suc zero)) a b c d e = absurd (c refl)
-past-enter (suc (suc (suc zero))) a b c d e = absurd (d refl)
-past-enter (suc (suc (suc (suc zero)))) a b c d e = absurd (e refl)
-past-enter (suc (suc (suc (suc (suc n))))) a b c d e = omega arith
+pub past-enter : (pl : ℕ) → pl ≢ PLACE-OUT → pl ≢ PLACE-LOADED → pl ≢ PLACE-PUBLISHED → pl ≢ PLACE-LOADED-AGAIN → pl ≢ PLACE-OPEN → PLACE-PICKED ≤ pl
+past-enter zero not-0 not-1 not-2 not-3 not-4 = absurd (not-0 refl)
+past-enter (suc zero) not-0 not-1 not-2 not-3 not-4 = absurd (not-1 refl)
+past-enter (suc (suc zero)) not-0 not-1 not-2 not-3 not-4 = absurd (not-2 refl)
+past-enter (suc (suc (suc zero))) not-0 not-1 not-2 not-3 not-4 = absurd (not-3 refl)
+past-enter (suc (suc (suc (suc zero)))) not-0 not-1 not-2 not-3 not-4 = absurd (not-4 refl)
+past-enter (suc (suc (suc (suc (suc pl))))) not-0 not-1 not-2 not-3 not-4 = omega arith
 
 -- A reader one place on, by its place.
-module _ (v cur : ℕ) (x : Reader) where
-  pub onward-loads : (n : ℕ) → n ≡ v → x .place ≡ 0 → (x place≔ 1 first≔ n) ≡ onward v cur x
+module _ (ver cur : ℕ) (x : Reader) where
+  pub onward-loads : (n : ℕ) → n ≡ ver → x .place ≡ PLACE-OUT → (x place≔ PLACE-LOADED first≔ n) ≡ onward ver cur x
   unfolding onward
   onward-loads n d e = rw (d, e) refl
 
-  pub onward-publishes : x .place ≡ 1 → (x place≔ 2 published≔ x .first) ≡ onward v cur x
+  pub onward-publishes : x .place ≡ PLACE-LOADED → (x place≔ PLACE-PUBLISHED published≔ x .first) ≡ onward ver cur x
   unfolding onward
   onward-publishes e = rw e refl
 
-  pub onward-loads-again : (n : ℕ) → n ≡ v → x .place ≡ 2 → (x place≔ 3 second≔ n) ≡ onward v cur x
+  pub onward-loads-again : (n : ℕ) → n ≡ ver → x .place ≡ PLACE-PUBLISHED → (x place≔ PLACE-LOADED-AGAIN second≔ n) ≡ onward ver cur x
   unfolding onward
   onward-loads-again n d e = rw (d, e) refl
 
   -- Where the two versions are equal, the second is published already.
-  pub onward-publishes-second : x .place ≡ 3 → x .published ≡ x .first → (x place≔ 4 published≔ x .second) ≡ onward v cur x
+  pub onward-publishes-second : x .place ≡ PLACE-LOADED-AGAIN → x .published ≡ x .first → (x place≔ PLACE-OPEN published≔ x .second) ≡ onward ver cur x
   unfolding onward
   onward-publishes-second e f = rw (e, f) (go (eqb (x .first) (x .second)) refl)
     where
-      go : (b : Bool) → eqb (x .first) (x .second) ≡ b
-          → (x place≔ 4 published≔ x .second) ≡ (x place≔ 4 published≔ pick b (x .first) (x .second))
+      go : (test : Bool) → eqb (x .first) (x .second) ≡ test
+          → (x place≔ PLACE-OPEN published≔ x .second) ≡ (x place≔ PLACE-OPEN published≔ pick test (x .first) (x .second))
       go true d = rw (eqb-true (x .first) (x .second) d) refl
       go false d = refl
 
-  pub onward-picks : (n : ℕ) → n ≡ cur → x .place ≡ 4 → (x place≔ 5 picked≔ n) ≡ onward v cur x
+  pub onward-picks : (n : ℕ) → n ≡ cur → x .place ≡ PLACE-OPEN → (x place≔ PLACE-PICKED picked≔ n) ≡ onward ver cur x
   unfolding onward
   onward-picks n d e = rw (d, e) refl
 
--- How a walk's looks go on from the walk k, by the first: none left, not passed, the last reader passed, another passed. A look leaves the walk m.
-module _ (w : List ℕ) (n : ℕ) (k : WalkRecord) where
+-- How the looks of a walk go on, by the first: none left, not passed, the last reader passed, another passed. A look leaves the walk moved.
+module _ (w : List ℕ) (n : ℕ) (walk : WalkRecord) where
   abbrev looksOn : WalkRecord → ℕ → Progress
-  looksOn j b = looksFrom w n (j .mark) (j .waits) b (j .next) (j .looks)
+  looksOn walk′ b = looksFrom w n (walk′ .mark) (walk′ .waits) b (walk′ .next) (walk′ .looks)
 
-  pub looks-spent : (b : ℕ) → b ≡ 0 → looksOn k b ≡ record { walk = k; reply = Spent }
+  pub looks-spent : (b : ℕ) → b ≡ 0 → looksOn walk b ≡ record { walk = walk; reply = Spent }
   unfolding looksFrom
   looks-spent b e = rw e refl
 
-  pub looks-wait : (b : ℕ) (m : WalkRecord) → 0 < b → m ≡ withLook k 0 1 → readerAt w (lookedAt n (k .next)) .published < k .mark → looksOn k b ≡ record { walk = m; reply = Waiting (lookedAt n (k .next)) }
+  pub looks-wait : (b : ℕ) (moved : WalkRecord) → 0 < b → moved ≡ withLook walk 0 1 → readerAt w (lookedAt n (walk .next)) .published < walk .mark → looksOn walk b ≡ record { walk = moved; reply = Waiting (lookedAt n (walk .next)) }
   unfolding looksFrom
-  looks-wait zero m l is e = absurd (omega arith)
-  looks-wait (suc b) m l is e = rw (is, add-zero (k .next), lt-ltb _ _ e) refl
+  looks-wait zero moved l is e = absurd (omega arith)
+  looks-wait (suc b) moved l is e = rw (is, add-zero (walk .next), lt-ltb _ _ e) refl
 
-  pub looks-return : (b : ℕ) (m : WalkRecord) → 0 < b → m ≡ withLook k 1 0 → k .mark ≤ readerAt w (lookedAt n (k .next)) .published → n ≤ m .next → looksOn k b ≡ record { walk = m; reply = Returned (m .looks) (m .waits) }
+  pub looks-return : (b : ℕ) (moved : WalkRecord) → 0 < b → moved ≡ withLook walk 1 0 → walk .mark ≤ readerAt w (lookedAt n (walk .next)) .published → n ≤ moved .next → looksOn walk b ≡ record { walk = moved; reply = Returned (moved .looks) (moved .waits) }
   unfolding looksFrom
-  looks-return zero m l is e f = absurd (omega arith)
-  looks-return (suc b) m l is e f = rw (is, add-zero (k .waits), le-ltb _ _ e, le-leb _ _ (rw is at f)) refl
+  looks-return zero moved l is e f = absurd (omega arith)
+  looks-return (suc b) moved l is e f = rw (is, add-zero (walk .waits), le-ltb _ _ e, le-leb _ _ (rw is at f)) refl
 
-  pub looks-on : (b : ℕ) (m : WalkRecord) → 0 < b → m ≡ withLook k 1 0 → k .mark ≤ readerAt w (lookedAt n (k .next)) .published → m .next < n → looksOn k b ≡ looksOn m (b - 1)
+  pub looks-on : (b : ℕ) (moved : WalkRecord) → 0 < b → moved ≡ withLook walk 1 0 → walk .mark ≤ readerAt w (lookedAt n (walk .next)) .published → moved .next < n → looksOn walk b ≡ looksOn moved (b - 1)
   unfolding looksFrom
-  looks-on zero m l is e f = absurd (omega arith)
-  looks-on (suc b) m l is e f = let d : suc b - 1 ≡ b = omega arith in rw (is, add-zero (k .waits), le-ltb _ _ e, lt-leb _ _ (rw is at f), d) refl
+  looks-on zero moved l is e f = absurd (omega arith)
+  looks-on (suc b) moved l is e f = let d : suc b - 1 ≡ b = omega arith in rw (is, add-zero (walk .waits), le-ltb _ _ e, lt-leb _ _ (rw is at f), d) refl

@@ -15,7 +15,7 @@ use Rattle.calls.specs.declared.Call.the-variants.{Claim, Walk}
 use Rattle.calls.specs.declared.Reply.the-variants.{Walked, Refused}
 use Rattle.calls.specs.declared.WalkReply.{WalkReply}
 use Rattle.calls.specs.declared.WalkReply.the-variants.{Waiting, Spent, Quiet, Returned}
-use Rattle.calls.specs.Numbers.{NO-SUCH-PUBLISHER, NO-SUCH-SLOT, PUBLISHER-TURN, BUSY, SLOT-IN-USE}
+use Rattle.calls.specs.Numbers.{PLACE-PUBLISHED, PLACE-IDLE, PLACE-RAISED, NO-SUCH-PUBLISHER, NO-SUCH-SLOT, PUBLISHER-TURN, BUSY, SLOT-IN-USE}
 use Rattle.calls.specs.Events.{accepted}
 use Rattle.calls.specs.Tally.{tallyOf}
 use Rattle.calls.specs.Model.{firstTable}
@@ -49,13 +49,13 @@ pub new-walk-zero : (s : State) (p : ℕ) → step rules s (Walk p 0) .reply ≡
 new-walk-zero = new-promises .walk-zero
 
 -- What an accepted WALK says of its looks: waiting, spent and returned are said of the looks made, and spent exactly if b looks all passed and readers are left.
-pub record WalkLooks (s : State) (p b : ℕ) (k : Progress) : Type 0 where
-  pub looks-are : LooksFacts (s .words) (readers (s .words)) (publisher s p .walk .mark) b (publisher s p .walk .next) (publisher s p .walk .looks) (publisher s p .walk .waits) k
+pub record WalkLooks (s : State) (p b : ℕ) (progress : Progress) : Type 0 where
+  pub looks-are : LooksFacts (s .words) (readers (s .words)) (publisher s p .walk .mark) b (publisher s p .walk .next) (publisher s p .walk .looks) (publisher s p .walk .waits) progress
   pub spent-exactly : publisher s p .walk .next + b < readers (s .words)
-      → ((i : ℕ) → publisher s p .walk .next ≤ i → i < publisher s p .walk .next + b → publisher s p .walk .mark ≤ reader s (lookedAt (readers (s .words)) i) .published) → k .reply ≡ Spent
+      → ((i : ℕ) → publisher s p .walk .next ≤ i → i < publisher s p .walk .next + b → publisher s p .walk .mark ≤ reader s (lookedAt (readers (s .words)) i) .published) → progress .reply ≡ Spent
 
 pub new-walk-facts : (s : State) (p b : ℕ) → accepted (step rules s (Walk p b) .reply) ≡ true
-    → let k = looksOf s (publisher s p .walk) b in WalkFacts s p k (WalkLooks s p b k) (step rules s (Walk p b))
+    → let progress = looksOf s (publisher s p .walk) b in WalkFacts s p progress (WalkLooks s p b progress) (step rules s (Walk p b))
 new-walk-facts s p b = walk-facts fixed s p b (WalkLooks s p b (looksOf s (publisher s p .walk) b)) (λ no-damage lt turn.
     let low = next-below _ _ (publisher s p) (no-damage .publishers-undamaged p lt) (rw (eqb-true (publisher s p .place) 37 turn) refl) in record {
       looks-are = looks-facts (s .words) (readers (s .words)) (publisher s p .walk .mark) (publisher s p .walk .waits) b (publisher s p .walk .next) (publisher s p .walk .looks) low;
@@ -64,70 +64,70 @@ new-walk-facts s p b = walk-facts fixed s p b (WalkLooks s p b (looksOf s (publi
 
 -- A slot in use is current, or a publisher at a place other than 0 holds it.
 abbrev pub InUse : State → ℕ → Type 0
-InUse s x = (current (s .words) ≡ x) ⊎ ((q : ℕ) × (q < publishers (s .words)) × (publisher s q .place ≢ 0) × (publisher s q .held ≡ x))
+InUse s slot = (current (s .words) ≡ slot) ⊎ ((q : ℕ) × (q < publishers (s .words)) × (publisher s q .place ≢ PLACE-IDLE) × (publisher s q .held ≡ slot))
 
 -- A claim on an undamaged new store is refused only for a wrong name, a wrong turn or a slot in use: each number only on its condition.
-pub data ClaimRefusal (s : State) (p x : ℕ) : ℕ → Type 0 where
-  no-publisher : publishers (s .words) ≤ p → ClaimRefusal s p x 11
-  no-slot : slots (s .words) ≤ x → ClaimRefusal s p x 12
-  wrong-turn : publisher s p .place ≢ 0 → ClaimRefusal s p x 21
-  in-use : InUse s x → ClaimRefusal s p x 30
+pub data ClaimRefusal (s : State) (p slot : ℕ) : ℕ → Type 0 where
+  no-publisher : publishers (s .words) ≤ p → ClaimRefusal s p slot 11
+  no-slot : slots (s .words) ≤ slot → ClaimRefusal s p slot 12
+  wrong-turn : publisher s p .place ≢ PLACE-IDLE → ClaimRefusal s p slot 21
+  in-use : InUse s slot → ClaimRefusal s p slot 30
 
-in-use-why : (s : State) (x : ℕ) → inUse s x ≡ true → InUse s x
-in-use-why s x e = go (eqb (current (s .words)) x) refl e
+in-use-why : (s : State) (slot : ℕ) → inUse s slot ≡ true → InUse s slot
+in-use-why s slot e = go (eqb (current (s .words)) slot) refl e
   where
-    go : (b : Bool) → eqb (current (s .words)) x ≡ b → (b || anyBelow (λ q. heldSlot s q x) (publishers (s .words))) ≡ true → InUse s x
-    go true d h = inl (eqb-true _ _ d)
-    go false d h =
-        let a = any-below (λ q. heldSlot s q x) (publishers (s .words)) h in
-        let b = and-true (not (eqb (publisher s (a .0) .place) 0)) (eqb (publisher s (a .0) .held) x) (a .2) in
-        inr (a .0, a .1, eqb-false _ _ (not-true _ (b .0)), eqb-true _ _ (b .1))
+    go : (test : Bool) → eqb (current (s .words)) slot ≡ test → (test || anyBelow (λ q. heldSlot s q slot) (publishers (s .words))) ≡ true → InUse s slot
+    go true d e = inl (eqb-true _ _ d)
+    go false d e =
+        let found = any-below (λ q. heldSlot s q slot) (publishers (s .words)) e in
+        let parts = and-true (not (eqb (publisher s (found .0) .place) PLACE-IDLE)) (eqb (publisher s (found .0) .held) slot) (found .2) in
+        inr (found .0, found .1, eqb-false _ _ (not-true _ (parts .0)), eqb-true _ _ (parts .1))
 
-module _ (s : State) (p x n : ℕ) (ne : n ≢ 0) where
-  claim-first : (a b c d : Bool) → leb (publishers (s .words)) p ≡ a → leb (slots (s .words)) x ≡ b → not (eqb (publisher s p .place) 0) ≡ c → inUse s x ≡ d
-      → firstOf ((a gives NO-SUCH-PUBLISHER) ∷ (b gives NO-SUCH-SLOT) ∷ (c gives PUBLISHER-TURN) ∷ (false gives BUSY) ∷ (d gives SLOT-IN-USE) ∷ []) ≡ n → ClaimRefusal s p x n
-  claim-first true b c d ea eb ec ed e = subst (ClaimRefusal s p x) e (no-publisher (leb-true _ _ ea))
-  claim-first false true c d ea eb ec ed e = subst (ClaimRefusal s p x) e (no-slot (leb-true _ _ eb))
-  claim-first false false true d ea eb ec ed e = subst (ClaimRefusal s p x) e (wrong-turn (eqb-false _ _ (not-true _ ec)))
-  claim-first false false false true ea eb ec ed e = subst (ClaimRefusal s p x) e (in-use (in-use-why s x ed))
+module _ (s : State) (p slot n : ℕ) (ne : n ≢ 0) where
+  claim-first : (unnamed no-slot-so late used : Bool) → leb (publishers (s .words)) p ≡ unnamed → leb (slots (s .words)) slot ≡ no-slot-so → not (eqb (publisher s p .place) PLACE-IDLE) ≡ late → inUse s slot ≡ used
+      → firstOf ((unnamed gives NO-SUCH-PUBLISHER) ∷ (no-slot-so gives NO-SUCH-SLOT) ∷ (late gives PUBLISHER-TURN) ∷ (false gives BUSY) ∷ (used gives SLOT-IN-USE) ∷ []) ≡ n → ClaimRefusal s p slot n
+  claim-first true no-slot-so late used ea eb ec ed e = subst (ClaimRefusal s p slot) e (no-publisher (leb-true _ _ ea))
+  claim-first false true late used ea eb ec ed e = subst (ClaimRefusal s p slot) e (no-slot (leb-true _ _ eb))
+  claim-first false false true used ea eb ec ed e = subst (ClaimRefusal s p slot) e (wrong-turn (eqb-false _ _ (not-true _ ec)))
+  claim-first false false false true ea eb ec ed e = subst (ClaimRefusal s p slot) e (in-use (in-use-why s slot ed))
   claim-first false false false false ea eb ec ed e = absurd (ne (sym e))
 
-pub new-claim-refusals : (s : State) (p x n : ℕ) → damaged rules s ≡ false → step rules s (Claim p x) .reply ≡ Refused n → ClaimRefusal s p x n
+pub new-claim-refusals : (s : State) (p slot n : ℕ) → damaged rules s ≡ false → step rules s (Claim p slot) .reply ≡ Refused n → ClaimRefusal s p slot n
 unfolding step
-new-claim-refusals s p x n no-damage e =
-    let q = decide-why (rows rules s (Claim p x)) (rules .act s (Claim p x)) s n refl e in
-    claim-first s p x n (q .1) (leb (publishers (s .words)) p) (leb (slots (s .words)) x) (not (eqb (publisher s p .place) 0)) (inUse s x) refl refl refl refl (rw no-damage at (q .0))
+new-claim-refusals s p slot n no-damage e =
+    let why = decide-why (rows rules s (Claim p slot)) (rules .act s (Claim p slot)) s n refl e in
+    claim-first s p slot n (why .1) (leb (publishers (s .words)) p) (leb (slots (s .words)) slot) (not (eqb (publisher s p .place) PLACE-IDLE)) (inUse s slot) refl refl refl refl (rw no-damage at (why .0))
 
 -- A WALK waits only for a reader that has published a version and not left since: never for one that never entered.
-waiting-below : (w : List ℕ) (n mark start b nx lk wt r : ℕ) (o : WalkReply) → Ends w n mark start b nx lk wt o → o ≡ Waiting r → (r ≡ lookedAt n nx) × (nx < n) × (readerAt w r .published < mark)
-waiting-below w n mark start b nx lk wt r (Waiting q) e d = let f : q ≡ r = cc in (sym f ∙ e .2, e .0, subst (λ (j : ℕ). readerAt w j .published < mark) f (e .3))
-waiting-below w n mark start b nx lk wt r Spent e d = absurd (let y : _≡_ {A = ℕ} 0 1 = cc in omega arith)
+waiting-below : (w : List ℕ) (n mark start b nx lk wt r : ℕ) (a : WalkReply) → Ends w n mark start b nx lk wt a → a ≡ Waiting r → (r ≡ lookedAt n nx) × (nx < n) × (readerAt w r .published < mark)
+waiting-below w n mark start b nx lk wt r (Waiting r′) e d = let f : r′ ≡ r = cc in (sym f ∙ e .2, e .0, subst (λ (j : ℕ). readerAt w j .published < mark) f (e .3))
+waiting-below w n mark start b nx lk wt r Spent e d = absurd (let no : _≡_ {A = ℕ} 0 1 = cc in omega arith)
 waiting-below w n mark start b nx lk wt r Quiet e d = absurd e
-waiting-below w n mark start b nx lk wt r (Returned l u) e d = absurd (let y : _≡_ {A = ℕ} 0 1 = cc in omega arith)
+waiting-below w n mark start b nx lk wt r (Returned looks waits) e d = absurd (let no : _≡_ {A = ℕ} 0 1 = cc in omega arith)
 
-waits-published : (z : Given) (g : Ghost) (s : State) → WholeInvariant damageRules (OwnOf detector) z g s → (p b r : ℕ) → step rules s (Walk p b) .reply ≡ Walked (Waiting r) → 2 ≤ g .tally .place r
+waits-published : (z : Given) (g : Ghost) (s : State) → WholeInvariant damageRules (OwnOf detector) z g s → (p b r : ℕ) → step rules s (Walk p b) .reply ≡ Walked (Waiting r) → PLACE-PUBLISHED ≤ g .tally .place r
 waits-published z g s i p b r e =
-    let k = looksOf s (publisher s p .walk) b in
-    let facts = walk-facts fixed s p b (k .reply ≡ Waiting r → 2 ≤ g .tally .place r) looks (rw e refl) in
-    facts .looks-are (let q : Walked (k .reply) ≡ Walked (Waiting r) = sym (facts .reply-is) ∙ e in cc)
+    let progress = looksOf s (publisher s p .walk) b in
+    let facts = walk-facts fixed s p b (progress .reply ≡ Waiting r → PLACE-PUBLISHED ≤ g .tally .place r) looks (rw e refl) in
+    facts .looks-are (let e′ : Walked (progress .reply) ≡ Walked (Waiting r) = sym (facts .reply-is) ∙ e in cc)
   where
-    looks : Undamaged damageRules s → p < publishers (s .words) → eqb (publisher s p .place) 37 ≡ true → looksOf s (publisher s p .walk) b .reply ≡ Waiting r → 2 ≤ g .tally .place r
-    looks no-damage lt turn q =
+    looks : Undamaged damageRules s → p < publishers (s .words) → eqb (publisher s p .place) PLACE-RAISED ≡ true → looksOf s (publisher s p .walk) b .reply ≡ Waiting r → PLACE-PUBLISHED ≤ g .tally .place r
+    looks no-damage lt turn e =
         let at37 = eqb-true (publisher s p .place) 37 turn in
-        let k = looksOf s (publisher s p .walk) b in
+        let progress = looksOf s (publisher s p .walk) b in
         let low = next-below _ _ (publisher s p) (no-damage .publishers-undamaged p lt) (rw at37 refl) in
-        let o = looks-facts (s .words) (readers (s .words)) (publisher s p .walk .mark) (publisher s p .walk .waits) b (publisher s p .walk .next) (publisher s p .walk .looks) low in
-        let x = waiting-below (s .words) (readers (s .words)) (publisher s p .walk .mark) (publisher s p .walk .next) b _ _ _ r (k .reply) (o .ends) q in
+        let facts = looks-facts (s .words) (readers (s .words)) (publisher s p .walk .mark) (publisher s p .walk .waits) b (publisher s p .walk .next) (publisher s p .walk .looks) low in
+        let seen = waiting-below (s .words) (readers (s .words)) (publisher s p .walk .mark) (publisher s p .walk .next) b _ _ _ r (progress .reply) (facts .ends) e in
         let fits = undamaged-publisher law (readers (s .words)) (slots (s .words)) (publisher s p) (no-damage .publishers-undamaged p lt) .mark-fits (omega arith) in
         let high = ltb-false LAST (publisher s p .walk .mark) (or-false (eqb (publisher s p .walk .mark) 0) (ltb LAST (publisher s p .walk .mark)) fits .1) in
-        go (leb 2 (reader s r .place)) refl (x .2) high (omega (arith, x .0, x .1))
+        go (leb PLACE-PUBLISHED (reader s r .place)) refl (seen .2) high (omega (arith, seen .0, seen .1))
       where
-        go : (d : Bool) → leb 2 (reader s r .place) ≡ d → reader s r .published < publisher s p .walk .mark → publisher s p .walk .mark ≤ LAST → r < readers (s .words) → 2 ≤ g .tally .place r
+        go : (d : Bool) → leb PLACE-PUBLISHED (reader s r .place) ≡ d → reader s r .published < publisher s p .walk .mark → publisher s p .walk .mark ≤ LAST → r < readers (s .words) → PLACE-PUBLISHED ≤ g .tally .place r
         go true d l high rn = omega (arith, leb-true 2 (reader s r .place) d, i .shared .every .phases .places r)
-        go false d l high rn = absurd (omega (arith, l, high, i .own .readers-are r .out rn (let q = leb-false 2 (reader s r .place) d in omega arith)))
+        go false d l high rn = absurd (omega (arith, l, high, i .own .readers-are r .out rn (let less = leb-false 2 (reader s r .place) d in omega arith)))
 
 pub new-waits-for : (s : State) (f : Fresh GraceVersion s) (cs : List Call) (p b r : ℕ)
-    → step rules (afterAll GraceVersion s cs) (Walk p b) .reply ≡ Walked (Waiting r) → 2 ≤ tallyOf (events GraceVersion s cs) .place r
+    → step rules (afterAll GraceVersion s cs) (Walk p b) .reply ≡ Walked (Waiting r) → PLACE-PUBLISHED ≤ tallyOf (events GraceVersion s cs) .place r
 new-waits-for s f cs p b r e = rw (← all-tally (ghost₀ (traits .every .first (f .arguments))) (events GraceVersion s cs)) (waits-published _ _ _ (new-reached s f cs) p b r e)
 
 -- With more slots than publishers, an idle publisher always finds a free slot, and its claim of that slot is accepted.

@@ -6,6 +6,7 @@ use borrow.Author.Tests.{leb-false}
 use Rattle.base.specs.RowLaws.{clash}
 use Rattle.calls.specs.declared.Call.the-variants.{Enter, Leave}
 use Rattle.calls.specs.declared.Reply.the-variants.{At, Left}
+use Rattle.calls.specs.Numbers.{NOT-READING, PLACE-OUT, PLACE-LOADED, PLACE-PUBLISHED, PLACE-LOADED-AGAIN, PLACE-OPEN, PLACE-PICKED}
 use Rattle.calls.specs.Events.{accepted}
 use Rattle.layout.specs.declared.Reader.{Reader}
 use Rattle.layout.specs.Layout.{readers, current, version}
@@ -23,21 +24,21 @@ use Rattle.grace_version_law.specs.Calls.{published-of, onward-loads, on
 -- where they are equal it is published already; 4 to 5 picks the current slot.
 pub record EnterFacts (s : State) (r : ℕ) (o : Outcome) : Type 0 where
   pub reply-is : o .reply ≡ At (reader (o .after) r .place)
-  pub from-0 : reader s r .place ≡ 0
-      → reader (o .after) r ≡ reader s r place≔ 1 first≔ version (s .words)
-  pub from-1 : reader s r .place ≡ 1
-      → reader (o .after) r ≡ reader s r place≔ 2 published≔ reader s r .first
-  pub from-2 : reader s r .place ≡ 2
-      → reader (o .after) r ≡ reader s r place≔ 3 second≔ version (s .words)
-  pub from-3 : reader s r .place ≡ 3
-      → reader (o .after) r ≡ reader s r place≔ 4 published≔ reader s r .second
-  pub from-4 : reader s r .place ≡ 4
-      → reader (o .after) r ≡ reader s r place≔ 5 picked≔ current (s .words)
+  pub from-0 : reader s r .place ≡ PLACE-OUT
+      → reader (o .after) r ≡ reader s r place≔ PLACE-LOADED first≔ version (s .words)
+  pub from-1 : reader s r .place ≡ PLACE-LOADED
+      → reader (o .after) r ≡ reader s r place≔ PLACE-PUBLISHED published≔ reader s r .first
+  pub from-2 : reader s r .place ≡ PLACE-PUBLISHED
+      → reader (o .after) r ≡ reader s r place≔ PLACE-LOADED-AGAIN second≔ version (s .words)
+  pub from-3 : reader s r .place ≡ PLACE-LOADED-AGAIN
+      → reader (o .after) r ≡ reader s r place≔ PLACE-OPEN published≔ reader s r .second
+  pub from-4 : reader s r .place ≡ PLACE-OPEN
+      → reader (o .after) r ≡ reader s r place≔ PLACE-PICKED picked≔ current (s .words)
 
 -- LEAVE goes to 0 and publishes NOT_READING.
 pub record LeaveFacts (s : State) (r : ℕ) (o : Outcome) : Type 0 where
   pub reply-is : o .reply ≡ Left
-  pub record-is : reader (o .after) r ≡ reader s r place≔ 0 published≔ 18446744073709551615
+  pub record-is : reader (o .after) r ≡ reader s r place≔ PLACE-OUT published≔ NOT-READING
 
 pub new-enter-facts : (s : State) (r : ℕ) → accepted (step rules s (Enter r) .reply) ≡ true → EnterFacts s r (step rules s (Enter r))
 unfolding step

@@ -16,7 +16,7 @@ use Rattle.calls.specs.declared.Call.the-variants.{Enter, Leave, Sync, Raise, W
 use Rattle.calls.specs.declared.Reply.the-variants.{At, Left, Synced, Walked}
 use Rattle.calls.specs.declared.WalkReply.{WalkReply}
 use Rattle.calls.specs.declared.WalkReply.the-variants.{Waiting, Spent, Quiet, Returned}
-use Rattle.calls.specs.Numbers.{READERS-MAX, NOT-READING, KIND-NEW}
+use Rattle.calls.specs.Numbers.{READERS-MAX, NOT-READING, KIND-NEW, PLACE-LOADED, PLACE-PUBLISHED, PLACE-OPEN, PLACE-PICKED, PLACE-SYNCHRONISING, PLACE-QUIET, PLACE-RAISED, PLACE-RETURNED}
 use Rattle.layout.specs.declared.Reader.{Reader}
 use Rattle.layout.specs.declared.Publisher.{Publisher}
 use Rattle.layout.specs.declared.WalkRecord.{WalkRecord}
@@ -41,27 +41,27 @@ use Rattle.grace_version_law.specs.Traits.{traits}
 use Rattle.grace_version_law.specs.Walks.{lookedAt-all, Ends, LooksFacts, looks-mark, looks-facts}
 
 -- What the kind adds to a publisher's rows, from facts and to them.
-pub extra-clear : (rs : ℕ) (y : Publisher) → y .place ≤ 38 → y .place ≢ 36 → (35 ≤ y .place → y .place ≤ 37 → y .walk .next < rs) → anyTrue (extraRows rs y) ≡ false
+pub extra-clear : (rs : ℕ) (y : Publisher) → y .place ≤ PLACE-RETURNED → y .place ≢ PLACE-QUIET → (PLACE-SYNCHRONISING ≤ y .place → y .place ≤ PLACE-RAISED → y .walk .next < rs) → anyTrue (extraRows rs y) ≡ false
 extra-clear rs y high ne below = none-true (extraRows rs y) (
   le-ltb 38 (y .place) high,
   (
     ne-eqb (y .place) 36 ne,
-    (and-not (eqb (y .place) 35 || eqb (y .place) 37) (leb rs (y .walk .next)) (λ e. lt-leb rs (y .walk .next) (by-place (eqb (y .place) 35) refl (eqb (y .place) 37) refl e)), tt),
+    (and-not (eqb (y .place) PLACE-SYNCHRONISING || eqb (y .place) PLACE-RAISED) (leb rs (y .walk .next)) (λ e. lt-leb rs (y .walk .next) (by-place (eqb (y .place) PLACE-SYNCHRONISING) refl (eqb (y .place) PLACE-RAISED) refl e)), tt),
   ),
 )
   where
-    by-place : (a : Bool) → eqb (y .place) 35 ≡ a → (b : Bool) → eqb (y .place) 37 ≡ b → (a || b) ≡ true → y .walk .next < rs
-    by-place true d b e t = below (omega (arith, eqb-true (y .place) 35 d)) (omega (arith, eqb-true (y .place) 35 d))
-    by-place false d true e t = below (omega (arith, eqb-true (y .place) 37 e)) (omega (arith, eqb-true (y .place) 37 e))
-    by-place false d false e t = clash (sym t)
+    by-place : (is35 : Bool) → eqb (y .place) PLACE-SYNCHRONISING ≡ is35 → (is37 : Bool) → eqb (y .place) PLACE-RAISED ≡ is37 → (is35 || is37) ≡ true → y .walk .next < rs
+    by-place true d is37 e either = below (omega (arith, eqb-true (y .place) 35 d)) (omega (arith, eqb-true (y .place) 35 d))
+    by-place false d true e either = below (omega (arith, eqb-true (y .place) 37 e)) (omega (arith, eqb-true (y .place) 37 e))
+    by-place false d false e either = clash (sym either)
 
-pub next-below : (rs ss : ℕ) (y : Publisher) → damageRules .publisherDamaged rs ss y ≡ false → (eqb (y .place) 35 || eqb (y .place) 37) ≡ true → y .walk .next < rs
-next-below rs ss y e t =
+pub next-below : (rs ss : ℕ) (y : Publisher) → damageRules .publisherDamaged rs ss y ≡ false → (eqb (y .place) PLACE-SYNCHRONISING || eqb (y .place) PLACE-RAISED) ≡ true → y .walk .next < rs
+next-below rs ss y e turn =
     let f = all-false (extraRows rs y) (or-false (anyTrue (extraRows rs y)) (anyTrue (publisherRows versions ss y)) e .0) in
-    leb-false rs (y .walk .next) (and-false (eqb (y .place) 35 || eqb (y .place) 37) (leb rs (y .walk .next)) (f .1 .1 .0) t)
+    leb-false rs (y .walk .next) (and-false (eqb (y .place) PLACE-SYNCHRONISING || eqb (y .place) PLACE-RAISED) (leb rs (y .walk .next)) (f .1 .1 .0) turn)
 
 -- At 5 a reader is damaged by its pick alone.
-pub picked-rows : (ss : ℕ) (x : Reader) → x .place ≡ 5 → anyTrue (readerRows ss x) ≡ leb ss (x .picked)
+pub picked-rows : (ss : ℕ) (x : Reader) → x .place ≡ PLACE-PICKED → anyTrue (readerRows ss x) ≡ leb ss (x .picked)
 picked-rows ss x e = rw e (or-none (leb ss (x .picked)))
 
 abbrev pub law : KindLaw damageRules
@@ -70,7 +70,7 @@ law = record {
   reader-picked = λ rs ss x e f. leb-false ss (x .picked) (sym (picked-rows ss x e) ∙ f);
   extraDamage = λ rs y. anyTrue (extraRows rs y);
   extra-rows = λ rs ss y. refl;
-  extra-early = λ rs y l. extra-clear rs y (omega arith) (λ e. omega arith) (λ a b. absurd (omega arith));
+  extra-early = λ rs y l. extra-clear rs y (omega arith) (λ e. omega arith) (λ low high. absurd (omega arith));
   extra-beyond = λ rs y e. ltb-false 38 (y .place) (all-false (extraRows rs y) e .0);
 }
 
@@ -78,50 +78,50 @@ law = record {
 pub record Shown (ver n r : ℕ) (x : Reader) : Type 0 where
   pub first-low : x .first ≤ ver
   pub second-low : x .second ≤ ver
-  pub shown : 2 ≤ x .place → x .published ≤ ver
-  pub out : r < n → x .place ≤ 1 → x .published ≡ NOT-READING
+  pub shown : PLACE-PUBLISHED ≤ x .place → x .published ≤ ver
+  pub out : r < n → x .place ≤ PLACE-LOADED → x .published ≡ NOT-READING
 
 -- A synchronise waits for a reader that published a version below its mark and that its walk has not passed.
-pub record Behind (n : ℕ) (x : Reader) (k : WalkRecord) (r : ℕ) : Type 0 where
-  pub below : x .published < k .mark
-  pub unpassed : (i : ℕ) → i < k .next → lookedAt n i ≢ r
+pub record Behind (n : ℕ) (x : Reader) (walk : WalkRecord) (r : ℕ) : Type 0 where
+  pub below : x .published < walk .mark
+  pub unpassed : (j : ℕ) → j < walk .next → lookedAt n j ≢ r
 
 abbrev pub detector : Detector
 detector = record {
   Behind = λ n x y r. Behind n x (y .walk) r;
-  early = λ n x y y′ r e low b. rw e b;
+  early = λ n x y y′ r e low behind. rw e behind;
   passed = λ y. y .walk .next;
-  Readers = λ ver n ind R. (r : ℕ) → Shown ver n r (R r);
+  Readers = λ ver n ind X. (r : ℕ) → Shown ver n r (X r);
 }
 
 -- ENTER, by the place.
 module _ (ver cur : ℕ) where
-  onward-shown : (n r : ℕ) (x : Reader) (pl : ℕ) → pl ≤ 4 → Shown ver n r (x place≔ pl)
+  onward-shown : (n r : ℕ) (x : Reader) (pl : ℕ) → pl ≤ PLACE-OPEN → Shown ver n r (x place≔ pl)
       → Shown ver n r (onward ver cur (x place≔ pl))
   unfolding onward
-  onward-shown n r x zero l o = record { first-low = omega arith; second-low = o .second-low; shown = λ q. absurd (omega arith); out = λ rn q. o .out rn (omega arith) }
-  onward-shown n r x (suc zero) l o = record { first-low = o .first-low; second-low = o .second-low; shown = λ q. o .first-low; out = λ rn q. absurd (omega arith) }
-  onward-shown n r x (suc (suc zero)) l o = record { first-low = o .first-low; second-low = omega arith; shown = λ q. o .shown (omega arith); out = λ rn q. absurd (omega arith) }
-  onward-shown n r x (suc (suc (suc zero))) l o = record {
-    first-low = o .first-low;
-    second-low = o .second-low;
-    shown = λ q. pick-split (λ (v : ℕ). v ≤ ver) (eqb (x .first) (x .second)) (λ _. o .shown (omega arith)) (λ _. o .second-low);
-    out = λ rn q. absurd (omega arith);
+  onward-shown n r x zero l was = record { first-low = omega arith; second-low = was .second-low; shown = λ l′. absurd (omega arith); out = λ rn l′. was .out rn (omega arith) }
+  onward-shown n r x (suc zero) l was = record { first-low = was .first-low; second-low = was .second-low; shown = λ l′. was .first-low; out = λ rn l′. absurd (omega arith) }
+  onward-shown n r x (suc (suc zero)) l was = record { first-low = was .first-low; second-low = omega arith; shown = λ l′. was .shown (omega arith); out = λ rn l′. absurd (omega arith) }
+  onward-shown n r x (suc (suc (suc zero))) l was = record {
+    first-low = was .first-low;
+    second-low = was .second-low;
+    shown = λ l′. pick-split (λ (m : ℕ). m ≤ ver) (eqb (x .first) (x .second)) (λ _. was .shown (omega arith)) (λ _. was .second-low);
+    out = λ rn l′. absurd (omega arith);
   }
-  onward-shown n r x (suc (suc (suc (suc zero)))) l o = record { first-low = o .first-low; second-low = o .second-low; shown = λ q. o .shown (omega arith); out = λ rn q. absurd (omega arith) }
-  onward-shown n r x (suc (suc (suc (suc (suc pl))))) l o = absurd (omega arith)
+  onward-shown n r x (suc (suc (suc (suc zero)))) l was = record { first-low = was .first-low; second-low = was .second-low; shown = λ l′. was .shown (omega arith); out = λ rn l′. absurd (omega arith) }
+  onward-shown n r x (suc (suc (suc (suc (suc pl))))) l was = absurd (omega arith)
 
   -- .. the place and one number more.
-  onward-stays : (x : Reader) (pl : ℕ) → pl ≤ 4 → PlaceAndOne (x place≔ pl) (onward ver cur (x place≔ pl))
+  onward-stays : (x : Reader) (pl : ℕ) → pl ≤ PLACE-OPEN → PlaceAndOne (x place≔ pl) (onward ver cur (x place≔ pl))
   unfolding onward
-  onward-stays x zero l = place-and-one _ _ 1 (λ n. absurd (n refl)) (λ _. refl) (λ _. refl) (λ _. refl)
-  onward-stays x (suc zero) l = place-and-one _ _ 3 (λ _. refl) (λ _. refl) (λ n. absurd (n refl)) (λ _. refl)
-  onward-stays x (suc (suc zero)) l = place-and-one _ _ 2 (λ _. refl) (λ n. absurd (n refl)) (λ _. refl) (λ _. refl)
-  onward-stays x (suc (suc (suc zero))) l = place-and-one _ _ 3 (λ _. refl) (λ _. refl) (λ n. absurd (n refl)) (λ _. refl)
-  onward-stays x (suc (suc (suc (suc zero)))) l = place-and-one _ _ 4 (λ _. refl) (λ _. refl) (λ _. refl) (λ n. absurd (n refl))
+  onward-stays x zero l = place-and-one _ _ 1 (λ ne. absurd (ne refl)) (λ _. refl) (λ _. refl) (λ _. refl)
+  onward-stays x (suc zero) l = place-and-one _ _ 3 (λ _. refl) (λ _. refl) (λ ne. absurd (ne refl)) (λ _. refl)
+  onward-stays x (suc (suc zero)) l = place-and-one _ _ 2 (λ _. refl) (λ ne. absurd (ne refl)) (λ _. refl) (λ _. refl)
+  onward-stays x (suc (suc (suc zero))) l = place-and-one _ _ 3 (λ _. refl) (λ _. refl) (λ ne. absurd (ne refl)) (λ _. refl)
+  onward-stays x (suc (suc (suc (suc zero)))) l = place-and-one _ _ 4 (λ _. refl) (λ _. refl) (λ _. refl) (λ ne. absurd (ne refl))
   onward-stays x (suc (suc (suc (suc (suc pl))))) l = absurd (omega arith)
 
-  pub onward-place : (x : Reader) (pl : ℕ) → pl ≤ 4 → onward ver cur (x place≔ pl) .place ≡ suc pl
+  pub onward-place : (x : Reader) (pl : ℕ) → pl ≤ PLACE-OPEN → onward ver cur (x place≔ pl) .place ≡ suc pl
   unfolding onward
   onward-place x zero l = refl
   onward-place x (suc zero) l = refl
@@ -130,7 +130,7 @@ module _ (ver cur : ℕ) where
   onward-place x (suc (suc (suc (suc zero)))) l = refl
   onward-place x (suc (suc (suc (suc (suc pl))))) l = absurd (omega arith)
 
-  onward-goes : (x : Reader) (pl : ℕ) → pl ≤ 4 → let y = onward ver cur (x place≔ pl) in Onward cur pl (x .picked) (y .place) (y .picked)
+  onward-goes : (x : Reader) (pl : ℕ) → pl ≤ PLACE-OPEN → let x′ = onward ver cur (x place≔ pl) in Onward cur pl (x .picked) (x′ .place) (x′ .picked)
   unfolding onward
   onward-goes x zero l = stays-out (omega arith) (omega arith) refl
   onward-goes x (suc zero) l = stays-out (omega arith) (omega arith) refl
@@ -139,126 +139,126 @@ module _ (ver cur : ℕ) where
   onward-goes x (suc (suc (suc (suc zero)))) l = picks refl refl refl
   onward-goes x (suc (suc (suc (suc (suc pl))))) l = absurd (omega arith)
 
-  onward-fits : (slots : ℕ) (x : Reader) (pl : ℕ) → pl ≤ 4 → cur < slots → AllFalse (readerRows slots (x place≔ pl))
+  onward-fits : (slots : ℕ) (x : Reader) (pl : ℕ) → pl ≤ PLACE-OPEN → cur < slots → AllFalse (readerRows slots (x place≔ pl))
       → AllFalse (readerRows slots (onward ver cur (x place≔ pl)))
   unfolding onward
-  onward-fits slots x zero l c h = (refl, (refl, (refl, tt)))
-  onward-fits slots x (suc zero) l c h = (refl, (refl, (rw (same (x .first)) refl, tt)))
-  onward-fits slots x (suc (suc zero)) l c h = (refl, (refl, (h .1 .1 .0, tt)))
-  onward-fits slots x (suc (suc (suc zero))) l c h = (refl, (refl, (refl, tt)))
-  onward-fits slots x (suc (suc (suc (suc zero)))) l c h = (refl, (lt-leb slots cur c, (refl, tt)))
-  onward-fits slots x (suc (suc (suc (suc (suc pl))))) l c h = absurd (omega arith)
+  onward-fits slots x zero l low rows-were = (refl, (refl, (refl, tt)))
+  onward-fits slots x (suc zero) l low rows-were = (refl, (refl, (rw (same (x .first)) refl, tt)))
+  onward-fits slots x (suc (suc zero)) l low rows-were = (refl, (refl, (rows-were .1 .1 .0, tt)))
+  onward-fits slots x (suc (suc (suc zero))) l low rows-were = (refl, (refl, (refl, tt)))
+  onward-fits slots x (suc (suc (suc (suc zero)))) l low rows-were = (refl, (lt-leb slots cur low, (refl, tt)))
+  onward-fits slots x (suc (suc (suc (suc (suc pl))))) l low rows-were = absurd (omega arith)
 
-onward-published : (ver cur : ℕ) (x : Reader) → 4 ≤ x .place → onward ver cur x .published ≡ x .published
+onward-published : (ver cur : ℕ) (x : Reader) → PLACE-OPEN ≤ x .place → onward ver cur x .published ≡ x .published
 unfolding onward
-onward-published ver cur x l = rw (ne-eqb (x .place) 0 (λ z. omega arith), ne-eqb (x .place) 1 (λ z. omega arith), ne-eqb (x .place) 2 (λ z. omega arith), ne-eqb (x .place) 3 (λ z. omega arith)) refl
+onward-published ver cur x l = rw (ne-eqb (x .place) 0 (λ eq. omega arith), ne-eqb (x .place) 1 (λ eq. omega arith), ne-eqb (x .place) 2 (λ eq. omega arith), ne-eqb (x .place) 3 (λ eq. omega arith)) refl
 
 -- Each of the kind's own steps keeps the invariant.
 module _ (z : Given) (g : Ghost) (s : State) (i : WholeInvariant damageRules (OwnOf detector) z g s) where
   -- What is shown of reader r as it is then and of the others.
-  shown-anew : (r : ℕ) (x : Reader) → Shown (version (s .words)) (readers (s .words)) r x → (j : ℕ) → Shown (version (s .words)) (readers (s .words)) j (upd (readerAt (s .words)) r x j)
-  shown-anew r x o = at-or r (rw (same r) o) (λ j d. rw d (i .own .readers-are j))
+  shown-anew : (r : ℕ) (x : Reader) → Shown (version (s .words)) (readers (s .words)) r x → (r′ : ℕ) → Shown (version (s .words)) (readers (s .words)) r′ (upd (readerAt (s .words)) r x r′)
+  shown-anew r x was = at-or r (rw (same r) was) (λ r′ d. rw d (i .own .readers-are r′))
 
   enter-kept : (r : ℕ) → AllClear (enterTests s r) → WholeInvariant damageRules (OwnOf detector) z (kept.advance g (Enter r) (At (entered s r .place))) (state (withReader (s .words) r (entered s r)) (s .entries))
   enter-kept r f =
       let lt : r < readers (s .words) = leb-false _ _ (f .0) in
-      let l : reader s r .place ≤ 4 = let q = leb-false 5 (reader s r .place) (f .1 .0) in omega arith in
+      let l : reader s r .place ≤ PLACE-OPEN = let less = leb-false 5 (reader s r .place) (f .1 .0) in omega arith in
       enter-invariant detector damageRules law z g s i _ r (entered s r) (reader-moves (i .shared .every .no-damage) r (entered s r) lt)
       (none-true (readerRows (slots (s .words)) (entered s r)) (onward-fits _ _ _ (reader s r) _ l (i .shared .every .no-damage .head .current-below) (all-false (readerRows (slots (s .words)) (reader s r)) (i .shared .every .no-damage .readers-undamaged r lt))))
       (shown-anew r _ (onward-shown _ _ _ _ (reader s r) _ l (i .own .readers-are r))) lt (onward-goes _ _ (reader s r) _ l)
-      (λ four y a. record { below = rw (onward-published (version (s .words)) (current (s .words)) (reader s r) four) (a .below); unpassed = a .unpassed })
+      (λ four y behind. record { below = rw (onward-published (version (s .words)) (current (s .words)) (reader s r) four) (behind .below); unpassed = behind .unpassed })
 
   leave-kept : (r : ℕ) → AllClear (leaveTests s r) → WholeInvariant damageRules (OwnOf detector) z (kept.advance g (Leave r) Left) (state (withReader (s .words) r (leaving (reader s r))) (s .entries))
   leave-kept r f = leave-invariant detector damageRules law z g s i _ r (leaving (reader s r)) (reader-moves (i .shared .every .no-damage) r (leaving (reader s r)) (leb-false _ _ (f .0))) refl
-      (shown-anew r _ (let o = i .own .readers-are r in record { first-low = o .first-low; second-low = o .second-low; shown = λ q. absurd (omega arith); out = λ rn q. refl })) refl
+      (shown-anew r _ (let was = i .own .readers-are r in record { first-low = was .first-low; second-low = was .second-low; shown = λ l′. absurd (omega arith); out = λ rn l′. refl })) refl
 
   sync-kept : (p : ℕ) → AllClear (syncTests versions s p) → WholeInvariant damageRules (OwnOf detector) z (kept.advance g (Sync p) (Synced (version (s .words) + 1))) (sync versions s p .after)
   sync-kept p f = sync-invariant detector damageRules law z g s i p f
-      (extra-clear (readers (s .words)) (publisher s p atPlace 35 walk≔ newWalk (publisher s p .walk) (version (s .words) + 1)) (omega arith) (λ e. omega arith) (λ a b. omega (arith, i .shared .every .no-damage .head .readers-low)))
-      refl (λ r l. record { below = omega (arith, i .own .readers-are r .shown (omega arith)); unpassed = λ j a. absurd (omega arith) })
+      (extra-clear (readers (s .words)) (publisher s p atPlace PLACE-SYNCHRONISING walk≔ newWalk (publisher s p .walk) (version (s .words) + 1)) (omega arith) (λ e. omega arith) (λ l l′. omega (arith, i .shared .every .no-damage .head .readers-low)))
+      refl (λ r l. record { below = omega (arith, i .own .readers-are r .shown (omega arith)); unpassed = λ j l′. absurd (omega arith) })
 
-  raise-kept : (p : ℕ) → p < publishers (s .words) → eqb (publisher s p .place) 35 ≡ true → WholeInvariant damageRules (OwnOf detector) z (kept.advance g (Raise p) (raise versions s p .reply)) (raise versions s p .after)
+  raise-kept : (p : ℕ) → p < publishers (s .words) → eqb (publisher s p .place) PLACE-SYNCHRONISING ≡ true → WholeInvariant damageRules (OwnOf detector) z (kept.advance g (Raise p) (raise versions s p .reply)) (raise versions s p .after)
   raise-kept p lt turn =
       let at35 = eqb-true (publisher s p .place) 35 turn in
       raise-invariant detector damageRules law z g s i p lt (omega arith) (omega arith)
-      (extra-clear (readers (s .words)) (publisher s p atPlace 37) (omega arith) (λ e. omega arith) (λ a b. next-below _ _ (publisher s p) (i .shared .every .no-damage .publishers-undamaged p lt) (rw at35 refl)))
-      refl (λ r a. a)
-      (λ e r. let o = i .own .readers-are r in record { first-low = omega (arith, o .first-low); second-low = omega (arith, o .second-low); shown = λ q. omega (arith, o .shown q); out = o .out })
+      (extra-clear (readers (s .words)) (publisher s p atPlace PLACE-RAISED) (omega arith) (λ e. omega arith) (λ l l′. next-below _ _ (publisher s p) (i .shared .every .no-damage .publishers-undamaged p lt) (rw at35 refl)))
+      refl (λ r behind. behind)
+      (λ e r. let was = i .own .readers-are r in record { first-low = omega (arith, was .first-low); second-low = omega (arith, was .second-low); shown = λ l′. omega (arith, was .shown l′); out = was .out })
 
   -- A walk from the numbers of publisher p.
-  module _ (p b : ℕ) (lt : p < publishers (s .words)) (at37 : publisher s p .place ≡ 37) where
+  module _ (p b : ℕ) (lt : p < publishers (s .words)) (at37 : publisher s p .place ≡ PLACE-RAISED) where
     pub came : LooksFacts (s .words) (readers (s .words)) (publisher s p .walk .mark) b (publisher s p .walk .next) (publisher s p .walk .looks) (publisher s p .walk .waits) (looksOf s (publisher s p .walk) b)
     came = looks-facts (s .words) (readers (s .words)) (publisher s p .walk .mark) (publisher s p .walk .waits) b (publisher s p .walk .next) (publisher s p .walk .looks)
         (next-below _ _ (publisher s p) (i .shared .every .no-damage .publishers-undamaged p lt) (rw at37 refl))
 
     -- A reader waited for has not been passed.
     still-behind : (r : ℕ) → g .pend p r ≡ true → Behind (readers (s .words)) (reader s r) (looksOf s (publisher s p .walk) b .walk) r
-    still-behind r e = let a = i .own .behind p r e in record {
-      below = rw (came .mark-same) (a .below);
-      unpassed = λ j l z. old a j l z (ltb j (publisher s p .walk .next)) refl;
+    still-behind r e = let was = i .own .behind p r e in record {
+      below = rw (came .mark-same) (was .below);
+      unpassed = λ j l e′. old was j l e′ (ltb j (publisher s p .walk .next)) refl;
     }
       where
         old : Behind (readers (s .words)) (reader s r) (publisher s p .walk) r → (j : ℕ) → j < looksOf s (publisher s p .walk) b .walk .next → lookedAt (readers (s .words)) j ≡ r → (d : Bool) → ltb j (publisher s p .walk .next) ≡ d → ⊥
-        old a j l z true d = a .unpassed j (ltb-true _ _ d) z
-        old a j l z false d = omega (arith, a .below, subst (λ (q : ℕ). publisher s p .walk .mark ≤ readerAt (s .words) q .published) z (came .passed j (ltb-false _ _ d) l))
+        old was j l e′ true d = was .unpassed j (ltb-true _ _ d) e′
+        old was j l e′ false d = omega (arith, was .below, subst (λ (r′ : ℕ). publisher s p .walk .mark ≤ readerAt (s .words) r′ .published) e′ (came .passed j (ltb-false _ _ d) l))
 
     pub none-pending : looksOf s (publisher s p .walk) b .walk .next ≡ readers (s .words) → (r : ℕ) → g .pend p r ≡ false
     none-pending all r = by-test (g .pend p r) (λ e.
         let rn : r < readers (s .words) = i .shared .every .core .readers r .bound (omega (arith, i .shared .grace .awaited p r e .opened)) in
-        let a = lookedAt-all (readers (s .words)) r rn in
-        still-behind r e .unpassed (a .0) (omega (arith, a .1)) (a .2))
+        let looked = lookedAt-all (readers (s .words)) r rn in
+        still-behind r e .unpassed (looked .0) (omega (arith, looked .1)) (looked .2))
 
     abbrev EndsHere : ℕ → ℕ → ℕ → WalkReply → Type 0
-    EndsHere nx lk wt o = Ends (s .words) (readers (s .words)) (publisher s p .walk .mark) (publisher s p .walk .next) b nx lk wt o
+    EndsHere nx lk wt a = Ends (s .words) (readers (s .words)) (publisher s p .walk .mark) (publisher s p .walk .next) b nx lk wt a
 
-    returned-all : (o : WalkReply) (nx lk wt : ℕ) → EndsHere nx lk wt o → placeAfter 37 o ≡ 38 → nx ≡ readers (s .words)
-    returned-all (Waiting r) nx lk wt e z = absurd (omega arith)
-    returned-all Spent nx lk wt e z = absurd (omega arith)
-    returned-all Quiet nx lk wt e z = absurd e
-    returned-all (Returned l u) nx lk wt e z = e .0
+    returned-all : (a : WalkReply) (nx lk wt : ℕ) → EndsHere nx lk wt a → placeAfter 37 a ≡ PLACE-RETURNED → nx ≡ readers (s .words)
+    returned-all (Waiting r) nx lk wt e e′ = absurd (omega arith)
+    returned-all Spent nx lk wt e e′ = absurd (omega arith)
+    returned-all Quiet nx lk wt e e′ = absurd e
+    returned-all (Returned looks waits) nx lk wt e e′ = e .0
 
-    after-clear : (o : WalkReply) (k : WalkRecord) → EndsHere (k .next) (k .looks) (k .waits) o → anyTrue (extraRows (readers (s .words)) (publisher s p atPlace (placeAfter 37 o) walk≔ k)) ≡ false
-    after-clear (Waiting r) k e = extra-clear (readers (s .words)) (publisher s p atPlace 37 walk≔ k) (omega arith) (λ z. omega arith) (λ c d. e .0)
-    after-clear Spent k e = extra-clear (readers (s .words)) (publisher s p atPlace 37 walk≔ k) (omega arith) (λ z. omega arith) (λ c d. e .0)
-    after-clear Quiet k e = absurd e
-    after-clear (Returned a c) k e = extra-clear (readers (s .words)) (publisher s p atPlace 38 walk≔ k) (omega arith) (λ z. omega arith) (λ c d. absurd (omega arith))
+    after-clear : (a : WalkReply) (walk : WalkRecord) → EndsHere (walk .next) (walk .looks) (walk .waits) a → anyTrue (extraRows (readers (s .words)) (publisher s p atPlace (placeAfter 37 a) walk≔ walk)) ≡ false
+    after-clear (Waiting r) walk e = extra-clear (readers (s .words)) (publisher s p atPlace PLACE-RAISED walk≔ walk) (omega arith) (λ eq. omega arith) (λ l l′. e .0)
+    after-clear Spent walk e = extra-clear (readers (s .words)) (publisher s p atPlace PLACE-RAISED walk≔ walk) (omega arith) (λ eq. omega arith) (λ l l′. e .0)
+    after-clear Quiet walk e = absurd e
+    after-clear (Returned looks waits) walk e = extra-clear (readers (s .words)) (publisher s p atPlace PLACE-RETURNED walk≔ walk) (omega arith) (λ eq. omega arith) (λ l l′. absurd (omega arith))
 
     still-counted : looksOf s (publisher s p .walk) b .walk .looks ≡ looksOf s (publisher s p .walk) b .walk .next + looksOf s (publisher s p .walk) b .walk .waits
     still-counted = omega (arith, came .counted, i .own .counted p (omega arith))
 
     walk-kept : WholeInvariant damageRules (OwnOf detector) z (kept.advance g (Walk p b) (Walked (looksOf s (publisher s p .walk) b .reply))) (walk s p (looksOf s (publisher s p .walk) b) .after)
     walk-kept =
-        let k = looksOf s (publisher s p .walk) b in
-        walk-invariant detector damageRules law z g s i p b lt (omega arith) (omega arith) k (came .waits-are) still-counted
-        (λ e. none-pending (returned-all (k .reply) _ _ _ (came .ends) (rw at37 at e))) (came .mark-same) (rw at37 (after-clear (k .reply) (k .walk) (came .ends))) still-behind
+        let progress = looksOf s (publisher s p .walk) b in
+        walk-invariant detector damageRules law z g s i p b lt (omega arith) (omega arith) progress (came .waits-are) still-counted
+        (λ e. none-pending (returned-all (progress .reply) _ _ _ (came .ends) (rw at37 at e))) (came .mark-same) (rw at37 (after-clear (progress .reply) (progress .walk) (came .ends))) still-behind
 
 start-shown : (z : Given) (s : State) → z .readers ≤ READERS-MAX → (r : ℕ) → Shown (version (made KIND-NEW freshReader z s .words)) (readers (made KIND-NEW freshReader z s .words)) r (readerAt (made KIND-NEW freshReader z s .words) r)
 start-shown z s high r = rw (fresh-reader KIND-NEW (z .readers) (z .publishers) (z .slots) (z .version) freshReader r)
     (pick-split (λ (x : Reader). Shown (version (made KIND-NEW freshReader z s .words)) (readers (made KIND-NEW freshReader z s .words)) r x) (ltb r READERS-MAX)
-    (λ _. record { first-low = omega arith; second-low = omega arith; shown = λ q. absurd (omega arith); out = λ rn q. refl })
+    (λ _. record { first-low = omega arith; second-low = omega arith; shown = λ l′. absurd (omega arith); out = λ rn l′. refl })
     (λ e. record {
       first-low = omega arith;
       second-low = omega arith;
-      shown = λ q. absurd (omega arith);
-      out = λ rn q. absurd (omega (arith, ltb-false r READERS-MAX e, fresh-head KIND-NEW (z .readers) (z .publishers) (z .slots) (z .version) freshReader READERS-AT (omega arith)));
+      shown = λ l′. absurd (omega arith);
+      out = λ rn l′. absurd (omega (arith, ltb-false r READERS-MAX e, fresh-head KIND-NEW (z .readers) (z .publishers) (z .slots) (z .version) freshReader READERS-AT (omega arith)));
     }))
 
 -- The numbers that a return comes with.
-return-numbers : (w : List ℕ) (n mark start b l u nx lk wt : ℕ) (o : WalkReply) → Ends w n mark start b nx lk wt o → o ≡ Returned l u → (nx ≡ n) × (l ≡ lk) × (u ≡ wt)
-return-numbers w n mark start b l u nx lk wt (Waiting r) e q = absurd (let y : _≡_ {A = ℕ} 0 1 = cc in omega arith)
-return-numbers w n mark start b l u nx lk wt Spent e q = absurd (let y : _≡_ {A = ℕ} 0 1 = cc in omega arith)
-return-numbers w n mark start b l u nx lk wt Quiet e q = absurd e
-return-numbers w n mark start b l u nx lk wt (Returned c d) e q = let f : c ≡ l = cc in let g : d ≡ u = cc in (e .0, sym f ∙ e .2, sym g ∙ e .3)
+return-numbers : (w : List ℕ) (n mark start b looks waits nx lk wt : ℕ) (a : WalkReply) → Ends w n mark start b nx lk wt a → a ≡ Returned looks waits → (nx ≡ n) × (looks ≡ lk) × (waits ≡ wt)
+return-numbers w n mark start b looks waits nx lk wt (Waiting r) e e′ = absurd (let no : _≡_ {A = ℕ} 0 1 = cc in omega arith)
+return-numbers w n mark start b looks waits nx lk wt Spent e e′ = absurd (let no : _≡_ {A = ℕ} 0 1 = cc in omega arith)
+return-numbers w n mark start b looks waits nx lk wt Quiet e e′ = absurd e
+return-numbers w n mark start b looks waits nx lk wt (Returned looks′ waits′) e e′ = let same-looks : looks′ ≡ looks = cc in let same-waits : waits′ ≡ waits = cc in (e .0, sym same-looks ∙ e .2, sym same-waits ∙ e .3)
 
-return-shown : (z : Given) (g : Ghost) (s : State) (i : WholeInvariant damageRules (OwnOf detector) z g s) (p b l w : ℕ) → p < publishers (s .words) → eqb (publisher s p .place) 37 ≡ true
-    → looksOf s (publisher s p .walk) b .reply ≡ Returned l w → Back traits z g p l w
-return-shown z g s i p b l w lt turn q =
+return-shown : (z : Given) (g : Ghost) (s : State) (i : WholeInvariant damageRules (OwnOf detector) z g s) (p b looks waits : ℕ) → p < publishers (s .words) → eqb (publisher s p .place) PLACE-RAISED ≡ true
+    → looksOf s (publisher s p .walk) b .reply ≡ Returned looks waits → Back traits z g p looks waits
+return-shown z g s i p b looks waits lt turn e =
     let at37 = eqb-true (publisher s p .place) 37 turn in
-    let k = looksOf s (publisher s p .walk) b in
-    let o = came z g s i p b lt at37 in
-    let n = return-numbers (s .words) (readers (s .words)) (publisher s p .walk .mark) (publisher s p .walk .next) b l w (k .walk .next) (k .walk .looks) (k .walk .waits) (k .reply) (o .ends) q in
-    return-from-invariant detector damageRules law z g s i p b lt (omega arith) (omega arith) k (o .waits-are) (still-counted z g s i p b lt at37) traits l w at37 q
-    (none-pending z g s i p b lt at37 (n .0)) (n .1) (n .2) (n .0 ∙ i .shared .every .sized .readers-are)
+    let progress = looksOf s (publisher s p .walk) b in
+    let facts = came z g s i p b lt at37 in
+    let numbers = return-numbers (s .words) (readers (s .words)) (publisher s p .walk .mark) (publisher s p .walk .next) b looks waits (progress .walk .next) (progress .walk .looks) (progress .walk .waits) (progress .reply) (facts .ends) e in
+    return-from-invariant detector damageRules law z g s i p b lt (omega arith) (omega arith) progress (facts .waits-are) (still-counted z g s i p b lt at37) traits looks waits at37 e
+    (none-pending z g s i p b lt at37 (numbers .0)) (numbers .1) (numbers .2) (numbers .0 ∙ i .shared .every .sized .readers-are)
 
 no-looks : (s : State) (p : ℕ) → looksOf s (publisher s p .walk) 0 ≡ record { walk = publisher s p .walk; reply = Spent }
 unfolding looksFrom
@@ -272,10 +272,10 @@ kind-shows = record {
   lacks-is = λ c. refl;
   exclusive-is = refl;
   successor-is = refl;
-  raises-in = λ x. refl;
-  walks-in = λ x. refl;
-  last-fits = λ v l. le-ltb LAST v l;
-  below-last = λ v l. ne-eqb v LAST (λ e. omega arith);
+  raises-in = λ phase. refl;
+  walks-in = λ phase. refl;
+  last-fits = λ ver l. le-ltb LAST ver l;
+  below-last = λ ver l. ne-eqb ver LAST (λ e. omega arith);
   raises-late = λ pl l. ne-eqb pl 35 (λ e. omega arith);
   walks-late = λ pl l. ne-eqb pl 37 (λ e. omega arith);
   mark-stays = λ s p b. looks-mark (s .words) (readers (s .words)) (publisher s p .walk .mark) (publisher s p .walk .waits) b (publisher s p .walk .next) (publisher s p .walk .looks);
@@ -290,8 +290,8 @@ kind-shows = record {
   left = λ s r. leaving (reader s r);
   leave-moves = λ s f r l. reader-moves f r (leaving (reader s r)) l;
   enter-place = λ s f r l low. onward-place (version (s .words)) (current (s .words)) (reader s r) (reader s r .place) low;
-  enter-head = λ _ s r k l. head-reader (s .words) r (entered s r) k l;
-  leave-head = λ _ s r k l. head-reader (s .words) r (leaving (reader s r)) k l;
+  enter-head = λ _ s r j l. head-reader (s .words) r (entered s r) j l;
+  leave-head = λ _ s r j l. head-reader (s .words) r (leaving (reader s r)) j l;
   enter-stays = λ s r low. onward-stays (version (s .words)) (current (s .words)) (reader s r) (reader s r .place) low;
   leave-stays = λ s r. record { first = refl; second = refl; published = λ e. clash e; picked = refl };
   enter-kept = enter-kept;

@@ -8,7 +8,7 @@ use Rattle.base.specs.Base.{pick}
 use Rattle.base.specs.Rows.{anyTrue}
 use Rattle.calls.specs.declared.WalkReply.{WalkReply}
 use Rattle.calls.specs.declared.WalkReply.the-variants.{Waiting, Spent, Returned}
-use Rattle.calls.specs.Numbers.{NOT-READING, KIND-NEW}
+use Rattle.calls.specs.Numbers.{NOT-READING, KIND-NEW, PLACE-OUT, PLACE-LOADED, PLACE-PUBLISHED, PLACE-LOADED-AGAIN, PLACE-OPEN, PLACE-PICKED, PLACE-SYNCHRONISING, PLACE-QUIET, PLACE-RAISED, PLACE-RETURNED}
 use Rattle.layout.specs.declared.Reader.{Reader}
 use Rattle.layout.specs.declared.Publisher.{Publisher}
 use Rattle.layout.specs.declared.WalkRecord.{WalkRecord}
@@ -31,17 +31,17 @@ versions = upTo LAST
 -- A place that the kind does not have; a picked slot too large; at 2 or 3 a published version unlike the first loaded.
 abbrev pub readerRows : ℕ → Reader → List Bool
 readerRows slots x =
-    ltb 5 (x .place)
+    ltb PLACE-PICKED (x .place)
     ∷ wrongPick slots x
-    ∷ ((eqb (x .place) 2 || eqb (x .place) 3) && not (eqb (x .published) (x .first)))
+    ∷ ((eqb (x .place) PLACE-PUBLISHED || eqb (x .place) PLACE-LOADED-AGAIN) && not (eqb (x .published) (x .first)))
     ∷ []
 
 -- A place that the kind does not have (36 is the old store's); at 35 or 37 next not below readers.
 abbrev pub extraRows : ℕ → Publisher → List Bool
 extraRows readers y =
-    ltb 38 (y .place)
-    ∷ eqb (y .place) 36
-    ∷ ((eqb (y .place) 35 || eqb (y .place) 37) && leb readers (y .walk .next))
+    ltb PLACE-RETURNED (y .place)
+    ∷ eqb (y .place) PLACE-QUIET
+    ∷ ((eqb (y .place) PLACE-SYNCHRONISING || eqb (y .place) PLACE-RAISED) && leb readers (y .walk .next))
     ∷ []
 
 abbrev pub damageRules : DamageRules
@@ -56,18 +56,18 @@ damageRules = record {
 -- 3 to 4 publishes the second if the two differ; 4 to 5 picks the current slot.
 unfoldable pub onward : ℕ → ℕ → Reader → Reader
 onward version current x =
-    pick (eqb (x .place) 0) (x place≔ 1 first≔ version)
-    (pick (eqb (x .place) 1) (x place≔ 2 published≔ x .first)
-    (pick (eqb (x .place) 2) (x place≔ 3 second≔ version)
-    (pick (eqb (x .place) 3) (x place≔ 4 published≔ pick (eqb (x .first) (x .second)) (x .published) (x .second))
-    (x place≔ 5 picked≔ current))))
+    pick (eqb (x .place) PLACE-OUT) (x place≔ PLACE-LOADED first≔ version)
+    (pick (eqb (x .place) PLACE-LOADED) (x place≔ PLACE-PUBLISHED published≔ x .first)
+    (pick (eqb (x .place) PLACE-PUBLISHED) (x place≔ PLACE-LOADED-AGAIN second≔ version)
+    (pick (eqb (x .place) PLACE-LOADED-AGAIN) (x place≔ PLACE-OPEN published≔ pick (eqb (x .first) (x .second)) (x .published) (x .second))
+    (x place≔ PLACE-PICKED picked≔ current))))
 
 abbrev pub entered : State → ℕ → Reader
 entered s r = onward (version (s .words)) (current (s .words)) (reader s r)
 
 -- LEAVE r goes to 0 and publishes NOT_READING. The slot that was picked stays in its word, and counts no more.
 abbrev pub leaving : Reader → Reader
-leaving x = x place≔ 0 published≔ NOT-READING
+leaving x = x place≔ PLACE-OUT published≔ NOT-READING
 
 -- The reader that a walk looks at when i of n readers have passed.
 abbrev pub lookedAt : ℕ → ℕ → ℕ
@@ -89,7 +89,7 @@ looksFrom w n mark waits (suc b) next looks =
     (looksFrom w n mark waits b (next + 1) (looks + 1)))
 
 abbrev pub looksOf : State → WalkRecord → ℕ → Progress
-looksOf s k b = looksFrom (s .words) (readers (s .words)) (k .mark) (k .waits) b (k .next) (k .looks)
+looksOf s walk b = looksFrom (s .words) (readers (s .words)) (walk .mark) (walk .waits) b (walk .next) (walk .looks)
 
 -- A fresh reader's published version is NOT_READING, in all 64 records.
 abbrev pub freshReader : Reader
@@ -105,8 +105,8 @@ fixed = record {
   enterWords = λ s r. withReader (s .words) r (entered s r);
   leaveWords = λ s r. withReader (s .words) r (leaving (reader s r));
   exclusive = false;
-  raisesAt = λ place. eqb place 35;
-  walksAt = λ place. eqb place 37;
+  raisesAt = λ place. eqb place PLACE-SYNCHRONISING;
+  walksAt = λ place. eqb place PLACE-RAISED;
   looks = λ s p b. looksOf s (publisher s p .walk) b;
 }
 

@@ -19,7 +19,7 @@ traits = record {
     walksIn = inPhase raised;
   };
   passes = λ z. z .readers;
-  successor = λ v. v + 1;
+  successor = λ ver. ver + 1;
   onward = suc;
   publishes = true;
 }

@@ -19,8 +19,8 @@ use Rattle.grace_version_law.specs.Steps.{lookedAt, walkResult, looksFro
 pub lookedAt-all : (n r : ℕ) → r < n → (i : ℕ) × (i < n) × (lookedAt n i ≡ r)
 lookedAt-all n r l = (r, l, refl)
 
-not-below : (a b c : ℕ) → c ≤ b → ltb a b ≡ false → c ≤ a
-not-below a b c l e = omega (arith, ltb-false a b e)
+not-below : (i j n : ℕ) → n ≤ j → ltb i j ≡ false → n ≤ i
+not-below i j n l e = omega (arith, ltb-false i j e)
 
 -- What an answer says of the numbers that it comes with, in a walk that began at `start` with up to b looks:
 -- waiting names the reader looked at last, which did not pass; spent that b looks all passed and next is still below the count; returned that all passed.
@@ -28,50 +28,50 @@ abbrev pub Ends : List ℕ → ℕ → ℕ → ℕ → ℕ → ℕ → ℕ → �
 Ends w n mark start b next looks waits (Waiting r) = (next < n) × (next < start + b) × (r ≡ lookedAt n next) × (readerAt w r .published < mark)
 Ends w n mark start b next looks waits Spent = (next < n) × (next ≡ start + b)
 Ends w n mark start b next looks waits Quiet = ⊥
-Ends w n mark start b next looks waits (Returned l u) = (next ≡ n) × (next ≤ start + b) × (l ≡ looks) × (u ≡ waits)
+Ends w n mark start b next looks waits (Returned looks′ waits′) = (next ≡ n) × (next ≤ start + b) × (looks′ ≡ looks) × (waits′ ≡ waits)
 
-pub record LooksFacts (w : List ℕ) (n mark b next looks waits : ℕ) (k : Progress) : Type 0 where
-  pub mark-same : k .walk .mark ≡ mark
-  pub ahead : next ≤ k .walk .next
-  pub passed : (i : ℕ) → next ≤ i → i < k .walk .next → mark ≤ readerAt w (lookedAt n i) .published
-  pub ends : Ends w n mark next b (k .walk .next) (k .walk .looks) (k .walk .waits) (k .reply)
+pub record LooksFacts (w : List ℕ) (n mark b next looks waits : ℕ) (progress : Progress) : Type 0 where
+  pub mark-same : progress .walk .mark ≡ mark
+  pub ahead : next ≤ progress .walk .next
+  pub passed : (i : ℕ) → next ≤ i → i < progress .walk .next → mark ≤ readerAt w (lookedAt n i) .published
+  pub ends : Ends w n mark next b (progress .walk .next) (progress .walk .looks) (progress .walk .waits) (progress .reply)
   -- each look passed a reader or waited
-  pub counted : k .walk .looks + next + waits ≡ looks + k .walk .next + k .walk .waits
-  pub waits-are : k .walk .waits ≡ waitsAfter waits (k .reply)
+  pub counted : progress .walk .looks + next + waits ≡ looks + progress .walk .next + progress .walk .waits
+  pub waits-are : progress .walk .waits ≡ waitsAfter waits (progress .reply)
 
 module _ (w : List ℕ) (n mark waits : ℕ) where
-  ends-later : (start b nx lk wt : ℕ) (o : WalkReply) → Ends w n mark (start + 1) b nx lk wt o → Ends w n mark start (suc b) nx lk wt o
+  ends-later : (start b nx lk wt : ℕ) (a : WalkReply) → Ends w n mark (start + 1) b nx lk wt a → Ends w n mark start (suc b) nx lk wt a
   ends-later start b nx lk wt (Waiting r) e = (e .0, omega (arith, e .1), e .2, e .3)
   ends-later start b nx lk wt Spent e = (e .0, omega (arith, e .1))
   ends-later start b nx lk wt Quiet e = e
-  ends-later start b nx lk wt (Returned l u) e = (e .0, omega (arith, e .1), e .2, e .3)
+  ends-later start b nx lk wt (Returned looks′ waits′) e = (e .0, omega (arith, e .1), e .2, e .3)
 
-  passed-one : (b next looks : ℕ) (k : Progress) → mark ≤ readerAt w (lookedAt n next) .published → LooksFacts w n mark b (next + 1) (looks + 1) waits k → LooksFacts w n mark (suc b) next looks waits k
-  passed-one b next looks k e o = record {
-    mark-same = o .mark-same;
-    ahead = omega (arith, o .ahead);
-    passed = λ i a c. go i c (eqb i next) refl a;
-    ends = ends-later next b (k .walk .next) (k .walk .looks) (k .walk .waits) (k .reply) (o .ends);
-    counted = omega (arith, o .counted);
-    waits-are = o .waits-are;
+  passed-one : (b next looks : ℕ) (progress : Progress) → mark ≤ readerAt w (lookedAt n next) .published → LooksFacts w n mark b (next + 1) (looks + 1) waits progress → LooksFacts w n mark (suc b) next looks waits progress
+  passed-one b next looks progress e facts = record {
+    mark-same = facts .mark-same;
+    ahead = omega (arith, facts .ahead);
+    passed = λ i low high. go i high (eqb i next) refl low;
+    ends = ends-later next b (progress .walk .next) (progress .walk .looks) (progress .walk .waits) (progress .reply) (facts .ends);
+    counted = omega (arith, facts .counted);
+    waits-are = facts .waits-are;
   }
     where
-      go : (i : ℕ) → i < k .walk .next → (d : Bool) → eqb i next ≡ d → next ≤ i → mark ≤ readerAt w (lookedAt n i) .published
-      go i c true d a = rw (eqb-true i next d) e
-      go i c false d a = o .passed i (let ne = eqb-false i next d in omega arith) c
+      go : (i : ℕ) → i < progress .walk .next → (d : Bool) → eqb i next ≡ d → next ≤ i → mark ≤ readerAt w (lookedAt n i) .published
+      go i high true d low = rw (eqb-true i next d) e
+      go i high false d low = facts .passed i (let ne = eqb-false i next d in omega arith) high
 
-  -- A look that does not pass ends the walk's slice; one that passes goes on with k.
-  one-look : (waiting : Bool) (b next looks : ℕ) (k : Progress) → next < n → (waiting ≡ true → readerAt w (lookedAt n next) .published < mark) → (waiting ≡ false → mark ≤ readerAt w (lookedAt n next) .published)
-      → LooksFacts w n mark b (next + 1) (looks + 1) waits k → LooksFacts w n mark (suc b) next looks waits (pick waiting (walkResult mark next (looks + 1) (waits + 1) (Waiting (lookedAt n next))) k)
-  one-look true b next looks k l d e o = record { mark-same = refl; ahead = omega arith; passed = λ i a c. absurd (omega arith); ends = (l, omega arith, refl, d refl); counted = omega arith; waits-are = refl }
-  one-look false b next looks k l d e o = passed-one b next looks k (e refl) o
+  -- A look that does not pass ends the walk's slice; one that passes goes on with progress.
+  one-look : (waiting : Bool) (b next looks : ℕ) (progress : Progress) → next < n → (waiting ≡ true → readerAt w (lookedAt n next) .published < mark) → (waiting ≡ false → mark ≤ readerAt w (lookedAt n next) .published)
+      → LooksFacts w n mark b (next + 1) (looks + 1) waits progress → LooksFacts w n mark (suc b) next looks waits (pick waiting (walkResult mark next (looks + 1) (waits + 1) (Waiting (lookedAt n next))) progress)
+  one-look true b next looks progress l d e facts = record { mark-same = refl; ahead = omega arith; passed = λ i low high. absurd (omega arith); ends = (l, omega arith, refl, d refl); counted = omega arith; waits-are = refl }
+  one-look false b next looks progress l d e facts = passed-one b next looks progress (e refl) facts
 
   -- The last reader passed.
   last-passed : (b next looks : ℕ) → next < n → n ≤ next + 1 → LooksFacts w n mark b (next + 1) (looks + 1) waits (walkResult mark (next + 1) (looks + 1) waits (Returned (looks + 1) waits))
   last-passed b next looks l le = record {
     mark-same = refl;
     ahead = omega arith;
-    passed = λ i a c. absurd (omega arith);
+    passed = λ i low high. absurd (omega arith);
     ends = (omega arith, omega arith, refl, refl);
     counted = omega arith;
     waits-are = refl;
@@ -81,12 +81,12 @@ module _ (w : List ℕ) (n mark waits : ℕ) where
   pub looks-mark : (b next looks : ℕ) → looksFrom w n mark waits b next looks .walk .mark ≡ mark
   unfolding looksFrom
   looks-mark zero next looks = refl
-  looks-mark (suc b) next looks = pick-split (λ (k : Progress). k .walk .mark ≡ mark) (ltb (readerAt w (lookedAt n next) .published) mark) (λ _. refl)
-      (λ _. pick-split (λ (k : Progress). k .walk .mark ≡ mark) (leb n (next + 1)) (λ _. refl) (λ _. looks-mark b (next + 1) (looks + 1)))
+  looks-mark (suc b) next looks = pick-split (λ (progress : Progress). progress .walk .mark ≡ mark) (ltb (readerAt w (lookedAt n next) .published) mark) (λ _. refl)
+      (λ _. pick-split (λ (progress : Progress). progress .walk .mark ≡ mark) (leb n (next + 1)) (λ _. refl) (λ _. looks-mark b (next + 1) (looks + 1)))
 
   pub looks-facts : (b next looks : ℕ) → next < n → LooksFacts w n mark b next looks waits (looksFrom w n mark waits b next looks)
   unfolding looksFrom
-  looks-facts zero next looks l = record { mark-same = refl; ahead = omega arith; passed = λ i a c. absurd (omega arith); ends = (l, omega arith); counted = refl; waits-are = refl }
+  looks-facts zero next looks l = record { mark-same = refl; ahead = omega arith; passed = λ i low high. absurd (omega arith); ends = (l, omega arith); counted = refl; waits-are = refl }
   looks-facts (suc b) next looks l = one-look _ b next looks _ l (ltb-true _ _) (not-below _ _ mark (omega arith))
       (pick-split (LooksFacts w n mark b (next + 1) (looks + 1) waits) (leb n (next + 1))
       (λ d. last-passed b next looks l (leb-true n (next + 1) d))
@@ -95,10 +95,10 @@ module _ (w : List ℕ) (n mark waits : ℕ) where
   -- Spent is the reply exactly if b looks all passed and next is still below the count: `Ends` is one half, this the other.
   all-spent : (b next nx lk wt : ℕ) (a : WalkReply) → Ends w n mark next b nx lk wt a → next ≤ nx → next + b < n
       → ((i : ℕ) → next ≤ i → i < next + b → mark ≤ readerAt w (lookedAt n i) .published) → a ≡ Spent
-  all-spent b next nx lk wt (Waiting r) e ahead l all = absurd (omega (arith, e .3, subst (λ (q : ℕ). mark ≤ readerAt w q .published) (sym (e .2)) (all nx ahead (e .1))))
+  all-spent b next nx lk wt (Waiting r) e ahead l all = absurd (omega (arith, e .3, subst (λ (r′ : ℕ). mark ≤ readerAt w r′ .published) (sym (e .2)) (all nx ahead (e .1))))
   all-spent b next nx lk wt Spent e ahead l all = refl
   all-spent b next nx lk wt Quiet e ahead l all = absurd e
-  all-spent b next nx lk wt (Returned c u) e ahead l all = absurd (omega (arith, e .0, e .1))
+  all-spent b next nx lk wt (Returned looks′ waits′) e ahead l all = absurd (omega (arith, e .0, e .1))
 
   pub spent-if : (b next looks : ℕ) → next + b < n → ((i : ℕ) → next ≤ i → i < next + b → mark ≤ readerAt w (lookedAt n i) .published) → looksFrom w n mark waits b next looks .reply ≡ Spent
-  spent-if b next looks l all = let o = looks-facts b next looks (omega arith) in all-spent b next _ _ _ (looksFrom w n mark waits b next looks .reply) (o .ends) (o .ahead) l all
+  spent-if b next looks l all = let facts = looks-facts b next looks (omega arith) in all-spent b next _ _ _ (looksFrom w n mark waits b next looks .reply) (facts .ends) (facts .ahead) l all

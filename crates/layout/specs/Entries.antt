@@ -14,22 +14,22 @@ use Rattle.calls.specs.Numbers.{TABLE}
 use Rattle.layout.specs.Layout.{entryAt, slotEntry}
 
 -- One entry stored.
-pub set-entry : (es : List ℤ) (x k : ℕ) (v : ℤ) → k < TABLE → entryAt x k < length es
-    → slotEntry (set es (entryAt x k) v) ≡ upd (slotEntry es) x (upd (slotEntry es x) k v)
-set-entry es x k v k32 lt = fun-ext (λ y. fun-ext (λ j. go y j (ltb j TABLE) refl (eqb y x) refl (eqb j k) refl))
+pub set-entry : (es : List ℤ) (slot k : ℕ) (v : ℤ) → k < TABLE → entryAt slot k < length es
+    → slotEntry (set es (entryAt slot k) v) ≡ upd (slotEntry es) slot (upd (slotEntry es slot) k v)
+set-entry es slot k v k32 lt = fun-ext (λ slot′. fun-ext (λ k′. go slot′ k′ (ltb k′ TABLE) refl (eqb slot′ slot) refl (eqb k′ k) refl))
   where
-    go : (y j : ℕ) (a : Bool) → ltb j TABLE ≡ a → (b : Bool) → eqb y x ≡ b → (c : Bool) → eqb j k ≡ c
-        → slotEntry (set es (entryAt x k) v) y j ≡ upd (slotEntry es) x (upd (slotEntry es x) k v) y j
-    go y j true d true e true f =
-        let q : entryAt y j ≡ entryAt x k = omega (arith, eqb-true y x e, eqb-true j k f) in
-        rw (e, f, d, q) (getD-set-same es (entryAt x k) v _ lt)
-    go y j true d true e false f = rw (e, f, d, eqb-true y x e) (getD-set-other es (entryAt x k) (entryAt x j) v _ (λ z. eqb-false j k f (omega arith)))
-    go y j true d false e c f =
-        let j32 : j < TABLE = ltb-true j TABLE d in
-        rw (e, d) (getD-set-other es (entryAt x k) (entryAt y j) v _ (λ z. eqb-false y x e (omega arith)))
-    go y j false d true e true f = absurd (omega (arith, ltb-false j TABLE d, eqb-true j k f))
-    go y j false d true e false f = rw (e, f, d) refl
-    go y j false d false e c f = rw (e, d) refl
+    go : (slot′ k′ : ℕ) (a : Bool) → ltb k′ TABLE ≡ a → (b : Bool) → eqb slot′ slot ≡ b → (c : Bool) → eqb k′ k ≡ c
+        → slotEntry (set es (entryAt slot k) v) slot′ k′ ≡ upd (slotEntry es) slot (upd (slotEntry es slot) k v) slot′ k′
+    go slot′ k′ true d true e true f =
+        let same : entryAt slot′ k′ ≡ entryAt slot k = omega (arith, eqb-true slot′ slot e, eqb-true k′ k f) in
+        rw (e, f, d, same) (getD-set-same es (entryAt slot k) v _ lt)
+    go slot′ k′ true d true e false f = rw (e, f, d, eqb-true slot′ slot e) (getD-set-other es (entryAt slot k) (entryAt slot k′) v _ (λ z. eqb-false k′ k f (omega arith)))
+    go slot′ k′ true d false e c f =
+        let j32 : k′ < TABLE = ltb-true k′ TABLE d in
+        rw (e, d) (getD-set-other es (entryAt slot k) (entryAt slot′ k′) v _ (λ z. eqb-false slot′ slot e (omega arith)))
+    go slot′ k′ false d true e true f = absurd (omega (arith, ltb-false k′ TABLE d, eqb-true k′ k f))
+    go slot′ k′ false d true e false f = rw (e, f, d) refl
+    go slot′ k′ false d false e c f = rw (e, d) refl
 
 -- Slot 0 where every entry is v.
 pub slot-same : (n k : ℕ) (v : ℤ) → k < TABLE → TABLE ≤ n → slotEntry (replicate n v) 0 k ≡ v

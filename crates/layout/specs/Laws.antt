@@ -49,32 +49,32 @@ pub length-reader : (w : List ℕ) (r : ℕ) (x : Reader) → length (withReader
 unfolding withReader
 length-reader = length-record readers-exact
 
-pub length-publisher : (w : List ℕ) (p : ℕ) (x : Publisher) → length (withPublisher w p x) ≡ length w
+pub length-publisher : (w : List ℕ) (p : ℕ) (y : Publisher) → length (withPublisher w p y) ≡ length w
 unfolding withPublisher
 length-publisher = length-record publishers-exact
 
 -- A record written leaves the head.
-pub head-reader : (w : List ℕ) (r : ℕ) (x : Reader) (k : ℕ) → k < HEAD → getD (withReader w r x) k 0 ≡ getD w k 0
+pub head-reader : (w : List ℕ) (r : ℕ) (x : Reader) (j : ℕ) → j < HEAD → getD (withReader w r x) j 0 ≡ getD w j 0
 unfolding withReader
-head-reader w r x k lt = record-leaves readers-exact w r x k (inl (omega arith))
+head-reader w r x j lt = record-leaves readers-exact w r x j (inl (omega arith))
 
-pub head-publisher : (w : List ℕ) (p : ℕ) (x : Publisher) (k : ℕ) → k < HEAD → getD (withPublisher w p x) k 0 ≡ getD w k 0
+pub head-publisher : (w : List ℕ) (p : ℕ) (y : Publisher) (j : ℕ) → j < HEAD → getD (withPublisher w p y) j 0 ≡ getD w j 0
 unfolding withPublisher
-head-publisher w p x k lt = record-leaves publishers-exact w p x k (inl (omega arith))
+head-publisher w p y j lt = record-leaves publishers-exact w p y j (inl (omega arith))
 
 -- The head written leaves the records.
-pub reader-head : (w : List ℕ) (k v : ℕ) → k < HEAD → readerAt (set w k v) ≡ readerAt w
+pub reader-head : (w : List ℕ) (j n : ℕ) → j < HEAD → readerAt (set w j n) ≡ readerAt w
 unfolding readerAt
 reader-head = region-set readers-exact
 
-pub publisher-head : (w : List ℕ) (k v : ℕ) → k < HEAD → publisherAt (set w k v) ≡ publisherAt w
+pub publisher-head : (w : List ℕ) (j n : ℕ) → j < HEAD → publisherAt (set w j n) ≡ publisherAt w
 unfolding publisherAt
-publisher-head w k v lt = region-set publishers-exact w k v (omega arith)
+publisher-head w j n lt = region-set publishers-exact w j n (omega arith)
 
 -- A record of one region written leaves those of the other.
-pub reader-publisher : (w : List ℕ) (p : ℕ) (x : Publisher) → readerAt (withPublisher w p x) ≡ readerAt w
+pub reader-publisher : (w : List ℕ) (p : ℕ) (y : Publisher) → readerAt (withPublisher w p y) ≡ readerAt w
 unfolding readerAt withPublisher
-reader-publisher w p x = regions-apart publishers-exact readers-exact w p x (inr (omega arith))
+reader-publisher w p y = regions-apart publishers-exact readers-exact w p y (inr (omega arith))
 
 pub publisher-reader : (w : List ℕ) (r : ℕ) (x : Reader) → r < READERS-MAX → publisherAt (withReader w r x) ≡ publisherAt w
 unfolding publisherAt withReader
@@ -82,14 +82,14 @@ publisher-reader w r x lt = regions-apart readers-exact publishers-exact w r x (
 
 -- A record written is read there, and every other one stays.
 pub reader-put : {B : Type 0} (f : Reader → B) (w : List ℕ) (r : ℕ) (x : Reader) → length w ≡ WORDS → r < READERS-MAX
-    → (λ j. f (readerAt (withReader w r x) j)) ≡ upd (λ j. f (readerAt w j)) r (f x)
+    → (λ r′. f (readerAt (withReader w r x) r′)) ≡ upd (λ r′. f (readerAt w r′)) r (f x)
 unfolding readerAt withReader
 reader-put f w r x len lt = record-put readers-exact f w r x (omega arith) lt
 
-pub publisher-put : {B : Type 0} (f : Publisher → B) (w : List ℕ) (p : ℕ) (x : Publisher) → length w ≡ WORDS → p < PUBLISHERS-MAX
-    → (λ j. f (publisherAt (withPublisher w p x) j)) ≡ upd (λ j. f (publisherAt w j)) p (f x)
+pub publisher-put : {B : Type 0} (f : Publisher → B) (w : List ℕ) (p : ℕ) (y : Publisher) → length w ≡ WORDS → p < PUBLISHERS-MAX
+    → (λ q. f (publisherAt (withPublisher w p y) q)) ≡ upd (λ q. f (publisherAt w q)) p (f y)
 unfolding publisherAt withPublisher
-publisher-put f w p x len lt = record-put publishers-exact f w p x (omega arith) lt
+publisher-put f w p y len lt = record-put publishers-exact f w p y (omega arith) lt
 
 -- A record put back as it was read changes nothing.
 pub publisher-back : (w : List ℕ) (p : ℕ) → p < PUBLISHERS-MAX → withPublisher w p (publisherAt w p) ≡ w
@@ -97,43 +97,43 @@ unfolding withPublisher publisherAt
 publisher-back = record-back publishers-exact
 
 -- The indicators, where the head agrees; with a record replaced; and with one of them replaced.
-pub indicator-by : (v w : List ℕ) → ((k : ℕ) → INDICATORS-AT ≤ k → k < HEAD → getD v k 0 ≡ getD w k 0) → indicator v ≡ indicator w
+pub indicator-by : (w′ w : List ℕ) → ((j : ℕ) → INDICATORS-AT ≤ j → j < HEAD → getD w′ j 0 ≡ getD w j 0) → indicator w′ ≡ indicator w
 unfolding indicator
-indicator-by v w e = fun-ext (λ i. go i (ltb i INDICATORS) refl)
+indicator-by w′ w e = fun-ext (λ i. go i (ltb i INDICATORS) refl)
   where
-    go : (i : ℕ) (b : Bool) → ltb i INDICATORS ≡ b → pick b (getD v (INDICATORS-AT + i) 0) 0 ≡ pick b (getD w (INDICATORS-AT + i) 0) 0
+    go : (i : ℕ) (b : Bool) → ltb i INDICATORS ≡ b → pick b (getD w′ (INDICATORS-AT + i) 0) 0 ≡ pick b (getD w (INDICATORS-AT + i) 0) 0
     go i true d = let l = ltb-true i INDICATORS d in e (INDICATORS-AT + i) (omega arith) (omega arith)
     go i false d = refl
 
 pub indicator-reader : (w : List ℕ) (r : ℕ) (x : Reader) → indicator (withReader w r x) ≡ indicator w
-indicator-reader w r x = indicator-by (withReader w r x) w (λ k a b. head-reader w r x k b)
+indicator-reader w r x = indicator-by (withReader w r x) w (λ j low high. head-reader w r x j high)
 
-pub indicator-put : (w : List ℕ) (k v : ℕ) → k < INDICATORS → HEAD ≤ length w → (i : ℕ) → indicator (withIndicator w k v) i ≡ pick (eqb k i) v (indicator w i)
+pub indicator-put : (w : List ℕ) (i n : ℕ) → i < INDICATORS → HEAD ≤ length w → (i′ : ℕ) → indicator (withIndicator w i n) i′ ≡ pick (eqb i i′) n (indicator w i′)
 unfolding indicator
-indicator-put w k v low len i = go (eqb k i) refl
+indicator-put w i n low len i′ = go (eqb i i′) refl
   where
-    other : (b : Bool) → eqb k i ≡ false → pick b (getD (set w (INDICATORS-AT + k) v) (INDICATORS-AT + i) 0) 0 ≡ pick b (getD w (INDICATORS-AT + i) 0) 0
-    other true d = getD-set-other w (INDICATORS-AT + k) (INDICATORS-AT + i) v 0 (λ e. eqb-false k i d (omega arith))
+    other : (b : Bool) → eqb i i′ ≡ false → pick b (getD (set w (INDICATORS-AT + i) n) (INDICATORS-AT + i′) 0) 0 ≡ pick b (getD w (INDICATORS-AT + i′) 0) 0
+    other true d = getD-set-other w (INDICATORS-AT + i) (INDICATORS-AT + i′) n 0 (λ e. eqb-false i i′ d (omega arith))
     other false d = refl
 
-    go : (b : Bool) → eqb k i ≡ b → pick (ltb i INDICATORS) (getD (set w (INDICATORS-AT + k) v) (INDICATORS-AT + i) 0) 0 ≡ pick b v (pick (ltb i INDICATORS) (getD w (INDICATORS-AT + i) 0) 0)
-    go true d = rw (← eqb-true k i d, lt-ltb k INDICATORS low) (getD-set-same w (INDICATORS-AT + k) v 0 (omega arith))
-    go false d = other (ltb i INDICATORS) d
+    go : (b : Bool) → eqb i i′ ≡ b → pick (ltb i′ INDICATORS) (getD (set w (INDICATORS-AT + i) n) (INDICATORS-AT + i′) 0) 0 ≡ pick b n (pick (ltb i′ INDICATORS) (getD w (INDICATORS-AT + i′) 0) 0)
+    go true d = rw (← eqb-true i i′ d, lt-ltb i INDICATORS low) (getD-set-same w (INDICATORS-AT + i) n 0 (omega arith))
+    go false d = other (ltb i′ INDICATORS) d
 
 -- Words that are all 0.
-zero-at : (n i : ℕ) → _≡_ {A = ℕ} (getD (replicate n 0) i 0) 0
-zero-at zero i = refl
+zero-at : (n j : ℕ) → _≡_ {A = ℕ} (getD (replicate n 0) j 0) 0
+zero-at zero j = refl
 zero-at (suc n) zero = refl
-zero-at (suc n) (suc i) = zero-at n i
+zero-at (suc n) (suc j) = zero-at n j
 
 -- Readers where their words agree, and where all words are 0.
-reader-by : (v w : List ℕ) → ((k : ℕ) → HEAD ≤ k → k < FIRST-PUBLISHER → getD v k 0 ≡ getD w k 0) → readerAt v ≡ readerAt w
+reader-by : (w′ w : List ℕ) → ((j : ℕ) → HEAD ≤ j → j < FIRST-PUBLISHER → getD w′ j 0 ≡ getD w j 0) → readerAt w′ ≡ readerAt w
 unfolding readerAt
 reader-by = region-by readers-exact
 
-blank-reader : (j : ℕ) → readerAt (replicate WORDS 0) j ≡ noReader
+blank-reader : (r : ℕ) → readerAt (replicate WORDS 0) r ≡ noReader
 unfolding readerAt
-blank-reader = region-zero readers-exact (replicate WORDS 0) (λ k low high. zero-at WORDS k)
+blank-reader = region-zero readers-exact (replicate WORDS 0) (λ j low high. zero-at WORDS j)
 
 -- The words with each of the first n readers replaced: their length, what stands elsewhere, and what is read.
 pub length-readers : (n : ℕ) (w : List ℕ) (x : Reader) → length (withReaders n w x) ≡ length w
@@ -141,51 +141,51 @@ unfolding withReaders
 length-readers zero w x = refl
 length-readers (suc n) w x = length-reader (withReaders n w x) n x ∙ length-readers n w x
 
-readers-head : (n : ℕ) (w : List ℕ) (x : Reader) (k : ℕ) → k < HEAD → getD (withReaders n w x) k 0 ≡ getD w k 0
+readers-head : (n : ℕ) (w : List ℕ) (x : Reader) (j : ℕ) → j < HEAD → getD (withReaders n w x) j 0 ≡ getD w j 0
 unfolding withReaders
-readers-head zero w x k lt = refl
-readers-head (suc n) w x k lt = head-reader (withReaders n w x) n x k lt ∙ readers-head n w x k lt
+readers-head zero w x j lt = refl
+readers-head (suc n) w x j lt = head-reader (withReaders n w x) n x j lt ∙ readers-head n w x j lt
 
 readers-behind : (n : ℕ) (w : List ℕ) (x : Reader) (j : ℕ) → HEAD + READER-WORDS * n ≤ j → getD (withReaders n w x) j 0 ≡ getD w j 0
 unfolding withReaders withReader
 readers-behind zero w x j le = refl
 readers-behind (suc n) w x j le = record-leaves readers-exact (withReaders n w x) n x j (inr (omega arith)) ∙ readers-behind n w x j (omega arith)
 
-readers-put : (n : ℕ) (w : List ℕ) (x : Reader) → length w ≡ WORDS → n ≤ READERS-MAX → (j : ℕ) → readerAt (withReaders n w x) j ≡ pick (ltb j n) x (readerAt w j)
+readers-put : (n : ℕ) (w : List ℕ) (x : Reader) → length w ≡ WORDS → n ≤ READERS-MAX → (r : ℕ) → readerAt (withReaders n w x) r ≡ pick (ltb r n) x (readerAt w r)
 unfolding withReaders
-readers-put zero w x len le j = rw (le-ltb j 0 (omega arith)) refl
-readers-put (suc n) w x len le j = at j (readers-put n w x len (omega arith) j)
+readers-put zero w x len le r = rw (le-ltb r 0 (omega arith)) refl
+readers-put (suc n) w x len le r = at r (readers-put n w x len (omega arith) r)
   where
-    at : (j : ℕ) → readerAt (withReaders n w x) j ≡ pick (ltb j n) x (readerAt w j) → readerAt (withReader (withReaders n w x) n x) j ≡ pick (ltb j (suc n)) x (readerAt w j)
-    at j e = ap (λ (f : ℕ → Reader). f j) (reader-put (λ (y : Reader). y) (withReaders n w x) n x (length-readers n w x ∙ len) (omega arith)) ∙ go (eqb j n) refl (ltb j n) refl e
+    at : (r : ℕ) → readerAt (withReaders n w x) r ≡ pick (ltb r n) x (readerAt w r) → readerAt (withReader (withReaders n w x) n x) r ≡ pick (ltb r (suc n)) x (readerAt w r)
+    at r e = ap (λ (f : ℕ → Reader). f r) (reader-put (λ (x′ : Reader). x′) (withReaders n w x) n x (length-readers n w x ∙ len) (omega arith)) ∙ go (eqb r n) refl (ltb r n) refl e
       where
-        go : (a : Bool) → eqb j n ≡ a → (b : Bool) → ltb j n ≡ b → readerAt (withReaders n w x) j ≡ pick b x (readerAt w j) → pick a x (readerAt (withReaders n w x) j) ≡ pick (ltb j (suc n)) x (readerAt w j)
-        go true d b f e = rw (lt-ltb j (suc n) (omega (arith, eqb-true j n d))) refl
-        go false d true f e = rw (lt-ltb j (suc n) (omega (arith, ltb-true j n f))) e
-        go false d false f e = rw (ltb-none j n d f) e
+        go : (a : Bool) → eqb r n ≡ a → (b : Bool) → ltb r n ≡ b → readerAt (withReaders n w x) r ≡ pick b x (readerAt w r) → pick a x (readerAt (withReaders n w x) r) ≡ pick (ltb r (suc n)) x (readerAt w r)
+        go true d b f e = rw (lt-ltb r (suc n) (omega (arith, eqb-true r n d))) refl
+        go false d true f e = rw (lt-ltb r (suc n) (omega (arith, ltb-true r n f))) e
+        go false d false f e = rw (ltb-none r n d f) e
           where
-            ltb-none : (j n : ℕ) → eqb j n ≡ false → ltb j n ≡ false → ltb j (suc n) ≡ false
-            ltb-none j n d f = let q = eqb-false j n d in let l = ltb-false j n f in le-ltb j (suc n) (omega arith)
+            ltb-none : (r n : ℕ) → eqb r n ≡ false → ltb r n ≡ false → ltb r (suc n) ≡ false
+            ltb-none r n d f = let ne = eqb-false r n d in let l = ltb-false r n f in le-ltb r (suc n) (omega arith)
 
 -- w′ is w with one word stored.
-record Stored (w w′ : List ℕ) (i v : ℕ) : Type 0 where
+record Stored (w w′ : List ℕ) (j n : ℕ) : Type 0 where
   long : length w′ ≡ WORDS
-  at : (j : ℕ) → getD w′ j 0 ≡ pick (eqb j i) v (getD w j 0)
+  at : (j′ : ℕ) → getD w′ j′ 0 ≡ pick (eqb j′ j) n (getD w j′ 0)
 
-stored : (w : List ℕ) (i v : ℕ) → i < WORDS → length w ≡ WORDS → Stored w (set w i v) i v
-stored w i v lt len = record { long = length-set w i v ∙ len; at = λ j. go j (eqb j i) refl }
+stored : (w : List ℕ) (j n : ℕ) → j < WORDS → length w ≡ WORDS → Stored w (set w j n) j n
+stored w j n lt len = record { long = length-set w j n ∙ len; at = λ j′. go j′ (eqb j′ j) refl }
   where
-    go : (j : ℕ) (b : Bool) → eqb j i ≡ b → getD (set w i v) j 0 ≡ pick b v (getD w j 0)
-    go j true e = rw (eqb-true j i e) (getD-set-same w i v 0 (omega arith))
-    go j false e = getD-set-other w i j v 0 (eqb-false j i e)
+    go : (j′ : ℕ) (b : Bool) → eqb j′ j ≡ b → getD (set w j n) j′ 0 ≡ pick b n (getD w j′ 0)
+    go j′ true e = rw (eqb-true j′ j e) (getD-set-same w j n 0 (omega arith))
+    go j′ false e = getD-set-other w j j′ n 0 (eqb-false j′ j e)
 
 -- Fresh words: u0 has its readers, and then the head is stored, word by word.
-module _ (k rs ps ss v : ℕ) (x : Reader) where
+module _ (number rs ps ss ver : ℕ) (x : Reader) where
   u0 : List ℕ
   u0 = withReaders READERS-MAX (replicate WORDS 0) x
 
   u1 : List ℕ
-  u1 = set u0 KIND-AT k
+  u1 = set u0 KIND-AT number
 
   u2 : List ℕ
   u2 = set u1 READERS-AT rs
@@ -196,7 +196,7 @@ module _ (k rs ps ss v : ℕ) (x : Reader) where
   u4 : List ℕ
   u4 = set u3 SLOTS-AT ss
 
-  fresh-is : fresh k rs ps ss v x ≡ set u4 VERSION-AT v
+  fresh-is : fresh number rs ps ss ver x ≡ set u4 VERSION-AT ver
   unfolding fresh u0 u1 u2 u3 u4
   fresh-is = refl
 
@@ -208,17 +208,17 @@ module _ (k rs ps ss v : ℕ) (x : Reader) where
   unfolding u0
   u0-head j lt = readers-head READERS-MAX (replicate WORDS 0) x j lt ∙ zero-at WORDS j
 
-  u0-reader : (j : ℕ) → readerAt u0 j ≡ pick (ltb j READERS-MAX) x noReader
+  u0-reader : (r : ℕ) → readerAt u0 r ≡ pick (ltb r READERS-MAX) x noReader
   unfolding u0
-  u0-reader j = readers-put READERS-MAX (replicate WORDS 0) x (length-replicate {A = ℕ} WORDS 0) (omega arith) j ∙ rw (blank-reader j) refl
+  u0-reader r = readers-put READERS-MAX (replicate WORDS 0) x (length-replicate {A = ℕ} WORDS 0) (omega arith) r ∙ rw (blank-reader r) refl
 
   u0-behind : (j : ℕ) → FIRST-PUBLISHER ≤ j → getD u0 j 0 ≡ 0
   unfolding u0
   u0-behind j le = readers-behind READERS-MAX (replicate WORDS 0) x j le ∙ zero-at WORDS j
 
-  u1-is : Stored u0 u1 KIND-AT k
+  u1-is : Stored u0 u1 KIND-AT number
   unfolding u1
-  u1-is = stored u0 KIND-AT k (omega arith) u0-long
+  u1-is = stored u0 KIND-AT number (omega arith) u0-long
 
   u2-is : Stored u1 u2 READERS-AT rs
   unfolding u2
@@ -232,55 +232,55 @@ module _ (k rs ps ss v : ℕ) (x : Reader) where
   unfolding u4
   u4-is = stored u3 SLOTS-AT ss (omega arith) (u3-is .long)
 
-  u5-is : Stored u4 (fresh k rs ps ss v x) VERSION-AT v
-  u5-is = rw fresh-is (stored u4 VERSION-AT v (omega arith) (u4-is .long))
+  u5-is : Stored u4 (fresh number rs ps ss ver x) VERSION-AT ver
+  u5-is = rw fresh-is (stored u4 VERSION-AT ver (omega arith) (u4-is .long))
 
-  pub fresh-long : length (fresh k rs ps ss v x) ≡ WORDS
+  pub fresh-long : length (fresh number rs ps ss ver x) ≡ WORDS
   fresh-long = u5-is .long
 
   -- Any word of fresh words, one of the head, and one behind the numbers that are given.
-  fresh-at : (j : ℕ) → getD (fresh k rs ps ss v x) j 0 ≡ pick (eqb j VERSION-AT) v (pick (eqb j SLOTS-AT) ss (pick (eqb j PUBLISHERS-AT) ps (pick (eqb j READERS-AT) rs (pick (eqb j KIND-AT) k (getD u0 j 0)))))
+  fresh-at : (j : ℕ) → getD (fresh number rs ps ss ver x) j 0 ≡ pick (eqb j VERSION-AT) ver (pick (eqb j SLOTS-AT) ss (pick (eqb j PUBLISHERS-AT) ps (pick (eqb j READERS-AT) rs (pick (eqb j KIND-AT) number (getD u0 j 0)))))
   fresh-at j = rw (u5-is .at j, u4-is .at j, u3-is .at j, u2-is .at j, u1-is .at j) refl
 
   pub fresh-head : (j : ℕ) → j < HEAD
-      → getD (fresh k rs ps ss v x) j 0 ≡ pick (eqb j VERSION-AT) v (pick (eqb j SLOTS-AT) ss (pick (eqb j PUBLISHERS-AT) ps (pick (eqb j READERS-AT) rs (pick (eqb j KIND-AT) k 0))))
+      → getD (fresh number rs ps ss ver x) j 0 ≡ pick (eqb j VERSION-AT) ver (pick (eqb j SLOTS-AT) ss (pick (eqb j PUBLISHERS-AT) ps (pick (eqb j READERS-AT) rs (pick (eqb j KIND-AT) number 0))))
   fresh-head j lt = rw (fresh-at j, u0-head j lt) refl
 
-  fresh-behind : (j : ℕ) → VERSION-AT < j → getD (fresh k rs ps ss v x) j 0 ≡ getD u0 j 0
-  fresh-behind j lt = rw (fresh-at j, ne-eqb j VERSION-AT (λ z. omega arith), ne-eqb j SLOTS-AT (λ z. omega arith), ne-eqb j PUBLISHERS-AT (λ z. omega arith), ne-eqb j READERS-AT (λ z. omega arith), ne-eqb j KIND-AT (λ z. omega arith)) refl
+  fresh-behind : (j : ℕ) → VERSION-AT < j → getD (fresh number rs ps ss ver x) j 0 ≡ getD u0 j 0
+  fresh-behind j lt = rw (fresh-at j, ne-eqb j VERSION-AT (λ eq. omega arith), ne-eqb j SLOTS-AT (λ eq. omega arith), ne-eqb j PUBLISHERS-AT (λ eq. omega arith), ne-eqb j READERS-AT (λ eq. omega arith), ne-eqb j KIND-AT (λ eq. omega arith)) refl
 
-  pub fresh-reader : (j : ℕ) → readerAt (fresh k rs ps ss v x) j ≡ pick (ltb j READERS-MAX) x noReader
-  fresh-reader j = ap (λ (f : ℕ → Reader). f j) (reader-by (fresh k rs ps ss v x) u0 (λ i low high. fresh-behind i (omega arith))) ∙ u0-reader j
+  pub fresh-reader : (r : ℕ) → readerAt (fresh number rs ps ss ver x) r ≡ pick (ltb r READERS-MAX) x noReader
+  fresh-reader r = ap (λ (f : ℕ → Reader). f r) (reader-by (fresh number rs ps ss ver x) u0 (λ j low high. fresh-behind j (omega arith))) ∙ u0-reader r
 
-  pub fresh-publisher : (j : ℕ) → publisherAt (fresh k rs ps ss v x) j ≡ noPublisher
+  pub fresh-publisher : (p : ℕ) → publisherAt (fresh number rs ps ss ver x) p ≡ noPublisher
   unfolding publisherAt
-  fresh-publisher = region-zero publishers-exact (fresh k rs ps ss v x) (λ i low high. fresh-behind i (omega arith) ∙ u0-behind i low)
+  fresh-publisher = region-zero publishers-exact (fresh number rs ps ss ver x) (λ j low high. fresh-behind j (omega arith) ∙ u0-behind j low)
 
-  pub fresh-indicator : (i : ℕ) → indicator (fresh k rs ps ss v x) i ≡ 0
+  pub fresh-indicator : (i : ℕ) → indicator (fresh number rs ps ss ver x) i ≡ 0
   unfolding indicator
   fresh-indicator i = go (ltb i INDICATORS) refl
     where
-      go : (b : Bool) → ltb i INDICATORS ≡ b → _≡_ {A = ℕ} (pick b (getD (fresh k rs ps ss v x) (INDICATORS-AT + i) 0) 0) 0
+      go : (b : Bool) → ltb i INDICATORS ≡ b → _≡_ {A = ℕ} (pick b (getD (fresh number rs ps ss ver x) (INDICATORS-AT + i) 0) 0) 0
       go true d = let l = ltb-true i INDICATORS d in fresh-behind (INDICATORS-AT + i) (omega arith) ∙ u0-head (INDICATORS-AT + i) (omega arith)
       go false d = refl
 
--- Words that are all 0, in which the first n readers have published v: one more of them is one more word stored.
-set-zero : (w : List ℕ) (i : ℕ) → getD w i 0 ≡ 0 → set w i 0 ≡ w
-set-zero w i e = ap (λ (v : ℕ). set w i v) (sym e) ∙ set-getD w i 0
+-- Words that are all 0, in which the first n readers have published one version: one more of them is one more word stored.
+set-zero : (w : List ℕ) (j : ℕ) → getD w j 0 ≡ 0 → set w j 0 ≡ w
+set-zero w j e = ap (λ (n : ℕ). set w j n) (sym e) ∙ set-getD w j 0
 
 pub readers-none : (w : List ℕ) (x : Reader) → withReaders 0 w x ≡ w
 unfolding withReaders
 readers-none w x = refl
 
-publish-suc : (n v : ℕ) → set (withReaders n (replicate WORDS 0) (blankReader v)) (HEAD + READER-WORDS * n + 3) v ≡ withReaders (suc n) (replicate WORDS 0) (blankReader v)
+publish-suc : (n ver : ℕ) → set (withReaders n (replicate WORDS 0) (blankReader ver)) (HEAD + READER-WORDS * n + 3) ver ≡ withReaders (suc n) (replicate WORDS 0) (blankReader ver)
 unfolding withReaders withReader
-publish-suc n v = sym (go (withReaders n (replicate WORDS 0) (blankReader v)) (λ j le. readers-behind n (replicate WORDS 0) (blankReader v) j le ∙ zero-at WORDS j))
+publish-suc n ver = sym (go (withReaders n (replicate WORDS 0) (blankReader ver)) (λ j le. readers-behind n (replicate WORDS 0) (blankReader ver) j le ∙ zero-at WORDS j))
   where
-    go : (w : List ℕ) → ((j : ℕ) → HEAD + READER-WORDS * n ≤ j → getD w j 0 ≡ 0) → putWords w (HEAD + READER-WORDS * n) 0 (readerWords (blankReader v)) ≡ set w (HEAD + READER-WORDS * n + 3) v
+    go : (w : List ℕ) → ((j : ℕ) → HEAD + READER-WORDS * n ≤ j → getD w j 0 ≡ 0) → putWords w (HEAD + READER-WORDS * n) 0 (readerWords (blankReader ver)) ≡ set w (HEAD + READER-WORDS * n + 3) ver
     go w e =
-        let b = HEAD + READER-WORDS * n in
-        let after : set (set w (b + 3) v) (b + 4) 0 ≡ set w (b + 3) v = set-zero (set w (b + 3) v) (b + 4) (getD-set-other w (b + 3) (b + 4) v 0 (λ z. omega arith) ∙ e (b + 4) (omega arith)) in
-        rw (set-zero w (b + 0) (e (b + 0) (omega arith)), set-zero w (b + 1) (e (b + 1) (omega arith)), set-zero w (b + 2) (e (b + 2) (omega arith))) after
+        let start = HEAD + READER-WORDS * n in
+        let after : set (set w (start + 3) ver) (start + 4) 0 ≡ set w (start + 3) ver = set-zero (set w (start + 3) ver) (start + 4) (getD-set-other w (start + 3) (start + 4) ver 0 (λ eq. omega arith) ∙ e (start + 4) (omega arith)) in
+        rw (set-zero w (start + 0) (e (start + 0) (omega arith)), set-zero w (start + 1) (e (start + 1) (omega arith)), set-zero w (start + 2) (e (start + 2) (omega arith))) after
 
-pub publish-next : (n v : ℕ) → set (withReaders n (replicate WORDS 0) (blankReader v)) (HEAD + READER-WORDS * n + 3) v ≡ withReaders (n + 1) (replicate WORDS 0) (blankReader v)
-publish-next n v = rw (add-one n) (publish-suc n v)
+pub publish-next : (n ver : ℕ) → set (withReaders n (replicate WORDS 0) (blankReader ver)) (HEAD + READER-WORDS * n + 3) ver ≡ withReaders (n + 1) (replicate WORDS 0) (blankReader ver)
+publish-next n ver = rw (add-one n) (publish-suc n ver)

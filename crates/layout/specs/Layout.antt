@@ -105,7 +105,7 @@ abbrev pub publisherOf : (ℕ → ℕ) → Publisher
 publisherOf f = record { place = f 0; held = f 1; walk = record { mark = f 2; next = f 3; looks = f 4; waits = f 5 } }
 
 abbrev pub publisherWords : Publisher → List ℕ
-publisherWords x = x .place ∷ x .held ∷ x .walk .mark ∷ x .walk .next ∷ x .walk .looks ∷ x .walk .waits ∷ []
+publisherWords y = y .place ∷ y .held ∷ y .walk .mark ∷ y .walk .next ∷ y .walk .looks ∷ y .walk .waits ∷ []
 
 abbrev pub noReader : Reader
 noReader = readerOf (λ i. 0)
@@ -118,12 +118,12 @@ noWalk = noPublisher .walk
 
 -- A reader of which only the published version is not 0.
 abbrev pub blankReader : ℕ → Reader
-blankReader v = noReader published≔ v
+blankReader ver = noReader published≔ ver
 
--- The words with a list of words put at b + i and on.
+-- The words with a list of words put at start + i and on.
 abbrev pub putWords : List ℕ → ℕ → ℕ → List ℕ → List ℕ
-putWords w b i [] = w
-putWords w b i (v ∷ vs) = putWords (set w (b + i) v) b (i + 1) vs
+putWords w start i [] = w
+putWords w start i (n ∷ ns) = putWords (set w (start + i) n) start (i + 1) ns
 
 -- A region of records: where its first record stands, how many words each has, how many records there are, a record from its words, and its words.
 pub record Region (A : Type 0) : Type 0 where
@@ -135,17 +135,17 @@ pub record Region (A : Type 0) : Type 0 where
 
 -- Where record j begins, and where the region ends.
 abbrev pub begins : {A : Type 0} → Region A → ℕ → ℕ
-begins g j = g .start + g .stride * j
+begins region j = region .start + region .stride * j
 
 abbrev pub ends : {A : Type 0} → Region A → ℕ
-ends g = begins g (g .count)
+ends region = begins region (region .count)
 
 -- Record j of a region; a number beyond the records has none, and reads as 0. And the words with record j replaced.
 abbrev pub recordAt : {A : Type 0} → Region A → List ℕ → ℕ → A
-recordAt g w j = pick (ltb j (g .count)) (g .from (λ i. getD w (begins g j + i) 0)) (g .from (λ i. 0))
+recordAt region w j = pick (ltb j (region .count)) (region .from (λ i. getD w (begins region j + i) 0)) (region .from (λ i. 0))
 
 abbrev pub withRecord : {A : Type 0} → Region A → List ℕ → ℕ → A → List ℕ
-withRecord g w j x = putWords w (begins g j) 0 (g .words x)
+withRecord region w j value = putWords w (begins region j) 0 (region .words value)
 
 -- The regions of readers and of publishers.
 abbrev pub readerRegion : Region Reader
@@ -165,7 +165,7 @@ unfoldable pub withReader : List ℕ → ℕ → Reader → List ℕ
 withReader w r x = withRecord readerRegion w r x
 
 unfoldable pub withPublisher : List ℕ → ℕ → Publisher → List ℕ
-withPublisher w p x = withRecord publisherRegion w p x
+withPublisher w p y = withRecord publisherRegion w p y
 
 -- The words with each of the first n readers replaced.
 unfoldable pub withReaders : ℕ → List ℕ → Reader → List ℕ
@@ -174,12 +174,12 @@ withReaders (suc n) w x = withReader (withReaders n w x) n x
 
 -- Words that are all 0, but for a head and the readers.
 unfoldable pub fresh : ℕ → ℕ → ℕ → ℕ → ℕ → Reader → List ℕ
-fresh k rs ps ss v x = set (set (set (set (set (withReaders READERS-MAX (replicate WORDS 0) x) KIND-AT k) READERS-AT rs) PUBLISHERS-AT ps) SLOTS-AT ss) VERSION-AT v
+fresh number rs ps ss ver x = set (set (set (set (set (withReaders READERS-MAX (replicate WORDS 0) x) KIND-AT number) READERS-AT rs) PUBLISHERS-AT ps) SLOTS-AT ss) VERSION-AT ver
 
 -- Entry k of slot s is at s × 32 + k.
 abbrev pub entryAt : ℕ → ℕ → ℕ
-entryAt s k = s * TABLE + k
+entryAt slot k = slot * TABLE + k
 
--- Entry k of slot s, and 0 where there is none.
+-- Entry k of a slot, and 0 where there is none.
 abbrev pub slotEntry : List ℤ → ℕ → ℕ → ℤ
-slotEntry es s k = pick (ltb k TABLE) (getD es (entryAt s k) (pos 0)) (pos 0)
+slotEntry es slot k = pick (ltb k TABLE) (getD es (entryAt slot k) (pos 0)) (pos 0)

@@ -1,4 +1,4 @@
--- A record with one number replaced: `x place≔ 1 first≔ v` is the reader x with place 1 and first v, and every other number as it was.
+-- A record with one number replaced: `x place≔ 1 first≔ n` is the reader x with place 1 and first n, and every other number as it was.
 -- A reader's place is set by place≔, a publisher's by atPlace.
 use Prim.Native.Nat.{ℕ}
 use Rattle.layout.specs.declared.Reader.{Reader}
@@ -37,21 +37,21 @@ y held≔ n = record { place = y .place; held = n; walk = y .walk }
 
 infixl 20 _walk≔_
 abbrev pub _walk≔_ : Publisher → WalkRecord → Publisher
-y walk≔ k = record { place = y .place; held = y .held; walk = k }
+y walk≔ walk = record { place = y .place; held = y .held; walk = walk }
 
 -- Walks.
 infixl 20 _mark≔_
 abbrev pub _mark≔_ : WalkRecord → ℕ → WalkRecord
-k mark≔ n = record { mark = n; next = k .next; looks = k .looks; waits = k .waits }
+walk mark≔ n = record { mark = n; next = walk .next; looks = walk .looks; waits = walk .waits }
 
 infixl 20 _next≔_
 abbrev pub _next≔_ : WalkRecord → ℕ → WalkRecord
-k next≔ n = record { mark = k .mark; next = n; looks = k .looks; waits = k .waits }
+walk next≔ n = record { mark = walk .mark; next = n; looks = walk .looks; waits = walk .waits }
 
 infixl 20 _looks≔_
 abbrev pub _looks≔_ : WalkRecord → ℕ → WalkRecord
-k looks≔ n = record { mark = k .mark; next = k .next; looks = n; waits = k .waits }
+walk looks≔ n = record { mark = walk .mark; next = walk .next; looks = n; waits = walk .waits }
 
 infixl 20 _waits≔_
 abbrev pub _waits≔_ : WalkRecord → ℕ → WalkRecord
-k waits≔ n = record { mark = k .mark; next = k .next; looks = k .looks; waits = n }
+walk waits≔ n = record { mark = walk .mark; next = walk .next; looks = walk .looks; waits = n }

@@ -17,7 +17,7 @@ use Rattle.base.specs.RowLaws.{not-both, or-false, or-right, or-none, neither, 
 use Rattle.calls.specs.declared.Call.{Call}
 use Rattle.calls.specs.declared.Call.the-variants.{Enter, Leave, Raise, Walk}
 use Rattle.calls.specs.declared.Reply.the-variants.{Made, Pitch, Claimed, Written, Swapped, Synced, Raised, Shared, Walked, Freed, Refused}
-use Rattle.calls.specs.Numbers.{FEATHERED, PITCH-LOW, PITCH-HIGH, MODULUS, NUMBER-MAX, DAMAGED}
+use Rattle.calls.specs.Numbers.{FEATHERED, PITCH-LOW, PITCH-HIGH, MODULUS, NUMBER-MAX, PLACE-OPEN, PLACE-PICKED, PLACE-IDLE, PLACE-CLAIMED, PLACE-WRITTEN, PLACE-SWAPPED, PLACE-SYNCHRONISING, PLACE-RAISED, PLACE-RETURNED, DAMAGED}
 use Rattle.layout.specs.declared.Reader.{Reader}
 use Rattle.layout.specs.declared.Publisher.{Publisher}
 use Rattle.layout.specs.declared.Progress.{Progress}
@@ -35,11 +35,11 @@ use Rattle.publication_law.specs.Rules.{Rules, tableBy}
 -- A call of a damaged store; and of one that is not, where 1 tells that the kind lacks it.
 pub step-damaged : (T : Table) (s : State) (c : Call) → damaged T s ≡ true → outcome (Refused DAMAGED) s ≡ step T s c
 unfolding step
-step-damaged T s c e = ap (λ (b : Bool). decide ((b gives DAMAGED) ∷ T .tests s c) (T .act s c) s) (sym (or-right (T .lacks c) (damaged T s) e))
+step-damaged T s c e = ap (λ (test : Bool). decide ((test gives DAMAGED) ∷ T .tests s c) (T .act s c) s) (sym (or-right (T .lacks c) (damaged T s) e))
 
 pub step-undamaged : (T : Table) (s : State) (c : Call) → damaged T s ≡ false → decide ((T .lacks c gives DAMAGED) ∷ T .tests s c) (T .act s c) s ≡ step T s c
 unfolding step
-step-undamaged T s c e = ap (λ (b : Bool). decide ((b gives DAMAGED) ∷ T .tests s c) (T .act s c) s) (sym (ap (λ (b : Bool). T .lacks c || b) e ∙ or-none (T .lacks c)))
+step-undamaged T s c e = ap (λ (test : Bool). decide ((test gives DAMAGED) ∷ T .tests s c) (T .act s c) s) (sym (ap (λ (test : Bool). T .lacks c || test) e ∙ or-none (T .lacks c)))
 
 -- The damage test is that of the head, of the readers, of the publishers, each by itself, and what a kind adds.
 module _ (T : Table) (s : State) where
@@ -53,15 +53,15 @@ module _ (T : Table) (s : State) where
 
   pub undamaged : anyTrue (headRows (T .damage) s) ≡ false → readersTest (T .damage) s ≡ false → T .further s ≡ false → publishersTest (T .damage) s ≡ false → damaged T s ≡ false
   unfolding damaged
-  undamaged h r f p = neither (sharedDamage (T .damage) s) (T .further s) (tests-shared (T .damage) s h r p) f
+  undamaged head-ok readers-ok further-ok publishers-ok = neither (sharedDamage (T .damage) s) (T .further s) (tests-shared (T .damage) s head-ok readers-ok publishers-ok) further-ok
 
   -- A test that no undamaged store fails damages the store that fails it.
-  unless : (b : Bool) → (damaged T s ≡ false → b ≡ false) → b ≡ true → damaged T s ≡ true
-  unless b f e = go (damaged T s) refl
+  unless : (test : Bool) → (damaged T s ≡ false → test ≡ false) → test ≡ true → damaged T s ≡ true
+  unless test f e = go (damaged T s) refl
     where
       go : (d : Bool) → damaged T s ≡ d → damaged T s ≡ true
       go true d = d
-      go false d = absurd (not-both b e (f d))
+      go false d = absurd (not-both test e (f d))
 
   pub damaged-head : anyTrue (headRows (T .damage) s) ≡ true → damaged T s ≡ true
   unfolding damaged
@@ -78,10 +78,10 @@ module _ (T : Table) (s : State) where
 
 -- ENTER below 5 and LEAVE at 4 and 5.
 module _ (R : Rules) (s : State) (clean : damaged (tableBy R) s ≡ false) (r : ℕ) (x : Reader) (named : r < readers (s .words)) (is : x ≡ reader s r) where
-  pub enter-accepted : x .place < 5 → tableBy R .act s (Enter r) ≡ step (tableBy R) s (Enter r)
+  pub enter-accepted : x .place < PLACE-PICKED → tableBy R .act s (Enter r) ≡ step (tableBy R) s (Enter r)
   enter-accepted turn = sym (decide-accepts (tableBy R .tests s (Enter r)) (tableBy R .act s (Enter r)) s (lt-leb _ _ named, (lt-leb 5 _ (rw is at turn), tt))) ∙ step-undamaged (tableBy R) s (Enter r) clean
 
-  pub leave-accepted : 4 ≤ x .place → tableBy R .act s (Leave r) ≡ step (tableBy R) s (Leave r)
+  pub leave-accepted : PLACE-OPEN ≤ x .place → tableBy R .act s (Leave r) ≡ step (tableBy R) s (Leave r)
   leave-accepted turn = sym (decide-accepts (tableBy R .tests s (Leave r)) (tableBy R .act s (Leave r)) s (lt-leb _ _ named, (le-ltb _ 4 (rw is at turn), tt))) ∙ step-undamaged (tableBy R) s (Leave r) clean
 
 -- RAISE and WALK, at a place that the kind allows.
@@ -90,77 +90,77 @@ module _ (R : Rules) (s : State) (clean : damaged (tableBy R) s ≡ false) (o : 
   raise-is turn e =
       e ∙ sym (decide-accepts (tableBy R .tests s (Raise p)) (tableBy R .act s (Raise p)) s (lt-leb _ _ named, (negated _ (rw is at turn), tt))) ∙ step-undamaged (tableBy R) s (Raise p) clean
 
-  pub walk-is : (b : ℕ) (k : Progress) → R .walksAt (y .place) ≡ true → y .walk .looks + b ≤ NUMBER-MAX → k ≡ R .looks s p b → o ≡ walk s p k → o ≡ step (tableBy R) s (Walk p b)
-  walk-is b k turn room looks e =
+  pub walk-is : (b : ℕ) (progress : Progress) → R .walksAt (y .place) ≡ true → y .walk .looks + b ≤ NUMBER-MAX → progress ≡ R .looks s p b → o ≡ walk s p progress → o ≡ step (tableBy R) s (Walk p b)
+  walk-is b progress turn room looks e =
       e ∙ rw looks (sym (decide-accepts (tableBy R .tests s (Walk p b)) (tableBy R .act s (Walk p b)) s (lt-leb _ _ named, (negated _ (rw is at turn), (le-ltb _ _ (rw is at room), tt)))) ∙ step-undamaged (tableBy R) s (Walk p b) clean)
 
 -- Up to the version before the last a SYNC is allowed, and its mark does not run over.
-pub last-is : (last v : ℕ) → 1 ≤ last → v ≤ last → upTo last .isLast v ≡ ltb (last - 1) v
-last-is last v some l = go (eqb v last) refl
+pub last-is : (last ver : ℕ) → 1 ≤ last → ver ≤ last → upTo last .isLast ver ≡ ltb (last - 1) ver
+last-is last ver some l = go (eqb ver last) refl
   where
-    go : (b : Bool) → eqb v last ≡ b → b ≡ ltb (last - 1) v
-    go true e = sym (lt-ltb (last - 1) v (omega (arith, eqb-true v last e)))
-    go false e = let q = eqb-false v last e in sym (le-ltb (last - 1) v (omega arith))
+    go : (test : Bool) → eqb ver last ≡ test → test ≡ ltb (last - 1) ver
+    go true e = sym (lt-ltb (last - 1) ver (omega (arith, eqb-true ver last e)))
+    go false e = let ne = eqb-false ver last e in sym (le-ltb (last - 1) ver (omega arith))
 
-pub mark-is : (last v : ℕ) → last < NUMBER-MAX → v ≤ last → upTo last .markAt v ≡ (v + 1) % MODULUS
-mark-is last v room l = omega arith
+pub mark-is : (last ver : ℕ) → last < NUMBER-MAX → ver ≤ last → upTo last .markAt ver ≡ (ver + 1) % MODULUS
+mark-is last ver room l = omega arith
 
 not-at : (n m : ℕ) → n ≡ m → not (eqb n m) ≡ false
 not-at n m e = negated (eqb n m) (eq-eqb n m e)
 
-pub look-is : (w : List ℕ) (es : List ℤ) (r k : ℕ) (x : Reader) → r < readers w → k ≤ 31 → x ≡ readerAt w r → x .place ≡ 5
+pub look-is : (w : List ℕ) (es : List ℤ) (r k : ℕ) (x : Reader) → r < readers w → k ≤ 31 → x ≡ readerAt w r → x .place ≡ PLACE-PICKED
     → outcome (Pitch (getD es (entryAt (x .picked) k) (pos 0))) (state w es) ≡ decide (lookTests (state w es) r k) (look (state w es) r k) (state w es)
 look-is w es r k x named low is turn =
     rw is (sym (decide-accepts (lookTests (state w es) r k) (look (state w es) r k) (state w es) (lt-leb _ _ named, (le-ltb _ _ low, (not-at _ 5 (rw is at turn), tt)))))
 
 module _ (w : List ℕ) (p : ℕ) (y : Publisher) (named : p < publishers w) (is : y ≡ publisherAt w p) where
-  pub claim-is : (v : List ℕ) (exclusive : Bool) (x : ℕ) → x < slots w → y .place ≡ 0 → ((es : List ℤ) → exclusive && anotherBusy (state w es) p ≡ false) → ((es : List ℤ) → inUse (state w es) x ≡ false)
-      → v ≡ withPublisher w p (y atPlace 1 held≔ x)
-      → (es : List ℤ) → outcome (Claimed x) (state v es) ≡ decide (claimTests exclusive (state w es) p x) (claim (state w es) p x) (state w es)
-  claim-is v exclusive x slot turn busy used put es =
-      rw (put, is) (sym (decide-accepts (claimTests exclusive (state w es) p x) (claim (state w es) p x) (state w es)
-      (claim-rows exclusive (state w es) p x (record { publisher-named = named; slot-named = slot; in-turn = rw is at turn; nobody-busy = busy es; unused = used es }))))
+  pub claim-is : (w′ : List ℕ) (exclusive : Bool) (slot : ℕ) → slot < slots w → y .place ≡ PLACE-IDLE → ((es : List ℤ) → exclusive && anotherBusy (state w es) p ≡ false) → ((es : List ℤ) → inUse (state w es) slot ≡ false)
+      → w′ ≡ withPublisher w p (y atPlace PLACE-CLAIMED held≔ slot)
+      → (es : List ℤ) → outcome (Claimed slot) (state w′ es) ≡ decide (claimTests exclusive (state w es) p slot) (claim (state w es) p slot) (state w es)
+  claim-is w′ exclusive slot low turn busy used put es =
+      rw (put, is) (sym (decide-accepts (claimTests exclusive (state w es) p slot) (claim (state w es) p slot) (state w es)
+      (claim-rows exclusive (state w es) p slot (record { publisher-named = named; slot-named = low; in-turn = rw is at turn; nobody-busy = busy es; unused = used es }))))
 
-  pub write-is : (v : List ℕ) (es : List ℤ) (a : ℤ) → (ltZ a PITCH-LOW || ltZ PITCH-HIGH a) ≡ false → 1 ≤ y .place → y .place ≤ 32
-      → v ≡ withPublisher w p (y atPlace (y .place + 1))
-      → outcome (Written (y .place)) (state v (set es (entryAt (y .held) (y .place - 1)) a)) ≡ decide (writeTests (state w es) p a) (write (state w es) p a) (state w es)
-  write-is v es a range low high put =
-      rw (put, is) (sym (decide-accepts (writeTests (state w es) p a) (write (state w es) p a) (state w es) (lt-leb _ _ named, (range, (not-outside 1 32 _ (rw is at low) (rw is at high), tt)))))
+  pub write-is : (w′ : List ℕ) (es : List ℤ) (v : ℤ) → (ltZ v PITCH-LOW || ltZ PITCH-HIGH v) ≡ false → PLACE-CLAIMED ≤ y .place → y .place ≤ 32
+      → w′ ≡ withPublisher w p (y atPlace (y .place + 1))
+      → outcome (Written (y .place)) (state w′ (set es (entryAt (y .held) (y .place - 1)) v)) ≡ decide (writeTests (state w es) p v) (write (state w es) p v) (state w es)
+  write-is w′ es v range low high put =
+      rw (put, is) (sym (decide-accepts (writeTests (state w es) p v) (write (state w es) p v) (state w es) (lt-leb _ _ named, (range, (not-outside 1 32 _ (rw is at low) (rw is at high), tt)))))
 
-  pub swap-is : (v : List ℕ) (former : ℕ) → former ≡ current w → y .place ≡ 33
-      → v ≡ withCurrent (withPublisher w p (y atPlace 34 held≔ former)) (y .held)
-      → (es : List ℤ) → outcome (Swapped former) (state v es) ≡ decide (swapTests (state w es) p) (swap (state w es) p) (state w es)
-  swap-is v former was turn put es =
+  pub swap-is : (w′ : List ℕ) (former : ℕ) → former ≡ current w → y .place ≡ PLACE-WRITTEN
+      → w′ ≡ withCurrent (withPublisher w p (y atPlace PLACE-SWAPPED held≔ former)) (y .held)
+      → (es : List ℤ) → outcome (Swapped former) (state w′ es) ≡ decide (swapTests (state w es) p) (swap (state w es) p) (state w es)
+  swap-is w′ former was turn put es =
       rw (put, was, is) (sym (decide-accepts (swapTests (state w es) p) (swap (state w es) p) (state w es) (lt-leb _ _ named, (not-at _ 33 (rw is at turn), tt))))
 
-  pub sync-is : (vs : Versions) (v : List ℕ) (mark : ℕ) → y .place ≡ 34 → vs .isLast (version w) ≡ false → mark ≡ vs .markAt (version w)
-      → v ≡ withPublisher w p (y atPlace 35 walk≔ newWalk (y .walk) mark)
-      → (es : List ℤ) → outcome (Synced mark) (state v es) ≡ decide (syncTests vs (state w es) p) (sync vs (state w es) p) (state w es)
-  sync-is vs v mark turn room marked put es =
+  pub sync-is : (vs : Versions) (w′ : List ℕ) (mark : ℕ) → y .place ≡ PLACE-SWAPPED → vs .isLast (version w) ≡ false → mark ≡ vs .markAt (version w)
+      → w′ ≡ withPublisher w p (y atPlace PLACE-SYNCHRONISING walk≔ newWalk (y .walk) mark)
+      → (es : List ℤ) → outcome (Synced mark) (state w′ es) ≡ decide (syncTests vs (state w es) p) (sync vs (state w es) p) (state w es)
+  sync-is vs w′ mark turn room marked put es =
       rw (put, marked, is) (sym (decide-accepts (syncTests vs (state w es) p) (sync vs (state w es) p) (state w es) (lt-leb _ _ named, (not-at _ 34 (rw is at turn), (room, tt)))))
 
-  pub raised-is : (vs : Versions) (v : List ℕ) → version w ≡ vs .beforeMark (y .walk .mark) → v ≡ withVersion (withPublisher w p (y atPlace 37)) (y .walk .mark)
-      → (es : List ℤ) → outcome Raised (state v es) ≡ raise vs (state w es) p
-  raised-is vs v e put es = rw (put, is, eq-eqb _ _ (rw is at e)) refl
+  pub raised-is : (vs : Versions) (w′ : List ℕ) → version w ≡ vs .beforeMark (y .walk .mark) → w′ ≡ withVersion (withPublisher w p (y atPlace PLACE-RAISED)) (y .walk .mark)
+      → (es : List ℤ) → outcome Raised (state w′ es) ≡ raise vs (state w es) p
+  raised-is vs w′ e put es = rw (put, is, eq-eqb _ _ (rw is at e)) refl
 
-  pub shared-is : (vs : Versions) (v : List ℕ) → version w ≢ vs .beforeMark (y .walk .mark) → v ≡ withPublisher w p (y atPlace 37)
-      → (es : List ℤ) → outcome Shared (state v es) ≡ raise vs (state w es) p
-  shared-is vs v ne put es = rw (put, is, ne-eqb _ _ (rw is at ne)) refl
+  pub shared-is : (vs : Versions) (w′ : List ℕ) → version w ≢ vs .beforeMark (y .walk .mark) → w′ ≡ withPublisher w p (y atPlace PLACE-RAISED)
+      → (es : List ℤ) → outcome Shared (state w′ es) ≡ raise vs (state w es) p
+  shared-is vs w′ ne put es = rw (put, is, ne-eqb _ _ (rw is at ne)) refl
 
-  pub walked-is : (v : List ℕ) (k : Progress) → v ≡ withPublisher w p (walked y k)
-      → (es : List ℤ) → outcome (Walked (k .reply)) (state v es) ≡ walk (state w es) p k
-  walked-is v k put es = rw (put, is) refl
+  pub walked-is : (w′ : List ℕ) (progress : Progress) → w′ ≡ withPublisher w p (walked y progress)
+      → (es : List ℤ) → outcome (Walked (progress .reply)) (state w′ es) ≡ walk (state w es) p progress
+  walked-is w′ progress put es = rw (put, is) refl
 
-  pub release-is : (v : List ℕ) (n : ℕ) → y .place ≡ 38 → n ≡ (releases w + 1) % MODULUS → v ≡ withReleases (withPublisher w p (y atPlace 0)) n
-      → (es : List ℤ) → outcome (Freed (y .held) n) (state v es) ≡ decide (releaseTests (state w es) p) (release (state w es) p) (state w es)
-  release-is v n turn more put es =
+  pub release-is : (w′ : List ℕ) (n : ℕ) → y .place ≡ PLACE-RETURNED → n ≡ (releases w + 1) % MODULUS → w′ ≡ withReleases (withPublisher w p (y atPlace PLACE-IDLE)) n
+      → (es : List ℤ) → outcome (Freed (y .held) n) (state w′ es) ≡ decide (releaseTests (state w es) p) (release (state w es) p) (state w es)
+  release-is w′ n turn more put es =
       rw (put, more, is) (sym (decide-accepts (releaseTests (state w es) p) (release (state w es) p) (state w es) (lt-leb _ _ named, (not-at _ 38 (rw is at turn), tt))))
 
 -- Making, by the number of its first row that applies.
 module _ (vs : Versions) (w : List ℕ) (es : List ℤ) (kind rs ps ss ver : ℕ) (x : Reader) where
-  pub make-is : (v : List ℕ) (fs : List ℤ) → firstOf (makingTests vs (given rs ps ss ver) (state w es)) ≡ 0 → v ≡ fresh kind rs ps ss ver x → fs ≡ replicate (length es) FEATHERED
-      → outcome Made (state v fs) ≡ decide (makingTests vs (given rs ps ss ver) (state w es)) (outcome Made (made kind x (given rs ps ss ver) (state w es))) (state w es)
-  make-is v fs e put fill = rw (put, fill, e) refl
+  pub make-is : (w′ : List ℕ) (es′ : List ℤ) → firstOf (makingTests vs (given rs ps ss ver) (state w es)) ≡ 0 → w′ ≡ fresh kind rs ps ss ver x → es′ ≡ replicate (length es) FEATHERED
+      → outcome Made (state w′ es′) ≡ decide (makingTests vs (given rs ps ss ver) (state w es)) (outcome Made (made kind x (given rs ps ss ver) (state w es))) (state w es)
+  make-is w′ es′ e put fill = rw (put, fill, e) refl
 
   pub make-refused : (n : ℕ) → n ≢ 0 → n ≡ firstOf (makingTests vs (given rs ps ss ver) (state w es))
       → outcome (Refused n) (state w es) ≡ decide (makingTests vs (given rs ps ss ver) (state w es)) (outcome Made (made kind x (given rs ps ss ver) (state w es))) (state w es)

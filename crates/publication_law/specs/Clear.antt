@@ -6,28 +6,28 @@ use lib.ListN.{length}
 use borrow.Author.Tests.{eqb-true, eq-eqb, leb-false, lt-leb, not-false}
 use Rattle.base.specs.Rows.{firstOf}
 use Rattle.base.specs.RowLaws.{negated, within, not-outside, AllClear, clear}
-use Rattle.calls.specs.Numbers.{READERS-MAX, PUBLISHERS-MAX, SLOTS-MIN, SLOTS-MAX, TABLE}
+use Rattle.calls.specs.Numbers.{READERS-MAX, PUBLISHERS-MAX, SLOTS-MIN, SLOTS-MAX, TABLE, PLACE-IDLE}
 use Rattle.layout.specs.Layout.{WORDS, publishers, slots}
 use Rattle.statement.specs.Machine.{State, Given}
 use Rattle.publication_law.specs.Steps.{Versions, publisher, anotherBusy, inUse, claimTests, makingTests}
 
-pub record MakingClear (vs : Versions) (g : Given) (s : State) : Type 0 where
+pub record MakingClear (vs : Versions) (z : Given) (s : State) : Type 0 where
   pub long : length (s .words) ≡ WORDS
-  pub readers-low : 1 ≤ g .readers
-  pub readers-high : g .readers ≤ READERS-MAX
-  pub publishers-low : 1 ≤ g .publishers
-  pub publishers-high : g .publishers ≤ PUBLISHERS-MAX
-  pub slots-low : SLOTS-MIN ≤ g .slots
-  pub slots-high : g .slots ≤ SLOTS-MAX
-  pub entries-are : length (s .entries) ≡ g .slots * TABLE
-  pub version-fits : vs .tooLarge (g .version) ≡ false
+  pub readers-low : 1 ≤ z .readers
+  pub readers-high : z .readers ≤ READERS-MAX
+  pub publishers-low : 1 ≤ z .publishers
+  pub publishers-high : z .publishers ≤ PUBLISHERS-MAX
+  pub slots-low : SLOTS-MIN ≤ z .slots
+  pub slots-high : z .slots ≤ SLOTS-MAX
+  pub entries-are : length (s .entries) ≡ z .slots * TABLE
+  pub version-fits : vs .tooLarge (z .version) ≡ false
 
-module _ (vs : Versions) (g : Given) (s : State) where
-  pub making-clear : AllClear (makingTests vs g s) → MakingClear vs g s
+module _ (vs : Versions) (z : Given) (s : State) where
+  pub making-clear : AllClear (makingTests vs z s) → MakingClear vs z s
   making-clear f =
-      let rs = within 1 READERS-MAX (g .readers) (f .1 .0) in
-      let ps = within 1 PUBLISHERS-MAX (g .publishers) (f .1 .1 .0) in
-      let ss = within SLOTS-MIN SLOTS-MAX (g .slots) (f .1 .1 .1 .0) in
+      let rs = within 1 READERS-MAX (z .readers) (f .1 .0) in
+      let ps = within 1 PUBLISHERS-MAX (z .publishers) (f .1 .1 .0) in
+      let ss = within SLOTS-MIN SLOTS-MAX (z .slots) (f .1 .1 .1 .0) in
       record {
         long = eqb-true _ _ (not-false _ (f .0));
         readers-low = rs .0;
@@ -40,7 +40,7 @@ module _ (vs : Versions) (g : Given) (s : State) where
         version-fits = f .1 .1 .1 .1 .1 .0;
       }
 
-  pub making-rows : MakingClear vs g s → AllClear (makingTests vs g s)
+  pub making-rows : MakingClear vs z s → AllClear (makingTests vs z s)
   making-rows f = (
     negated _ (eq-eqb _ _ (f .long)),
     (
@@ -53,18 +53,18 @@ module _ (vs : Versions) (g : Given) (s : State) where
   )
 
   -- The same from the number of its first row that applies: there is none.
-  pub making-unrefused : firstOf (makingTests vs g s) ≡ 0 → MakingClear vs g s
-  making-unrefused e = making-clear (clear (makingTests vs g s) refl e)
+  pub making-unrefused : firstOf (makingTests vs z s) ≡ 0 → MakingClear vs z s
+  making-unrefused e = making-clear (clear (makingTests vs z s) refl e)
 
-pub record ClaimClear (exclusive : Bool) (s : State) (p x : ℕ) : Type 0 where
+pub record ClaimClear (exclusive : Bool) (s : State) (p slot : ℕ) : Type 0 where
   pub publisher-named : p < publishers (s .words)
-  pub slot-named : x < slots (s .words)
-  pub in-turn : publisher s p .place ≡ 0
+  pub slot-named : slot < slots (s .words)
+  pub in-turn : publisher s p .place ≡ PLACE-IDLE
   pub nobody-busy : exclusive && anotherBusy s p ≡ false
-  pub unused : inUse s x ≡ false
+  pub unused : inUse s slot ≡ false
 
-module _ (exclusive : Bool) (s : State) (p x : ℕ) where
-  pub claim-clear : AllClear (claimTests exclusive s p x) → ClaimClear exclusive s p x
+module _ (exclusive : Bool) (s : State) (p slot : ℕ) where
+  pub claim-clear : AllClear (claimTests exclusive s p slot) → ClaimClear exclusive s p slot
   claim-clear f = record {
     publisher-named = leb-false _ _ (f .0);
     slot-named = leb-false _ _ (f .1 .0);
@@ -73,5 +73,5 @@ module _ (exclusive : Bool) (s : State) (p x : ℕ) where
     unused = f .1 .1 .1 .1 .0;
   }
 
-  pub claim-rows : ClaimClear exclusive s p x → AllClear (claimTests exclusive s p x)
+  pub claim-rows : ClaimClear exclusive s p slot → AllClear (claimTests exclusive s p slot)
   claim-rows f = (lt-leb _ _ (f .publisher-named), (lt-leb _ _ (f .slot-named), (negated _ (eq-eqb _ _ (f .in-turn)), (f .nobody-busy, (f .unused, tt)))))

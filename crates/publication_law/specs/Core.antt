@@ -10,13 +10,13 @@ use lib.IntN.{ℤ}
 use lib.ListN.{length}
 use lib.Dec.{leb, eqb}
 use Rattle.base.specs.Base.{pick}
-use Rattle.calls.specs.Numbers.{TABLE}
+use Rattle.calls.specs.Numbers.{TABLE, PLACE-OUT, PLACE-PICKED, PLACE-CLAIMED, PLACE-WRITTEN}
 use Rattle.calls.specs.Model.{Model, entry}
 use Rattle.calls.specs.Told.{Told}
 
 -- A publisher holds a slot: the one that it claimed, while it writes it (places 1 to 33), and its former ones, which were current before its swaps.
 pub data Hold (place claimedSlot : ℕ) (formerSlots : ℕ → Bool) (slot : ℕ) : Type 0 where
-  by-claim : 1 ≤ place → place ≤ 33 → claimedSlot ≡ slot → Hold place claimedSlot formerSlots slot
+  by-claim : PLACE-CLAIMED ≤ place → place ≤ PLACE-WRITTEN → claimedSlot ≡ slot → Hold place claimedSlot formerSlots slot
   by-swap : formerSlots slot ≡ true → Hold place claimedSlot formerSlots slot
 
 -- A picked slot is the current one, or a former slot of some publisher.
@@ -27,13 +27,13 @@ pub data CurrentOrFormer (current : ℕ) (formerSlots : ℕ → ℕ → Bool) (s
 -- Of reader r: its place and its picked slot as stored, its picked slot as told, and its note in the model.
 pub record ReaderAgrees (readerCount current : ℕ) (formerSlots : ℕ → ℕ → Bool) (entries : ℕ → ℕ → ℤ) (r place pickedSlot : ℕ) (toldPick : Option ℕ) (note : List ℤ) : Type 0 where
   -- who is not at place 0 is a reader of the store
-  pub bound : 0 < place → r < readerCount
+  pub bound : PLACE-OUT < place → r < readerCount
   -- at place 5 the slot told picked is the stored one, at every other place none is
-  pub picked-is : toldPick ≡ pick (eqb place 5) (some pickedSlot) none
+  pub picked-is : toldPick ≡ pick (eqb place PLACE-PICKED) (some pickedSlot) none
   -- the picked slot is the current one or someone's former one
-  pub current-or-former : place ≡ 5 → CurrentOrFormer current formerSlots pickedSlot
+  pub current-or-former : place ≡ PLACE-PICKED → CurrentOrFormer current formerSlots pickedSlot
   -- the picked slot's entries are the note
-  pub noted : place ≡ 5 → (k : ℕ) → k < TABLE → entry note k ≡ some (entries pickedSlot k)
+  pub noted : place ≡ PLACE-PICKED → (k : ℕ) → k < TABLE → entry note k ≡ some (entries pickedSlot k)
 
 -- Of publisher p: its place, claimed slot and former slots as stored; the slots that it writes, its last claim and its former slots as told; and its draft in the model.
 pub record PublisherAgrees (publisherCount current : ℕ) (entries : ℕ → ℕ → ℤ) (p place claimedSlot : ℕ) (formerSlots : ℕ → Bool)
@@ -41,19 +41,19 @@ pub record PublisherAgrees (publisherCount current : ℕ) (entries : ℕ → ℕ
   -- who holds a slot is a publisher of the store
   pub bound : (slot : ℕ) → Hold place claimedSlot formerSlots slot → p < publisherCount
   -- told and stored agree on the slot being written: the claimed one, at places 1 to 33
-  pub writing-is : (slot : ℕ) → toldWriting slot ≡ (leb 1 place && leb place 33) && eqb claimedSlot slot
+  pub writing-is : (slot : ℕ) → toldWriting slot ≡ (leb PLACE-CLAIMED place && leb place PLACE-WRITTEN) && eqb claimedSlot slot
   -- told and stored agree on the former slots
   pub former-is : (slot : ℕ) → toldFormer slot ≡ formerSlots slot
   -- a held slot is not current
   pub apart : (slot : ℕ) → Hold place claimedSlot formerSlots slot → slot ≢ current
   -- the slot being written is the one of the last claim
-  pub claim-is : 1 ≤ place → place ≤ 33 → toldClaim ≡ some claimedSlot
+  pub claim-is : PLACE-CLAIMED ≤ place → place ≤ PLACE-WRITTEN → toldClaim ≡ some claimedSlot
   -- the slot being written is no former one of its own
-  pub not-former : 1 ≤ place → place ≤ 33 → formerSlots claimedSlot ≢ true
+  pub not-former : PLACE-CLAIMED ≤ place → place ≤ PLACE-WRITTEN → formerSlots claimedSlot ≢ true
   -- the draft has as many entries as were written ..
-  pub drafted : 1 ≤ place → place ≤ 33 → length draft + 1 ≡ place
+  pub drafted : PLACE-CLAIMED ≤ place → place ≤ PLACE-WRITTEN → length draft + 1 ≡ place
   -- .. and is the beginning of the claimed slot's entries
-  pub written : 1 ≤ place → place ≤ 33 → (k : ℕ) → k + 1 < place → entry draft k ≡ some (entries claimedSlot k)
+  pub written : PLACE-CLAIMED ≤ place → place ≤ PLACE-WRITTEN → (k : ℕ) → k + 1 < place → entry draft k ≡ some (entries claimedSlot k)
 
 -- Of the store: each reader and publisher as above, and the current slot beside the model's table.
 pub record Core (model : Model) (told : Told) (readerCount publisherCount current : ℕ) (readerPlace readerPick publisherPlace claimedSlot : ℕ → ℕ)

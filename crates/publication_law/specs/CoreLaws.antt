@@ -1,7 +1,7 @@
 -- Each call keeps what Core says of slots, and what it gives: each slot has one role, and a picked slot is not free.
 -- A move of one reader or publisher leaves the others as they are, and the slot that it takes nobody held. Assumes nothing.
 -- h is the model, t what is told, n and m the numbers of readers and publishers, cur the current slot; rpl and rpk are the readers' places and picks,
--- ppl and pcl the publishers' places and claimed slots, F their former slots, E the entries.
+-- ppl and pcl the publishers' places and claimed slots, F their former slots, E the entries; pl, pk, cl and G are new ones of one reader or publisher.
 use Prim.Native.Nat.{ℕ, _+_, _-_, _<_, _≤_}
 use native.Mathlib.Omega.{arith}
 use mathlib.Core.Path.{_≡_, refl, sym, ap, _∙_}
@@ -18,7 +18,7 @@ use Rattle.base.specs.RowLaws.{clash, not-both, or-left, or-right, or-none, or-
 use Rattle.calls.specs.declared.Call.the-variants.{Enter, Leave, Claim, Write, Swap, Release}
 use Rattle.calls.specs.declared.Reply.{Reply}
 use Rattle.calls.specs.declared.Reply.the-variants.{At}
-use Rattle.calls.specs.Numbers.{TABLE}
+use Rattle.calls.specs.Numbers.{TABLE, PLACE-OUT, PLACE-LOADED-AGAIN, PLACE-OPEN, PLACE-PICKED, PLACE-IDLE, PLACE-CLAIMED, PLACE-WRITTEN, PLACE-SWAPPED}
 use Rattle.calls.specs.Model.{Model, model₀, modelStep, entry}
 use Rattle.calls.specs.ModelLaws.{entry-old, entry-new}
 use Rattle.calls.specs.Told.{Told, told₀, tell, holds, Role, Has}
@@ -31,16 +31,16 @@ use Rattle.publication_law.specs.Onward.Onward.{stays-out, opens, picks}
 
 current-or-former-map : (cur cur′ : ℕ) (F F′ : ℕ → ℕ → Bool) (slot : ℕ) → CurrentOrFormer cur F slot → (slot ≡ cur → CurrentOrFormer cur′ F′ slot)
     → ((q : ℕ) → F q slot ≡ true → CurrentOrFormer cur′ F′ slot) → CurrentOrFormer cur′ F′ slot
-current-or-former-map cur cur′ F F′ slot (is-current e) f g = f e
-current-or-former-map cur cur′ F F′ slot (is-former q e) f g = g q e
+current-or-former-map cur cur′ F F′ slot (is-current e) f f′ = f e
+current-or-former-map cur cur′ F F′ slot (is-former q e) f f′ = f′ q e
 
-pub hold-map : {A : Type 0} (pl c : ℕ) (F : ℕ → Bool) (x : ℕ) → Hold pl c F x → (1 ≤ pl → pl ≤ 33 → c ≡ x → A) → (F x ≡ true → A) → A
-hold-map pl c F x (by-claim a b e) f g = f a b e
-hold-map pl c F x (by-swap e) f g = g e
+pub hold-map : {A : Type 0} (pl cl : ℕ) (F : ℕ → Bool) (x : ℕ) → Hold pl cl F x → (PLACE-CLAIMED ≤ pl → pl ≤ PLACE-WRITTEN → cl ≡ x → A) → (F x ≡ true → A) → A
+hold-map pl cl F x (by-claim low high e) f f′ = f low high e
+hold-map pl cl F x (by-swap e) f f′ = f′ e
 
 -- A publisher that is not writing holds its former slots only.
-hold-late : (pl c : ℕ) (F F′ : ℕ → Bool) (pl′ c′ x : ℕ) → (1 ≤ pl → pl ≤ 33 → ⊥) → ((y : ℕ) → F y ≡ true → F′ y ≡ true) → Hold pl c F x → Hold pl′ c′ F′ x
-hold-late pl c F F′ pl′ c′ x late sub o = hold-map pl c F x o (λ a b e. absurd (late a b)) (λ e. by-swap (sub x e))
+hold-late : (pl cl : ℕ) (F F′ : ℕ → Bool) (pl′ cl′ x : ℕ) → (PLACE-CLAIMED ≤ pl → pl ≤ PLACE-WRITTEN → ⊥) → ((x′ : ℕ) → F x′ ≡ true → F′ x′ ≡ true) → Hold pl cl F x → Hold pl′ cl′ F′ x
+hold-late pl cl F F′ pl′ cl′ x late sub held = hold-map pl cl F x held (λ low high e. absurd (late low high)) (λ e. by-swap (sub x e))
 
 -- A draft with one entry more.
 appended : (d : List ℤ) (v : ℤ) (pl : ℕ) → length d + 1 ≡ pl → (f : ℕ → ℤ) → ((k : ℕ) → k + 1 < pl → entry d k ≡ some (f k))
@@ -52,19 +52,19 @@ appended d v pl len f old k l = go (eqb k (pl - 1)) refl
     go false e = let ne = eqb-false k (pl - 1) e in rw e (entry-old d (v ∷ []) k (omega arith) ∙ old k (omega arith))
 
 -- A place from 1 to 33, as a test.
-writing-true : (pl : ℕ) → 1 ≤ pl → pl ≤ 33 → (leb 1 pl && leb pl 33) ≡ true
-writing-true pl a b = rw (le-leb 1 pl a, le-leb pl 33 b) refl
+writing-true : (pl : ℕ) → PLACE-CLAIMED ≤ pl → pl ≤ PLACE-WRITTEN → (leb PLACE-CLAIMED pl && leb pl PLACE-WRITTEN) ≡ true
+writing-true pl low high = rw (le-leb 1 pl low, le-leb pl 33 high) refl
 
-writing-late : (pl : ℕ) → 34 ≤ pl → (leb 1 pl && leb pl 33) ≡ false
+writing-late : (pl : ℕ) → PLACE-SWAPPED ≤ pl → (leb PLACE-CLAIMED pl && leb pl PLACE-WRITTEN) ≡ false
 writing-late pl l = rw (lt-leb pl 33 (omega arith), le-leb 1 pl (omega arith)) refl
 
-writing-not : (pl : ℕ) → (1 ≤ pl → pl ≤ 33 → ⊥) → (leb 1 pl && leb pl 33) ≡ false
+writing-not : (pl : ℕ) → (PLACE-CLAIMED ≤ pl → pl ≤ PLACE-WRITTEN → ⊥) → (leb PLACE-CLAIMED pl && leb pl PLACE-WRITTEN) ≡ false
 writing-not pl f = go (leb 1 pl) refl (leb pl 33) refl
   where
-    go : (a : Bool) → leb 1 pl ≡ a → (b : Bool) → leb pl 33 ≡ b → a && b ≡ false
+    go : (low : Bool) → leb PLACE-CLAIMED pl ≡ low → (high : Bool) → leb pl PLACE-WRITTEN ≡ high → low && high ≡ false
     go true d true e = absurd (f (leb-true _ _ d) (leb-true _ _ e))
     go true d false e = refl
-    go false d b e = refl
+    go false d high e = refl
 
 module _ (h : Model) (t : Told) (n m cur : ℕ) (rpl rpk ppl pcl : ℕ → ℕ) (F : ℕ → ℕ → Bool) (E : ℕ → ℕ → ℤ) (i : Core h t n m cur rpl rpk ppl pcl F E) where
   -- A reader moves, with what is told of the readers and their notes.
@@ -74,267 +74,267 @@ module _ (h : Model) (t : Told) (n m cur : ℕ) (rpl rpk ppl pcl : ℕ → ℕ) 
   reader-core r pl pk inside picked note ok = record { readers = ok; publishers = i .publishers; distinct = i .distinct; current-is = i .current-is; table = i .table; whole = i .whole }
 
   -- ENTER to a place below 4, to 4, and to 5.
-  enter-below-4 : (r pl : ℕ) → r < n → rpl r ≤ 3 → pl ≤ 3
+  enter-below-4 : (r pl : ℕ) → r < n → rpl r ≤ PLACE-LOADED-AGAIN → pl ≤ PLACE-LOADED-AGAIN
       → Core (modelStep h (Enter r) (At pl)) (tell t (Enter r) (At pl)) n m cur (upd rpl r pl) (upd rpk r (rpk r)) ppl pcl F E
-  enter-below-4 r pl rn old new = rw (ne-eqb pl 4 (λ z. omega arith), ne-eqb pl 5 (λ z. omega arith)) (reader-core r pl _ _ _ _ (at-or r (rw (same r) (let o = i .readers r in record {
+  enter-below-4 r pl rn old new = rw (ne-eqb pl 4 (λ eq. omega arith), ne-eqb pl 5 (λ eq. omega arith)) (reader-core r pl _ _ _ _ (at-or r (rw (same r) (let at-r = i .readers r in record {
     bound = λ _. rn;
-    picked-is = o .picked-is ∙ rw (ne-eqb (rpl r) 5 (λ z. omega arith), ne-eqb pl 5 (λ z. omega arith)) refl;
-    current-or-former = λ q. absurd (omega arith);
-    noted = λ q. absurd (omega arith);
+    picked-is = at-r .picked-is ∙ rw (ne-eqb (rpl r) 5 (λ eq. omega arith), ne-eqb pl 5 (λ eq. omega arith)) refl;
+    current-or-former = λ e. absurd (omega arith);
+    noted = λ e. absurd (omega arith);
   })) (λ j e. rw e (i .readers j))))
 
   enter-at-4 : (r : ℕ) → r < n
-      → Core (modelStep h (Enter r) (At 4)) (tell t (Enter r) (At 4)) n m cur (upd rpl r 4) (upd rpk r (rpk r)) ppl pcl F E
+      → Core (modelStep h (Enter r) (At PLACE-OPEN)) (tell t (Enter r) (At PLACE-OPEN)) n m cur (upd rpl r PLACE-OPEN) (upd rpk r (rpk r)) ppl pcl F E
   enter-at-4 r rn = reader-core r 4 _ _ _ _ (at-or r (rw (same r) (record {
     bound = λ _. rn;
     picked-is = refl;
-    current-or-former = λ q. absurd (omega arith);
-    noted = λ q. absurd (omega arith);
+    current-or-former = λ e. absurd (omega arith);
+    noted = λ e. absurd (omega arith);
   })) (λ j e. rw e (i .readers j)))
 
   enter-at-5 : (r : ℕ) → r < n
-      → Core (modelStep h (Enter r) (At 5)) (tell t (Enter r) (At 5)) n m cur (upd rpl r 5) (upd rpk r cur) ppl pcl F E
+      → Core (modelStep h (Enter r) (At PLACE-PICKED)) (tell t (Enter r) (At PLACE-PICKED)) n m cur (upd rpl r PLACE-PICKED) (upd rpk r cur) ppl pcl F E
   enter-at-5 r rn = reader-core r 5 _ _ _ _ (at-or r (rw (same r, i .current-is) (record {
     bound = λ _. rn;
     picked-is = refl;
-    current-or-former = λ q. is-current refl;
-    noted = λ q. i .table;
+    current-or-former = λ e. is-current refl;
+    noted = λ e. i .table;
   })) (λ j e. rw e (i .readers j)))
 
   pub enter-core : (r pl pk : ℕ) → r < n → Onward cur (rpl r) (rpk r) pl pk → Core (modelStep h (Enter r) (At pl)) (tell t (Enter r) (At pl)) n m cur (upd rpl r pl) (upd rpk r pk) ppl pcl F E
-  enter-core r pl pk rn (stays-out a b e) = rw e (enter-below-4 r pl rn a b)
-  enter-core r pl pk rn (opens a b e) = rw (b, e) (enter-at-4 r rn)
-  enter-core r pl pk rn (picks a b e) = rw (b, e) (enter-at-5 r rn)
+  enter-core r pl pk rn (stays-out old new e) = rw e (enter-below-4 r pl rn old new)
+  enter-core r pl pk rn (opens old new e) = rw (new, e) (enter-at-4 r rn)
+  enter-core r pl pk rn (picks old new e) = rw (new, e) (enter-at-5 r rn)
 
-  pub leave-core : (r pk : ℕ) (a : Reply) → Core h (tell t (Leave r) a) n m cur (upd rpl r 0) (upd rpk r pk) ppl pcl F E
+  pub leave-core : (r pk : ℕ) (a : Reply) → Core h (tell t (Leave r) a) n m cur (upd rpl r PLACE-OUT) (upd rpk r pk) ppl pcl F E
   leave-core r pk a = reader-core r 0 pk _ _ _ (at-or r (rw (same r) (record {
-    bound = λ q. absurd (omega arith);
+    bound = λ e. absurd (omega arith);
     picked-is = refl;
-    current-or-former = λ q. absurd (omega arith);
-    noted = λ q. absurd (omega arith);
+    current-or-former = λ e. absurd (omega arith);
+    noted = λ e. absurd (omega arith);
   })) (λ j e. rw e (i .readers j)))
 
   -- One publisher moves: each slot that it holds then it held before, or nobody did.
-  distinct-moved : (p pl c : ℕ) (G : ℕ → Bool) → ((x : ℕ) → Hold pl c G x → Hold (ppl p) (pcl p) (F p) x ⊎ ((q : ℕ) → Hold (ppl q) (pcl q) (F q) x → ⊥))
-      → (a b x : ℕ) → Hold (upd ppl p pl a) (upd pcl p c a) (upd F p G a) x → Hold (upd ppl p pl b) (upd pcl p c b) (upd F p G b) x → a ≡ b
-  distinct-moved p pl c G old = at-or p
-      (at-or p (λ x _ _. refl) (λ b e x. rw (same p, e) (λ u v. absurd (other b e x v (old x u)))))
-      (λ a e. at-or p (λ x. rw (same p, e) (λ u v. absurd (other a e x u (old x v)))) (λ b d x. rw (e, d) (i .distinct a b x)))
+  distinct-moved : (p pl cl : ℕ) (G : ℕ → Bool) → ((x : ℕ) → Hold pl cl G x → Hold (ppl p) (pcl p) (F p) x ⊎ ((q : ℕ) → Hold (ppl q) (pcl q) (F q) x → ⊥))
+      → (q q′ x : ℕ) → Hold (upd ppl p pl q) (upd pcl p cl q) (upd F p G q) x → Hold (upd ppl p pl q′) (upd pcl p cl q′) (upd F p G q′) x → q ≡ q′
+  distinct-moved p pl cl G old = at-or p
+      (at-or p (λ x _ _. refl) (λ q′ e x. rw (same p, e) (λ held held′. absurd (other q′ e x held′ (old x held)))))
+      (λ q e. at-or p (λ x. rw (same p, e) (λ held held′. absurd (other q e x held (old x held′)))) (λ q′ d x. rw (e, d) (i .distinct q q′ x)))
     where
       other : (q : ℕ) → eqb q p ≡ false → (x : ℕ) → Hold (ppl q) (pcl q) (F q) x → Hold (ppl p) (pcl p) (F p) x ⊎ ((q : ℕ) → Hold (ppl q) (pcl q) (F q) x → ⊥) → ⊥
-      other q e x u (inl v) = eqb-false q p e (i .distinct q p x u v)
-      other q e x u (inr f) = f q u
+      other q e x held (inl held′) = eqb-false q p e (i .distinct q p x held held′)
+      other q e x held (inr f) = f q held
 
-  readers-moved : (p : ℕ) (G : ℕ → Bool) → ((r : ℕ) → rpl r ≡ 5 → F p (rpk r) ≡ true → G (rpk r) ≡ true)
+  readers-moved : (p : ℕ) (G : ℕ → Bool) → ((r : ℕ) → rpl r ≡ PLACE-PICKED → F p (rpk r) ≡ true → G (rpk r) ≡ true)
       → (r : ℕ) → ReaderAgrees n cur (upd F p G) E r (rpl r) (rpk r) (t .picked r) (h .note r)
-  readers-moved p G b r = let o = i .readers r in record {
-    bound = o .bound;
-    picked-is = o .picked-is;
-    current-or-former = λ five. current-or-former-map cur cur F (upd F p G) _ (o .current-or-former five) is-current
-        (at-or p (λ e. is-former p (rw (same p) (b r five e))) (λ q d e. is-former q (rw d e)));
-    noted = o .noted;
+  readers-moved p G kept r = let at-r = i .readers r in record {
+    bound = at-r .bound;
+    picked-is = at-r .picked-is;
+    current-or-former = λ five. current-or-former-map cur cur F (upd F p G) _ (at-r .current-or-former five) is-current
+        (at-or p (λ e. is-former p (rw (same p) (kept r five e))) (λ q d e. is-former q (rw d e)));
+    noted = at-r .noted;
   }
 
   -- CLAIM, of a slot that nobody holds, by a publisher that is not writing; its former slots stay.
-  pub claim-core : (p x : ℕ) (a : Reply) (G : ℕ → Bool) → p < m → (1 ≤ ppl p → ppl p ≤ 33 → ⊥) → cur ≢ x → ((q : ℕ) → Hold (ppl q) (pcl q) (F q) x → ⊥) → ((y : ℕ) → G y ≡ F p y)
-      → Core (modelStep h (Claim p x) a) (tell t (Claim p x) a) n m cur rpl rpk (upd ppl p 1) (upd pcl p x) (upd F p G) E
-  claim-core p x a G pm late nc nh g = record {
-    readers = readers-moved p G (λ r five e. g _ ∙ e);
-    publishers = at-or p (rw (same p) (let u = i .publishers p in record {
+  pub claim-core : (p x : ℕ) (a : Reply) (G : ℕ → Bool) → p < m → (PLACE-CLAIMED ≤ ppl p → ppl p ≤ PLACE-WRITTEN → ⊥) → cur ≢ x → ((q : ℕ) → Hold (ppl q) (pcl q) (F q) x → ⊥) → ((x′ : ℕ) → G x′ ≡ F p x′)
+      → Core (modelStep h (Claim p x) a) (tell t (Claim p x) a) n m cur rpl rpk (upd ppl p PLACE-CLAIMED) (upd pcl p x) (upd F p G) E
+  claim-core p x a G pm late nc nh G-is = record {
+    readers = readers-moved p G (λ r five e. G-is _ ∙ e);
+    publishers = at-or p (rw (same p) (let at-p = i .publishers p in record {
       bound = λ _ _. pm;
-      writing-is = λ y. rw (u .writing-is y, writing-not (ppl p) late) (or-none (eqb x y));
-      former-is = λ y. u .former-is y ∙ sym (g y);
-      apart = λ y o. hold-map _ _ _ _ o (λ _ _ e z. nc (sym (e ∙ z))) (λ e. u .apart y (by-swap (sym (g y) ∙ e)));
+      writing-is = λ x′. rw (at-p .writing-is x′, writing-not (ppl p) late) (or-none (eqb x x′));
+      former-is = λ x′. at-p .former-is x′ ∙ sym (G-is x′);
+      apart = λ x′ held. hold-map _ _ _ _ held (λ _ _ e e′. nc (sym (e ∙ e′))) (λ e. at-p .apart x′ (by-swap (sym (G-is x′) ∙ e)));
       claim-is = λ _ _. refl;
-      not-former = λ _ _ e. nh p (by-swap (sym (g x) ∙ e));
+      not-former = λ _ _ e. nh p (by-swap (sym (G-is x) ∙ e));
       drafted = λ _ _. refl;
       written = λ _ _ k l. absurd (omega arith);
     }))
         (λ q e. rw e (i .publishers q));
-    distinct = distinct-moved p 1 x G (λ y o. hold-map _ _ _ _ o (λ _ _ e. inr (λ q. rw (← e) (nh q))) (λ e. inl (by-swap (sym (g y) ∙ e))));
+    distinct = distinct-moved p 1 x G (λ x′ held. hold-map _ _ _ _ held (λ _ _ e. inr (λ q. rw (← e) (nh q))) (λ e. inl (by-swap (sym (G-is x′) ∙ e))));
     current-is = i .current-is;
     table = i .table;
     whole = i .whole;
   }
 
   -- A publisher that writes neither before nor after: only its place moves.
-  pub late-core : (p pl c : ℕ) (G : ℕ → Bool) → (1 ≤ ppl p → ppl p ≤ 33 → ⊥) → (1 ≤ pl → pl ≤ 33 → ⊥) → ((y : ℕ) → G y ≡ F p y)
-      → Core h t n m cur rpl rpk (upd ppl p pl) (upd pcl p c) (upd F p G) E
-  late-core p pl c G old new g = record {
-    readers = readers-moved p G (λ r five e. g _ ∙ e);
-    publishers = at-or p (rw (same p) (let u = i .publishers p in record {
-      bound = λ x o. u .bound x (before x o);
-      writing-is = λ y. u .writing-is y ∙ rw (writing-not (ppl p) old, writing-not pl new) refl;
-      former-is = λ y. u .former-is y ∙ sym (g y);
-      apart = λ x o. u .apart x (before x o);
-      claim-is = λ a b. absurd (new a b);
-      not-former = λ a b. absurd (new a b);
-      drafted = λ a b. absurd (new a b);
-      written = λ a b. absurd (new a b);
+  pub late-core : (p pl cl : ℕ) (G : ℕ → Bool) → (PLACE-CLAIMED ≤ ppl p → ppl p ≤ PLACE-WRITTEN → ⊥) → (PLACE-CLAIMED ≤ pl → pl ≤ PLACE-WRITTEN → ⊥) → ((x′ : ℕ) → G x′ ≡ F p x′)
+      → Core h t n m cur rpl rpk (upd ppl p pl) (upd pcl p cl) (upd F p G) E
+  late-core p pl cl G old new G-is = record {
+    readers = readers-moved p G (λ r five e. G-is _ ∙ e);
+    publishers = at-or p (rw (same p) (let at-p = i .publishers p in record {
+      bound = λ x held. at-p .bound x (before x held);
+      writing-is = λ x′. at-p .writing-is x′ ∙ rw (writing-not (ppl p) old, writing-not pl new) refl;
+      former-is = λ x′. at-p .former-is x′ ∙ sym (G-is x′);
+      apart = λ x held. at-p .apart x (before x held);
+      claim-is = λ low high. absurd (new low high);
+      not-former = λ low high. absurd (new low high);
+      drafted = λ low high. absurd (new low high);
+      written = λ low high. absurd (new low high);
     }))
         (λ q e. rw e (i .publishers q));
-    distinct = distinct-moved p pl c G (λ x o. inl (before x o));
+    distinct = distinct-moved p pl cl G (λ x held. inl (before x held));
     current-is = i .current-is;
     table = i .table;
     whole = i .whole;
   }
     where
-      before : (x : ℕ) → Hold pl c G x → Hold (ppl p) (pcl p) (F p) x
-      before x o = hold-late pl c G (F p) _ _ x new (λ y e. sym (g y) ∙ e) o
+      before : (x : ℕ) → Hold pl cl G x → Hold (ppl p) (pcl p) (F p) x
+      before x held = hold-late pl cl G (F p) _ _ x new (λ x′ e. sym (G-is x′) ∙ e) held
 
   -- SWAP: the claimed slot becomes current, the one that was current is one of the former slots.
-  pub swap-core : (p c : ℕ) (a : Reply) (G : ℕ → Bool) → ppl p ≡ 33 → ((y : ℕ) → G y ≡ eqb cur y || F p y)
-      → Core (modelStep h (Swap p) a) (tell t (Swap p) a) n m (pcl p) rpl rpk (upd ppl p 34) (upd pcl p c) (upd F p G) E
-  swap-core p c a G at33 g = record {
-    readers = λ r. let o = i .readers r in record {
-      bound = o .bound;
-      picked-is = o .picked-is;
-      current-or-former = λ five. current-or-former-map cur (pcl p) F (upd F p G) _ (o .current-or-former five)
-          (λ e. is-former p (rw (same p) (g (rpk r) ∙ or-left (eqb cur (rpk r)) (F p (rpk r)) (eq-eqb cur (rpk r) (sym e)))))
-          (at-or p (λ e. is-former p (rw (same p) (g (rpk r) ∙ or-right (eqb cur (rpk r)) (F p (rpk r)) e))) (λ q d e. is-former q (rw d e)));
-      noted = o .noted;
+  pub swap-core : (p cl : ℕ) (a : Reply) (G : ℕ → Bool) → ppl p ≡ PLACE-WRITTEN → ((x′ : ℕ) → G x′ ≡ eqb cur x′ || F p x′)
+      → Core (modelStep h (Swap p) a) (tell t (Swap p) a) n m (pcl p) rpl rpk (upd ppl p PLACE-SWAPPED) (upd pcl p cl) (upd F p G) E
+  swap-core p cl a G at33 G-is = record {
+    readers = λ r. let at-r = i .readers r in record {
+      bound = at-r .bound;
+      picked-is = at-r .picked-is;
+      current-or-former = λ five. current-or-former-map cur (pcl p) F (upd F p G) _ (at-r .current-or-former five)
+          (λ e. is-former p (rw (same p) (G-is (rpk r) ∙ or-left (eqb cur (rpk r)) (F p (rpk r)) (eq-eqb cur (rpk r) (sym e)))))
+          (at-or p (λ e. is-former p (rw (same p) (G-is (rpk r) ∙ or-right (eqb cur (rpk r)) (F p (rpk r)) e))) (λ q d e. is-former q (rw d e)));
+      noted = at-r .noted;
     };
     publishers = at-or p
         (rw (same p, i .current-is) (record {
-          bound = λ _ _. u .bound (pcl p) mine;
-          writing-is = λ y. refl;
-          former-is = λ y. rw (u .former-is y) (sym (g y));
-          apart = λ x o e. hold-map _ _ _ _ o (λ _ q _. omega arith) (λ f. not-mine x (or-either (eqb cur x) (F p x) (sym (g x) ∙ f)) e);
-          claim-is = λ _ q. absurd (omega arith);
-          not-former = λ _ q. absurd (omega arith);
-          drafted = λ _ q. absurd (omega arith);
-          written = λ _ q. absurd (omega arith);
+          bound = λ _ _. at-p .bound (pcl p) mine;
+          writing-is = λ x′. refl;
+          former-is = λ x′. rw (at-p .former-is x′) (sym (G-is x′));
+          apart = λ x held e. hold-map _ _ _ _ held (λ _ l _. omega arith) (λ f. not-mine x (or-either (eqb cur x) (F p x) (sym (G-is x) ∙ f)) e);
+          claim-is = λ _ l. absurd (omega arith);
+          not-former = λ _ l. absurd (omega arith);
+          drafted = λ _ l. absurd (omega arith);
+          written = λ _ l. absurd (omega arith);
         }))
-        (λ q e. rw e (let o = i .publishers q in record {
-          bound = o .bound;
-          writing-is = o .writing-is;
-          former-is = o .former-is;
-          apart = λ x a z. eqb-false q p e (i .distinct q p x a (by-claim (omega arith) (omega arith) (sym z)));
-          claim-is = o .claim-is;
-          not-former = o .not-former;
-          drafted = o .drafted;
-          written = o .written;
+        (λ q e. rw e (let at-q = i .publishers q in record {
+          bound = at-q .bound;
+          writing-is = at-q .writing-is;
+          former-is = at-q .former-is;
+          apart = λ x held e′. eqb-false q p e (i .distinct q p x held (by-claim (omega arith) (omega arith) (sym e′)));
+          claim-is = at-q .claim-is;
+          not-former = at-q .not-former;
+          drafted = at-q .drafted;
+          written = at-q .written;
         }));
-    distinct = distinct-moved p 34 c G (λ x o. hold-map _ _ _ _ o (λ _ q _. absurd (omega arith)) (λ f. came x (or-either (eqb cur x) (F p x) (sym (g x) ∙ f))));
-    current-is = u .claim-is (omega arith) (omega arith);
-    table = λ k l. u .written (omega arith) (omega arith) k (omega arith);
-    whole = omega (arith, u .drafted (omega arith) (omega arith));
+    distinct = distinct-moved p 34 cl G (λ x held. hold-map _ _ _ _ held (λ _ l _. absurd (omega arith)) (λ f. came x (or-either (eqb cur x) (F p x) (sym (G-is x) ∙ f))));
+    current-is = at-p .claim-is (omega arith) (omega arith);
+    table = λ k l. at-p .written (omega arith) (omega arith) k (omega arith);
+    whole = omega (arith, at-p .drafted (omega arith) (omega arith));
   }
     where
-      u : PublisherAgrees m cur E p (ppl p) (pcl p) (F p) (t .writing p) (t .claim p) (t .former p) (h .draft p)
-      u = i .publishers p
+      at-p : PublisherAgrees m cur E p (ppl p) (pcl p) (F p) (t .writing p) (t .claim p) (t .former p) (h .draft p)
+      at-p = i .publishers p
 
       mine : Hold (ppl p) (pcl p) (F p) (pcl p)
       mine = by-claim (omega arith) (omega arith) refl
 
       not-mine : (x : ℕ) → (eqb cur x ≡ true) ⊎ (F p x ≡ true) → x ≡ pcl p → ⊥
-      not-mine x (inl d) e = u .apart (pcl p) mine (sym e ∙ sym (eqb-true cur x d))
-      not-mine x (inr d) e = u .not-former (omega arith) (omega arith) (rw (← e) d)
+      not-mine x (inl d) e = at-p .apart (pcl p) mine (sym e ∙ sym (eqb-true cur x d))
+      not-mine x (inr d) e = at-p .not-former (omega arith) (omega arith) (rw (← e) d)
 
       came : (x : ℕ) → (eqb cur x ≡ true) ⊎ (F p x ≡ true) → Hold (ppl p) (pcl p) (F p) x ⊎ ((q : ℕ) → Hold (ppl q) (pcl q) (F q) x → ⊥)
-      came x (inl d) = inr (λ q o. i .publishers q .apart x o (sym (eqb-true cur x d)))
+      came x (inl d) = inr (λ q held. i .publishers q .apart x held (sym (eqb-true cur x d)))
       came x (inr d) = inl (by-swap d)
 
   -- RELEASE, where no reader picked a former slot of the publisher.
-  pub release-core : (p c : ℕ) (a : Reply) (G : ℕ → Bool) → 34 ≤ ppl p → ((r : ℕ) → rpl r ≡ 5 → F p (rpk r) ≡ true → ⊥) → ((y : ℕ) → G y ≡ false)
-      → Core h (tell t (Release p) a) n m cur rpl rpk (upd ppl p 0) (upd pcl p c) (upd F p G) E
-  release-core p c a G late nobody g = record {
+  pub release-core : (p cl : ℕ) (a : Reply) (G : ℕ → Bool) → PLACE-SWAPPED ≤ ppl p → ((r : ℕ) → rpl r ≡ PLACE-PICKED → F p (rpk r) ≡ true → ⊥) → ((x′ : ℕ) → G x′ ≡ false)
+      → Core h (tell t (Release p) a) n m cur rpl rpk (upd ppl p PLACE-IDLE) (upd pcl p cl) (upd F p G) E
+  release-core p cl a G late nobody G-is = record {
     readers = readers-moved p G (λ r five e. absurd (nobody r five e));
-    publishers = at-or p (rw (same p) (let u = i .publishers p in record {
-      bound = λ x o. absurd (none-held x o);
-      writing-is = λ y. u .writing-is y ∙ rw (writing-late (ppl p) late) refl;
-      former-is = λ y. sym (g y);
-      apart = λ x o. absurd (none-held x o);
-      claim-is = λ q. absurd (omega arith);
-      not-former = λ q. absurd (omega arith);
-      drafted = λ q. absurd (omega arith);
-      written = λ q. absurd (omega arith);
+    publishers = at-or p (rw (same p) (let at-p = i .publishers p in record {
+      bound = λ x held. absurd (none-held x held);
+      writing-is = λ x′. at-p .writing-is x′ ∙ rw (writing-late (ppl p) late) refl;
+      former-is = λ x′. sym (G-is x′);
+      apart = λ x held. absurd (none-held x held);
+      claim-is = λ l. absurd (omega arith);
+      not-former = λ l. absurd (omega arith);
+      drafted = λ l. absurd (omega arith);
+      written = λ l. absurd (omega arith);
     }))
         (λ q e. rw e (i .publishers q));
-    distinct = distinct-moved p 0 c G (λ x o. absurd (none-held x o));
+    distinct = distinct-moved p 0 cl G (λ x held. absurd (none-held x held));
     current-is = i .current-is;
     table = i .table;
     whole = i .whole;
   }
     where
-      none-held : (x : ℕ) → Hold 0 c G x → ⊥
-      none-held x o = hold-map 0 c G x o (λ q _ _. omega arith) (λ e. not-both _ e (g x))
+      none-held : (x : ℕ) → Hold 0 cl G x → ⊥
+      none-held x held = hold-map 0 cl G x held (λ l _ _. omega arith) (λ e. not-both _ e (G-is x))
 
   -- WRITE of the next entry into the claimed slot.
-  pub write-core : (p : ℕ) (v : ℤ) (a : Reply) (G : ℕ → Bool) → 1 ≤ ppl p → ppl p ≤ 32 → ((y : ℕ) → G y ≡ F p y)
+  pub write-core : (p : ℕ) (v : ℤ) (a : Reply) (G : ℕ → Bool) → PLACE-CLAIMED ≤ ppl p → ppl p ≤ 32 → ((x′ : ℕ) → G x′ ≡ F p x′)
       → Core (modelStep h (Write p v) a) t n m cur rpl rpk (upd ppl p (ppl p + 1)) (upd pcl p (pcl p)) (upd F p G) (upd E (pcl p) (upd (E (pcl p)) (ppl p - 1) v))
-  write-core p v a G low high g = record {
-    readers = λ r. let o = readers-moved p G (λ r five e. g _ ∙ e) r in record {
-      bound = o .bound;
-      picked-is = o .picked-is;
-      current-or-former = o .current-or-former;
-      noted = λ five k l. rw (ne-eqb (rpk r) (pcl p) (unpicked r (i .readers r .current-or-former five))) (o .noted five k l);
+  write-core p v a G low high G-is = record {
+    readers = λ r. let at-r = readers-moved p G (λ r five e. G-is _ ∙ e) r in record {
+      bound = at-r .bound;
+      picked-is = at-r .picked-is;
+      current-or-former = at-r .current-or-former;
+      noted = λ five k l. rw (ne-eqb (rpk r) (pcl p) (unpicked r (i .readers r .current-or-former five))) (at-r .noted five k l);
     };
     publishers = at-or p
         (rw (same p) (record {
-          bound = λ x o. u .bound x (before x o);
-          writing-is = λ y. u .writing-is y ∙ rw (writing-true (ppl p) low (omega arith), writing-true (ppl p + 1) (omega arith) (omega arith)) refl;
-          former-is = λ y. u .former-is y ∙ sym (g y);
-          apart = λ x o. u .apart x (before x o);
-          claim-is = λ _ _. u .claim-is low (omega arith);
-          not-former = λ _ _ e. u .not-former low (omega arith) (sym (g _) ∙ e);
-          drafted = λ _ _. omega (arith, length-append (h .draft p) (v ∷ []), u .drafted low (omega arith));
-          written = λ _ _ k l. rw (same (pcl p)) (appended (h .draft p) v (ppl p) (u .drafted low (omega arith)) (E (pcl p)) (u .written low (omega arith)) k l);
+          bound = λ x held. at-p .bound x (before x held);
+          writing-is = λ x′. at-p .writing-is x′ ∙ rw (writing-true (ppl p) low (omega arith), writing-true (ppl p + 1) (omega arith) (omega arith)) refl;
+          former-is = λ x′. at-p .former-is x′ ∙ sym (G-is x′);
+          apart = λ x held. at-p .apart x (before x held);
+          claim-is = λ _ _. at-p .claim-is low (omega arith);
+          not-former = λ _ _ e. at-p .not-former low (omega arith) (sym (G-is _) ∙ e);
+          drafted = λ _ _. omega (arith, length-append (h .draft p) (v ∷ []), at-p .drafted low (omega arith));
+          written = λ _ _ k l. rw (same (pcl p)) (appended (h .draft p) v (ppl p) (at-p .drafted low (omega arith)) (E (pcl p)) (at-p .written low (omega arith)) k l);
         }))
-        (λ q e. rw e (let o = i .publishers q in record {
-          bound = o .bound;
-          writing-is = o .writing-is;
-          former-is = o .former-is;
-          apart = o .apart;
-          claim-is = o .claim-is;
-          not-former = o .not-former;
-          drafted = o .drafted;
-          written = λ a b k l. rw (ne-eqb (pcl q) (pcl p) (λ z. eqb-false q p e (i .distinct q p _ (by-claim a b refl) (by-claim low (omega arith) (sym z))))) (o .written a b k l);
+        (λ q e. rw e (let at-q = i .publishers q in record {
+          bound = at-q .bound;
+          writing-is = at-q .writing-is;
+          former-is = at-q .former-is;
+          apart = at-q .apart;
+          claim-is = at-q .claim-is;
+          not-former = at-q .not-former;
+          drafted = at-q .drafted;
+          written = λ low′ high′ k l. rw (ne-eqb (pcl q) (pcl p) (λ e′. eqb-false q p e (i .distinct q p _ (by-claim low′ high′ refl) (by-claim low (omega arith) (sym e′))))) (at-q .written low′ high′ k l);
         }));
-    distinct = distinct-moved p (ppl p + 1) (pcl p) G (λ x o. inl (before x o));
+    distinct = distinct-moved p (ppl p + 1) (pcl p) G (λ x held. inl (before x held));
     current-is = i .current-is;
-    table = λ k l. rw (ne-eqb cur (pcl p) (λ z. u .apart (pcl p) mine (sym z))) (i .table k l);
+    table = λ k l. rw (ne-eqb cur (pcl p) (λ e′. at-p .apart (pcl p) mine (sym e′))) (i .table k l);
     whole = i .whole;
   }
     where
-      u : PublisherAgrees m cur E p (ppl p) (pcl p) (F p) (t .writing p) (t .claim p) (t .former p) (h .draft p)
-      u = i .publishers p
+      at-p : PublisherAgrees m cur E p (ppl p) (pcl p) (F p) (t .writing p) (t .claim p) (t .former p) (h .draft p)
+      at-p = i .publishers p
 
       mine : Hold (ppl p) (pcl p) (F p) (pcl p)
       mine = by-claim low (omega arith) refl
 
       before : (x : ℕ) → Hold (ppl p + 1) (pcl p) G x → Hold (ppl p) (pcl p) (F p) x
-      before x o = hold-map _ _ _ _ o (λ _ _ e. by-claim low (omega arith) e) (λ e. by-swap (sym (g x) ∙ e))
+      before x held = hold-map _ _ _ _ held (λ _ _ e. by-claim low (omega arith) e) (λ e. by-swap (sym (G-is x) ∙ e))
 
       unpicked : (r : ℕ) → CurrentOrFormer cur F (rpk r) → rpk r ≡ pcl p → ⊥
-      unpicked r (is-current e) z = u .apart (pcl p) mine (sym z ∙ e)
-      unpicked r (is-former q e) z =
-          let f : F q (pcl p) ≡ true = rw (← z) e in
-          u .not-former low (omega arith) (rw (i .distinct q p (pcl p) (by-swap f) mine) at f)
+      unpicked r (is-current e) e′ = at-p .apart (pcl p) mine (sym e′ ∙ e)
+      unpicked r (is-former q e) e′ =
+          let f : F q (pcl p) ≡ true = rw (← e′) e in
+          at-p .not-former low (omega arith) (rw (i .distinct q p (pcl p) (by-swap f) mine) at f)
 
   -- What is told of a publisher's slots, by its place, claim and former slots.
-  pub held-is : (p x : ℕ) → holds t p x ≡ ((leb 1 (ppl p) && leb (ppl p) 33) && eqb (pcl p) x) || F p x
-  held-is p x = let u = i .publishers p in rw (u .writing-is x, u .former-is x) refl
+  pub held-is : (p x : ℕ) → holds t p x ≡ ((leb PLACE-CLAIMED (ppl p) && leb (ppl p) PLACE-WRITTEN) && eqb (pcl p) x) || F p x
+  held-is p x = let at-p = i .publishers p in rw (at-p .writing-is x, at-p .former-is x) refl
 
   hold-of : (p x : ℕ) → holds t p x ≡ true → Hold (ppl p) (pcl p) (F p) x
-  hold-of p x e = go (leb 1 (ppl p)) refl (leb (ppl p) 33) refl (eqb (pcl p) x) refl (sym (held-is p x) ∙ e)
+  hold-of p x e = go (leb PLACE-CLAIMED (ppl p)) refl (leb (ppl p) PLACE-WRITTEN) refl (eqb (pcl p) x) refl (sym (held-is p x) ∙ e)
     where
-      go : (a : Bool) → leb 1 (ppl p) ≡ a → (b : Bool) → leb (ppl p) 33 ≡ b → (c : Bool) → eqb (pcl p) x ≡ c → ((a && b) && c) || F p x ≡ true → Hold (ppl p) (pcl p) (F p) x
-      go true d true e true f q = by-claim (leb-true _ _ d) (leb-true _ _ e) (eqb-true _ _ f)
-      go true d true e false f q = by-swap q
-      go true d false e c f q = by-swap q
-      go false d b e c f q = by-swap q
+      go : (low : Bool) → leb PLACE-CLAIMED (ppl p) ≡ low → (high : Bool) → leb (ppl p) PLACE-WRITTEN ≡ high → (claimed : Bool) → eqb (pcl p) x ≡ claimed → ((low && high) && claimed) || F p x ≡ true → Hold (ppl p) (pcl p) (F p) x
+      go true d true e true f held = by-claim (leb-true _ _ d) (leb-true _ _ e) (eqb-true _ _ f)
+      go true d true e false f held = by-swap held
+      go true d false e claimed f held = by-swap held
+      go false d high e claimed f held = by-swap held
 
   -- Who is told to hold a slot is a publisher of the store.
   pub held-bound : (p x : ℕ) → holds t p x ≡ true → p < m
   held-bound p x e = i .publishers p .bound x (hold-of p x e)
 
-  picked-some : (r x : ℕ) → t .picked r ≡ some x → (rpl r ≡ 5) × (rpk r ≡ x)
-  picked-some r x e = go (eqb (rpl r) 5) refl
+  picked-some : (r x : ℕ) → t .picked r ≡ some x → (rpl r ≡ PLACE-PICKED) × (rpk r ≡ x)
+  picked-some r x e = go (eqb (rpl r) PLACE-PICKED) refl
     where
-      go : (b : Bool) → eqb (rpl r) 5 ≡ b → (rpl r ≡ 5) × (rpk r ≡ x)
+      go : (b : Bool) → eqb (rpl r) PLACE-PICKED ≡ b → (rpl r ≡ PLACE-PICKED) × (rpk r ≡ x)
       go true d = (eqb-true _ _ d, cc (rw d at (i .readers r .picked-is)))
-      go false d = absurd (let z : _≡_ {A = ℕ} 0 1 = cc (rw d at (i .readers r .picked-is)) in omega arith)
+      go false d = absurd (let no : _≡_ {A = ℕ} 0 1 = cc (rw d at (i .readers r .picked-is)) in omega arith)
 
   -- The current slot and the held ones, as told.
   told-current : (x : ℕ) → is (t .current) x ≡ eqb cur x
@@ -371,13 +371,13 @@ module _ (h : Model) (t : Told) (n m cur : ℕ) (rpl rpk ppl pcl : ℕ → ℕ) 
 
       go : (b : Bool) → eqb cur x ≡ b → ((p : ℕ) × (holds t p x ≡ true)) ⊎ ((p : ℕ) → p < m → holds t p x ≡ false)
           → (ρ : Role) × Has t x ρ × ((σ : Role) → Has t x σ → σ ≡ ρ)
-      go true e o = (current, told-current x ∙ e, was-current e)
-      go false e (inl q) = (heldBy (q .0), q .1, was-held (q .0) (q .1))
-      go false e (inr q) = (free, (told-current x ∙ e, nobody-holds q), was-free e (nobody-holds q))
+      go true e found = (current, told-current x ∙ e, was-current e)
+      go false e (inl found) = (heldBy (found .0), found .1, was-held (found .0) (found .1))
+      go false e (inr found) = (free, (told-current x ∙ e, nobody-holds found), was-free e (nobody-holds found))
 
   -- A picked slot is not free.
   pub current-or-former-core : (r x : ℕ) → t .picked r ≡ some x → ¬ Has t x free
-  current-or-former-core r x e f = let a = picked-some r x e in not-free (a .1) (i .readers r .current-or-former (a .0))
+  current-or-former-core r x e f = let at5 = picked-some r x e in not-free (at5 .1) (i .readers r .current-or-former (at5 .0))
     where
       not-free : rpk r ≡ x → CurrentOrFormer cur F (rpk r) → ⊥
       not-free e (is-current d) = not-both _ (told-current x ∙ eq-eqb cur x (sym d ∙ e)) (f .0)
@@ -395,22 +395,22 @@ module _ (h : Model) (t : Told) (n m cur : ℕ) (rpl rpk ppl pcl : ℕ → ℕ) 
 pub fresh-core : (first : List ℤ) (n m : ℕ) (E : ℕ → ℕ → ℤ) → length first ≡ TABLE → ((k : ℕ) → k < TABLE → entry first k ≡ some (E 0 k))
     → Core (model₀ first) told₀ n m 0 (λ r. 0) (λ r. 0) (λ p. 0) (λ p. 0) (λ p x. false) E
 fresh-core first n m E len table = record {
-  readers = λ r. record { bound = λ q. absurd (omega arith); picked-is = refl; current-or-former = λ q. absurd (omega arith); noted = λ q. absurd (omega arith) };
+  readers = λ r. record { bound = λ l. absurd (omega arith); picked-is = refl; current-or-former = λ l. absurd (omega arith); noted = λ l. absurd (omega arith) };
   publishers = λ p. record {
-    bound = λ x o. absurd (none-held x o);
+    bound = λ x held. absurd (none-held x held);
     writing-is = λ x. refl;
     former-is = λ x. refl;
-    apart = λ x o. absurd (none-held x o);
-    claim-is = λ q. absurd (omega arith);
-    not-former = λ q. absurd (omega arith);
-    drafted = λ q. absurd (omega arith);
-    written = λ q. absurd (omega arith);
+    apart = λ x held. absurd (none-held x held);
+    claim-is = λ l. absurd (omega arith);
+    not-former = λ l. absurd (omega arith);
+    drafted = λ l. absurd (omega arith);
+    written = λ l. absurd (omega arith);
   };
-  distinct = λ p q x o. absurd (none-held x o);
+  distinct = λ p q x held. absurd (none-held x held);
   current-is = refl;
   table = table;
   whole = len;
 }
   where
-    none-held : (x : ℕ) → Hold 0 0 (λ y. false) x → ⊥
-    none-held x o = hold-map 0 0 (λ y. false) x o (λ q _ _. omega arith) (λ e. clash (sym e))
+    none-held : (x : ℕ) → Hold 0 0 (λ x′. false) x → ⊥
+    none-held x held = hold-map 0 0 (λ x′. false) x held (λ l _ _. omega arith) (λ e. clash (sym e))

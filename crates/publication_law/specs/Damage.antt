@@ -5,7 +5,7 @@ use mathlib.Core.List.{List, [], _∷_}
 use lib.ListN.{length}
 use lib.Dec.{leb, ltb, eqb}
 use Rattle.base.specs.Rows.{anyTrue, anyBelow, outside}
-use Rattle.calls.specs.Numbers.{READERS-MAX, PUBLISHERS-MAX, SLOTS-MIN, SLOTS-MAX, TABLE}
+use Rattle.calls.specs.Numbers.{READERS-MAX, PUBLISHERS-MAX, SLOTS-MIN, SLOTS-MAX, TABLE, PLACE-PICKED, PLACE-IDLE, PLACE-SYNCHRONISING}
 use Rattle.layout.specs.declared.Reader.{Reader}
 use Rattle.layout.specs.declared.Publisher.{Publisher}
 use Rattle.layout.specs.Layout.{WORDS, kind, readers, publishers, slots, current, version}
@@ -34,14 +34,14 @@ headRows K s =
 
 -- A picked slot (place 5) too large.
 abbrev pub wrongPick : ℕ → Reader → Bool
-wrongPick slots x = eqb (x .place) 5 && leb slots (x .picked)
+wrongPick slots x = eqb (x .place) PLACE-PICKED && leb slots (x .picked)
 
 -- A held slot (place not 0) too large; at 35 to 38 a mark of 0 or above the last, or waits above looks.
 abbrev pub publisherRows : Versions → ℕ → Publisher → List Bool
 publisherRows vs slots y =
-    (not (eqb (y .place) 0) && leb slots (y .held))
-    ∷ (leb 35 (y .place) && vs .wrongMark (y .walk .mark))
-    ∷ (leb 35 (y .place) && ltb (y .walk .looks) (y .walk .waits))
+    (not (eqb (y .place) PLACE-IDLE) && leb slots (y .held))
+    ∷ (leb PLACE-SYNCHRONISING (y .place) && vs .wrongMark (y .walk .mark))
+    ∷ (leb PLACE-SYNCHRONISING (y .place) && ltb (y .walk .looks) (y .walk .waits))
     ∷ []
 
 -- Numbers of readers and publishers beyond the sizes are not tested.

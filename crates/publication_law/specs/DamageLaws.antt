@@ -10,7 +10,7 @@ use lib.Dec.{leb, ltb, eqb}
 use borrow.Author.Tests.{eqb-true, eqb-false, eq-eqb, ne-eqb, not-true, leb-true, leb-false, lt-leb, le-leb, ltb-false, le-ltb, not-false}
 use Rattle.base.specs.Rows.{anyTrue, outside}
 use Rattle.base.specs.RowLaws.{and-false, and-not, or-false, or-left, or-right, neither, negated, within, not-outside, all-false, none-true, none-below, no-below}
-use Rattle.calls.specs.Numbers.{READERS-MAX, PUBLISHERS-MAX, SLOTS-MIN, SLOTS-MAX, TABLE}
+use Rattle.calls.specs.Numbers.{READERS-MAX, PUBLISHERS-MAX, SLOTS-MIN, SLOTS-MAX, TABLE, PLACE-IDLE, PLACE-CLAIMED, PLACE-SYNCHRONISING}
 use Rattle.layout.specs.declared.Publisher.{Publisher}
 use Rattle.layout.specs.Layout.{WORDS, kind, readers, publishers, slots, current, version}
 use Rattle.statement.specs.Machine.{State, state}
@@ -65,31 +65,31 @@ head-of K s e =
 
 pub undamaged-of : (K : DamageRules) (s : State) → sharedDamage K s ≡ false → Undamaged K s
 undamaged-of K s e =
-    let a = or-false (anyTrue (headRows K s) || readersDamaged K s) (publishersDamaged K s) e in
-    let b = or-false (anyTrue (headRows K s)) (readersDamaged K s) (a .0) in
+    let publishers-ok = or-false (anyTrue (headRows K s) || readersDamaged K s) (publishersDamaged K s) e in
+    let readers-ok = or-false (anyTrue (headRows K s)) (readersDamaged K s) (publishers-ok .0) in
     record {
-      head = head-of K s (b .0);
-      readers-undamaged = λ r l. none-below (λ r. K .readerDamaged (readers (s .words)) (slots (s .words)) (reader s r)) (readers (s .words)) r (b .1) l;
-      publishers-undamaged = λ p l. none-below (λ p. K .publisherDamaged (readers (s .words)) (slots (s .words)) (publisher s p)) (publishers (s .words)) p (a .1) l;
+      head = head-of K s (readers-ok .0);
+      readers-undamaged = λ r l. none-below (λ r. K .readerDamaged (readers (s .words)) (slots (s .words)) (reader s r)) (readers (s .words)) r (readers-ok .1) l;
+      publishers-undamaged = λ p l. none-below (λ p. K .publisherDamaged (readers (s .words)) (slots (s .words)) (publisher s p)) (publishers (s .words)) p (publishers-ok .1) l;
     }
 
 pub undamaged-to : (K : DamageRules) (s : State) → Undamaged K s → sharedDamage K s ≡ false
-undamaged-to K s f = let h = f .head in
+undamaged-to K s f = let head = f .head in
     neither (anyTrue (headRows K s) || readersDamaged K s) (publishersDamaged K s)
     (neither (anyTrue (headRows K s)) (readersDamaged K s)
     (none-true (headRows K s) (
-      negated _ (eq-eqb _ _ (h .long)),
+      negated _ (eq-eqb _ _ (head .long)),
       (
-        negated _ (eq-eqb _ _ (h .kind-is)),
+        negated _ (eq-eqb _ _ (head .kind-is)),
         (
-          not-outside 1 READERS-MAX _ (h .readers-low) (h .readers-high),
+          not-outside 1 READERS-MAX _ (head .readers-low) (head .readers-high),
           (
-            not-outside 1 PUBLISHERS-MAX _ (h .publishers-low) (h .publishers-high),
+            not-outside 1 PUBLISHERS-MAX _ (head .publishers-low) (head .publishers-high),
             (
-              not-outside SLOTS-MIN SLOTS-MAX _ (h .slots-low) (h .slots-high),
+              not-outside SLOTS-MIN SLOTS-MAX _ (head .slots-low) (head .slots-high),
               (
-                negated _ (eq-eqb _ _ (h .entries-are)),
-                (lt-leb _ _ (h .current-below), (h .version-fits, tt)),
+                negated _ (eq-eqb _ _ (head .entries-are)),
+                (lt-leb _ _ (head .current-below), (head .version-fits, tt)),
               ),
             ),
           ),
@@ -102,44 +102,44 @@ undamaged-to K s f = let h = f .head in
 -- The damage test is that of the head, of the readers and of the publishers, each by itself.
 module _ (K : DamageRules) (s : State) where
   pub readers-test-false : Undamaged K s → readersTest K s ≡ false
-  readers-test-false f = let h = f .head in neither (not (eqb (length (s .words)) WORDS) || outside 1 READERS-MAX (readers (s .words))) (readersDamaged K s)
-      (neither (not (eqb (length (s .words)) WORDS)) (outside 1 READERS-MAX (readers (s .words))) (negated _ (eq-eqb _ _ (h .long))) (not-outside 1 READERS-MAX _ (h .readers-low) (h .readers-high)))
+  readers-test-false f = let head = f .head in neither (not (eqb (length (s .words)) WORDS) || outside 1 READERS-MAX (readers (s .words))) (readersDamaged K s)
+      (neither (not (eqb (length (s .words)) WORDS)) (outside 1 READERS-MAX (readers (s .words))) (negated _ (eq-eqb _ _ (head .long))) (not-outside 1 READERS-MAX _ (head .readers-low) (head .readers-high)))
       (no-below (λ r. K .readerDamaged (readers (s .words)) (slots (s .words)) (reader s r)) (readers (s .words)) (f .readers-undamaged))
 
   pub publishers-test-false : Undamaged K s → publishersTest K s ≡ false
-  publishers-test-false f = let h = f .head in neither (not (eqb (length (s .words)) WORDS) || outside 1 PUBLISHERS-MAX (publishers (s .words))) (publishersDamaged K s)
-      (neither (not (eqb (length (s .words)) WORDS)) (outside 1 PUBLISHERS-MAX (publishers (s .words))) (negated _ (eq-eqb _ _ (h .long))) (not-outside 1 PUBLISHERS-MAX _ (h .publishers-low) (h .publishers-high)))
+  publishers-test-false f = let head = f .head in neither (not (eqb (length (s .words)) WORDS) || outside 1 PUBLISHERS-MAX (publishers (s .words))) (publishersDamaged K s)
+      (neither (not (eqb (length (s .words)) WORDS)) (outside 1 PUBLISHERS-MAX (publishers (s .words))) (negated _ (eq-eqb _ _ (head .long))) (not-outside 1 PUBLISHERS-MAX _ (head .publishers-low) (head .publishers-high)))
       (no-below (λ p. K .publisherDamaged (readers (s .words)) (slots (s .words)) (publisher s p)) (publishers (s .words)) (f .publishers-undamaged))
 
   pub tests-shared : anyTrue (headRows K s) ≡ false → readersTest K s ≡ false → publishersTest K s ≡ false → sharedDamage K s ≡ false
-  tests-shared h r p = neither (anyTrue (headRows K s) || readersDamaged K s) (publishersDamaged K s)
-      (neither (anyTrue (headRows K s)) (readersDamaged K s) h (or-false (not (eqb (length (s .words)) WORDS) || outside 1 READERS-MAX (readers (s .words))) (readersDamaged K s) r .1))
-      (or-false (not (eqb (length (s .words)) WORDS) || outside 1 PUBLISHERS-MAX (publishers (s .words))) (publishersDamaged K s) p .1)
+  tests-shared head-ok readers-ok publishers-ok = neither (anyTrue (headRows K s) || readersDamaged K s) (publishersDamaged K s)
+      (neither (anyTrue (headRows K s)) (readersDamaged K s) head-ok (or-false (not (eqb (length (s .words)) WORDS) || outside 1 READERS-MAX (readers (s .words))) (readersDamaged K s) readers-ok .1))
+      (or-false (not (eqb (length (s .words)) WORDS) || outside 1 PUBLISHERS-MAX (publishers (s .words))) (publishersDamaged K s) publishers-ok .1)
 
 -- The rows of a publisher that the kinds share.
 pub record UndamagedPublisher (vs : Versions) (slots : ℕ) (y : Publisher) : Type 0 where
-  pub held-below : 1 ≤ y .place → y .held < slots
-  pub mark-fits : 35 ≤ y .place → vs .wrongMark (y .walk .mark) ≡ false
-  pub waits-low : 35 ≤ y .place → y .walk .waits ≤ y .walk .looks
+  pub held-below : PLACE-CLAIMED ≤ y .place → y .held < slots
+  pub mark-fits : PLACE-SYNCHRONISING ≤ y .place → vs .wrongMark (y .walk .mark) ≡ false
+  pub waits-low : PLACE-SYNCHRONISING ≤ y .place → y .walk .waits ≤ y .walk .looks
 
 pub publisher-of : (vs : Versions) (slots : ℕ) (y : Publisher) → anyTrue (publisherRows vs slots y) ≡ false → UndamagedPublisher vs slots y
 publisher-of vs slots y e = let f = all-false (publisherRows vs slots y) e in record {
-  held-below = λ l. leb-false _ _ (and-false (not (eqb (y .place) 0)) (leb slots (y .held)) (f .0) (rw (ne-eqb (y .place) 0 (λ z. omega arith)) refl));
-  mark-fits = λ l. and-false (leb 35 (y .place)) (vs .wrongMark (y .walk .mark)) (f .1 .0) (le-leb _ _ l);
-  waits-low = λ l. ltb-false _ _ (and-false (leb 35 (y .place)) (ltb (y .walk .looks) (y .walk .waits)) (f .1 .1 .0) (le-leb _ _ l));
+  held-below = λ l. leb-false _ _ (and-false (not (eqb (y .place) PLACE-IDLE)) (leb slots (y .held)) (f .0) (rw (ne-eqb (y .place) 0 (λ eq. omega arith)) refl));
+  mark-fits = λ l. and-false (leb PLACE-SYNCHRONISING (y .place)) (vs .wrongMark (y .walk .mark)) (f .1 .0) (le-leb _ _ l);
+  waits-low = λ l. ltb-false _ _ (and-false (leb PLACE-SYNCHRONISING (y .place)) (ltb (y .walk .looks) (y .walk .waits)) (f .1 .1 .0) (le-leb _ _ l));
 }
 
 pub publisher-to : (vs : Versions) (slots : ℕ) (y : Publisher) → UndamagedPublisher vs slots y → anyTrue (publisherRows vs slots y) ≡ false
 publisher-to vs slots y f = none-true (publisherRows vs slots y) (
-  and-not (not (eqb (y .place) 0)) (leb slots (y .held)) (λ e. lt-leb slots (y .held) (f .held-below (some-place (y .place) e))),
+  and-not (not (eqb (y .place) PLACE-IDLE)) (leb slots (y .held)) (λ e. lt-leb slots (y .held) (f .held-below (some-place (y .place) e))),
   (
-    and-not (leb 35 (y .place)) (vs .wrongMark (y .walk .mark)) (λ e. f .mark-fits (leb-true 35 (y .place) e)),
-    (and-not (leb 35 (y .place)) (ltb (y .walk .looks) (y .walk .waits)) (λ e. le-ltb _ _ (f .waits-low (leb-true 35 (y .place) e))), tt),
+    and-not (leb PLACE-SYNCHRONISING (y .place)) (vs .wrongMark (y .walk .mark)) (λ e. f .mark-fits (leb-true 35 (y .place) e)),
+    (and-not (leb PLACE-SYNCHRONISING (y .place)) (ltb (y .walk .looks) (y .walk .waits)) (λ e. le-ltb _ _ (f .waits-low (leb-true 35 (y .place) e))), tt),
   ),
 )
   where
     some-place : (n : ℕ) → not (eqb n 0) ≡ true → 1 ≤ n
-    some-place n e = let q = eqb-false n 0 (not-true (eqb n 0) e) in omega arith
+    some-place n e = let unequal = eqb-false n 0 (not-true (eqb n 0) e) in omega arith
 
 -- A store with every number 0 is damaged.
 pub zero-damaged : (T : Table) (es : List ℤ) → damaged T (state (replicate WORDS 0) es) ≡ true

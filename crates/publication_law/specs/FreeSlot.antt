@@ -8,6 +8,7 @@ use lib.Dec.{eqb}
 use borrow.Author.Tests.{eq-eqb}
 use Rattle.base.specs.Base.{pick}
 use Rattle.base.specs.RowLaws.{clash, not-both, by-test, or-false, and-not, neither, same, at-or, none-below, no-below, missed}
+use Rattle.calls.specs.Numbers.{PLACE-IDLE}
 use Rattle.calls.specs.Told.{holds, Has}
 use Rattle.calls.specs.Told.Role.{free}
 use Rattle.calls.specs.Tally.Phase.{idle}
@@ -26,7 +27,7 @@ use Rattle.publication_law.specs.Keeps.{slots-right, placed}
 use Rattle.publication_law.specs.KindShows.{WholeInvariant, KindShows, reached, companions-of}
 
 -- For every state. The slot that each publisher takes: its own, and for p, which is at place 0, the current one.
-module _ (s : State) (p : ℕ) (at-0 : publisher s p .place ≡ 0) where
+module _ (s : State) (p : ℕ) (at-0 : publisher s p .place ≡ PLACE-IDLE) where
   taken : ℕ → ℕ
   taken q = pick (eqb q p) (current (s .words)) (publisher s q .held)
 
@@ -35,10 +36,10 @@ module _ (s : State) (p : ℕ) (at-0 : publisher s p .place ≡ 0) where
   untaken x lt none = neither (eqb (current (s .words)) x) _ (rw (same p) at (none p lt)) (no-below (λ q. heldSlot s q x) (publishers (s .words)) unheld)
     where
       unheld : (q : ℕ) → q < publishers (s .words) → heldSlot s q x ≡ false
-      unheld = at-or p (λ l. rw (eq-eqb (publisher s p .place) 0 at-0) refl) (λ q e l. and-not (not (eqb (publisher s q .place) 0)) (eqb (publisher s q .held) x) (λ _. rw e at (none q l)))
+      unheld = at-or p (λ l. rw (eq-eqb (publisher s p .place) 0 at-0) refl) (λ q e l. and-not (not (eqb (publisher s q .place) PLACE-IDLE)) (eqb (publisher s q .held) x) (λ _. rw e at (none q l)))
 
   pub spare-slot : p < publishers (s .words) → publishers (s .words) < slots (s .words) → (x : ℕ) × (x < slots (s .words)) × (inUse s x ≡ false)
-  spare-slot lt room = let z = missed taken (publishers (s .words)) (slots (s .words)) room in (z .0, z .1, untaken (z .0) lt (z .2))
+  spare-slot lt room = let spare = missed taken (publishers (s .words)) (slots (s .words)) room in (spare .0, spare .1, untaken (spare .0) lt (spare .2))
 
 -- A slot that is not in use is told free.
 unused-told : (K : DamageRules) (z : Given) (g : Ghost) (s : State) → Invariant K z g s → (x : ℕ) → inUse s x ≡ false → Has (g .told) x free
@@ -46,24 +47,24 @@ unused-told K z g s i x e =
     let recorded = slots-right K z g s i in
     let parts = or-false (eqb (current (s .words)) x) _ e in
     let unheld : (q : ℕ) → q < publishers (s .words) → holds (g .told) q x ≡ false = λ q l. sym (recorded .held q x) ∙ none-below (λ q. heldSlot s q x) (publishers (s .words)) q (parts .1) l in
-    (rw (recorded .current) (parts .0), λ q. by-test (holds (g .told) q x) (λ h. not-both _ h (unheld q (held-bound _ _ _ _ _ _ _ _ _ _ _ (i .core) q x h))))
+    (rw (recorded .current) (parts .0), λ q. by-test (holds (g .told) q x) (λ e. not-both _ e (unheld q (held-bound _ _ _ _ _ _ _ _ _ _ _ (i .core) q x e))))
 
-module _ (R : Rules) (T : GraceTraits) (L : KindShows R T) where
+module _ (R : Rules) (traits : GraceTraits) (L : KindShows R traits) where
   told-free : (z : Given) (g : Ghost) (s : State) → WholeInvariant (R .damage) (L .Own) z g s → z .publishers < z .slots → (p : ℕ) → p < z .publishers → g .tally .phase p ≡ idle
       → (x : ℕ) × (x < z .slots) × Has (g .told) x free
   told-free z g s i room p pn idle-now =
-      let n = i .shared .every .sized in
-      let y = spare-slot s p (placed (R .damage) z g s (i .shared .every) p idle idle-now) (omega (arith, n .publishers-are)) (omega (arith, n .publishers-are, n .slots-are)) in
-      (y .0, omega (arith, n .slots-are, y .1), unused-told (R .damage) z g s (i .shared .every) (y .0) (y .2))
+      let sized = i .shared .every .sized in
+      let spare = spare-slot s p (placed (R .damage) z g s (i .shared .every) p idle idle-now) (omega (arith, sized .publishers-are)) (omega (arith, sized .publishers-are, sized .slots-are)) in
+      (spare .0, omega (arith, sized .slots-are, spare .1), unused-told (R .damage) z g s (i .shared .every) (spare .0) (spare .2))
 
   -- Of a kind whose claims are not exclusive.
-  pub finds-free-slot-of : T .every .exclusive ≡ false → FindsFreeSlot (machine (tableBy R))
+  pub finds-free-slot-of : traits .every .exclusive ≡ false → FindsFreeSlot (machine (tableBy R))
   finds-free-slot-of shared s f cs room p pn idle-now =
-      let t = all-told (ghost₀ (T .every .first (f .arguments))) (events (machine (tableBy R)) s cs) in
-      let x = told-free (f .arguments) _ _ (reached R T L s f cs) room p pn (rw (all-tally (ghost₀ (T .every .first (f .arguments))) (events (machine (tableBy R)) s cs)) idle-now) in
-      let found = rw t at (x .2) in record {
-        slot = x .0;
-        below = x .1;
+      let told-is = all-told (ghost₀ (traits .every .first (f .arguments))) (events (machine (tableBy R)) s cs) in
+      let spare = told-free (f .arguments) _ _ (reached R traits L s f cs) room p pn (rw (all-tally (ghost₀ (traits .every .first (f .arguments))) (events (machine (tableBy R)) s cs)) idle-now) in
+      let found = rw told-is at (spare .2) in record {
+        slot = spare .0;
+        below = spare .1;
         is-free = found;
-        claimed = companions-of R T L s f cs .every .state-companions .claims p (x .0) pn (x .1) found idle-now (λ e. clash (sym e ∙ shared));
+        claimed = companions-of R traits L s f cs .every .state-companions .claims p (spare .0) pn (spare .1) found idle-now (λ e. clash (sym e ∙ shared));
       }

@@ -24,7 +24,7 @@ pub reader-moved-grace : (K : DamageRules) (z : Given) (s : State) (g′ : Ghost
     → GraceInvariant K z g′ (state w′ (s .entries))
 reader-moved-grace K z s g′ w′ r x m i d e = record {
   every = i;
-  grace = rw (m .publishers-stay, reader-field (λ (y : Reader). y .place) (s .words) w′ r x m, reader-field (λ (y : Reader). y .picked) (s .words) w′ r x m) d;
+  grace = rw (m .publishers-stay, reader-field (λ (x′ : Reader). x′ .place) (s .words) w′ r x m, reader-field (λ (x′ : Reader). x′ .picked) (s .words) w′ r x m) d;
   tallied = rw (m .head RELEASES-AT (omega arith), m .publishers-stay) e;
 }
 
@@ -35,6 +35,6 @@ pub publisher-moved-grace : (K : DamageRules) (z : Given) (s : State) (g′ : Gh
     → GraceInvariant K z g′ (state w′ es′)
 publisher-moved-grace K z s g′ w′ es′ p y cur ver rel m i d e = record {
   every = i;
-  grace = rw (m .readers-stay, publisher-field (λ (x : Publisher). x .place) (s .words) w′ p y cur ver rel m, publisher-field formers (s .words) w′ p y cur ver rel m) d;
-  tallied = rw (m .releases-is, publisher-field (λ (x : Publisher). x .place) (s .words) w′ p y cur ver rel m, publisher-field (λ (x : Publisher). x .walk .waits) (s .words) w′ p y cur ver rel m) e;
+  grace = rw (m .readers-stay, publisher-field (λ (y′ : Publisher). y′ .place) (s .words) w′ p y cur ver rel m, publisher-field formers (s .words) w′ p y cur ver rel m) d;
+  tallied = rw (m .releases-is, publisher-field (λ (y′ : Publisher). y′ .place) (s .words) w′ p y cur ver rel m, publisher-field (λ (y′ : Publisher). y′ .walk .waits) (s .words) w′ p y cur ver rel m) e;
 }

@@ -5,7 +5,7 @@ use mathlib.Core.Bool.{false}
 use mathlib.Core.List.{List}
 use lib.ListN.{length}
 use borrow.Author.Tests.{ltb-false}
-use Rattle.calls.specs.Numbers.{READERS-MAX, PUBLISHERS-MAX, SLOTS-MAX, TABLE}
+use Rattle.calls.specs.Numbers.{READERS-MAX, PUBLISHERS-MAX, SLOTS-MAX, TABLE, PLACE-PICKED, PLACE-CLAIMED, PLACE-SYNCHRONISING}
 use Rattle.layout.specs.declared.Publisher.{Publisher}
 use Rattle.layout.specs.Layout.{WORDS, readers, publishers, slots, version, readerAt, publisherAt}
 use Rattle.statement.specs.Machine.{State}
@@ -21,8 +21,8 @@ pub record InBounds (w : List ℕ) : Type 0 where
   pub readers-high : readers w ≤ READERS-MAX
   pub publishers-high : publishers w ≤ PUBLISHERS-MAX
   pub slots-high : slots w ≤ SLOTS-MAX
-  pub picked-below : (r : ℕ) → r < readers w → readerAt w r .place ≡ 5 → readerAt w r .picked < slots w
-  pub held-below : (p : ℕ) → p < publishers w → 1 ≤ publisherAt w p .place → publisherAt w p .held < slots w
+  pub picked-below : (r : ℕ) → r < readers w → readerAt w r .place ≡ PLACE-PICKED → readerAt w r .picked < slots w
+  pub held-below : (p : ℕ) → p < publishers w → PLACE-CLAIMED ≤ publisherAt w p .place → publisherAt w p .held < slots w
 
 pub in-bounds : (K : DamageRules) → KindLaw K → (s : State) → Undamaged K s → InBounds (s .words)
 in-bounds K law s f = record {
@@ -49,7 +49,7 @@ module _ (T : Table) (law : KindLaw (T .damage)) (s : State) (clean : damaged T 
   pub version-low : (last : ℕ) → T .damage .versions ≡ upTo last → version (s .words) ≤ last
   version-low last up = ltb-false last (version (s .words)) (sym (ap (λ (vs : Versions). vs .tooLarge (version (s .words))) up) ∙ undamaged-facts T s clean .head .version-fits)
 
-  pub synchronising-of : (p : ℕ) → p < publishers (s .words) → 35 ≤ publisher s p .place → Synchronising (publisher s p)
+  pub synchronising-of : (p : ℕ) → p < publishers (s .words) → PLACE-SYNCHRONISING ≤ publisher s p .place → Synchronising (publisher s p)
   synchronising-of p named late =
       let f = undamaged-publisher law (readers (s .words)) (slots (s .words)) (publisher s p) (undamaged-facts T s clean .publishers-undamaged p named) in
       record { mark-low = law .versions-law .mark-low _ (f .mark-fits late); waits-low = f .waits-low late }

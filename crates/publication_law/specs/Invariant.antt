@@ -4,6 +4,7 @@ use Prim.Native.Nat.{ℕ}
 use mathlib.Core.Path.{_≡_}
 use mathlib.Core.Bool.{Bool, _&&_}
 use lib.Dec.{leb, eqb}
+use Rattle.calls.specs.Numbers.{PLACE-SWAPPED}
 use Rattle.layout.specs.declared.Publisher.{Publisher}
 use Rattle.layout.specs.Layout.{readers, publishers, slots, current, slotEntry}
 use Rattle.statement.specs.Machine.{State, Given}
@@ -16,7 +17,7 @@ use Rattle.publication_law.specs.Phases.{Phases}
 
 -- A publisher's former slots, which were current before its swaps: from place 34 on the one that it holds.
 abbrev pub formerAt : ℕ → ℕ → ℕ → Bool
-formerAt place held slot = leb 34 place && eqb held slot
+formerAt place held slot = leb PLACE-SWAPPED place && eqb held slot
 
 abbrev pub formers : Publisher → ℕ → Bool
 formers y = formerAt (y .place) (y .held)

@@ -22,30 +22,30 @@ use Rattle.publication_law.specs.Moves.{MovesPublisher, publisher-field,
 use Rattle.publication_law.specs.Invariant.{formers, Sized, Invariant}
 
 -- Words and entries of the same lengths, with the same numbers of the head below the current slot, and a current slot and a version that fit.
-module _ (K : DamageRules) (s : State) (w′ : List ℕ) (es′ : List ℤ) (long : length w′ ≡ length (s .words)) (head : (k : ℕ) → k < CURRENT-AT → getD w′ k 0 ≡ getD (s .words) k 0) where
+module _ (K : DamageRules) (s : State) (w′ : List ℕ) (es′ : List ℤ) (long : length w′ ≡ length (s .words)) (head : (j : ℕ) → j < CURRENT-AT → getD w′ j 0 ≡ getD (s .words) j 0) where
   head-undamaged : length es′ ≡ length (s .entries) → current w′ < slots (s .words) → K .versions .tooLarge (version w′) ≡ false → UndamagedHead K s → UndamagedHead K (state w′ es′)
-  head-undamaged len low fits h = record {
-    long = long ∙ h .long;
-    kind-is = head KIND-AT (omega arith) ∙ h .kind-is;
-    readers-low = rw (head READERS-AT (omega arith)) (h .readers-low);
-    readers-high = rw (head READERS-AT (omega arith)) (h .readers-high);
-    publishers-low = rw (head PUBLISHERS-AT (omega arith)) (h .publishers-low);
-    publishers-high = rw (head PUBLISHERS-AT (omega arith)) (h .publishers-high);
-    slots-low = rw (head SLOTS-AT (omega arith)) (h .slots-low);
-    slots-high = rw (head SLOTS-AT (omega arith)) (h .slots-high);
-    entries-are = rw (head SLOTS-AT (omega arith)) (len ∙ h .entries-are);
+  head-undamaged len low fits was = record {
+    long = long ∙ was .long;
+    kind-is = head KIND-AT (omega arith) ∙ was .kind-is;
+    readers-low = rw (head READERS-AT (omega arith)) (was .readers-low);
+    readers-high = rw (head READERS-AT (omega arith)) (was .readers-high);
+    publishers-low = rw (head PUBLISHERS-AT (omega arith)) (was .publishers-low);
+    publishers-high = rw (head PUBLISHERS-AT (omega arith)) (was .publishers-high);
+    slots-low = rw (head SLOTS-AT (omega arith)) (was .slots-low);
+    slots-high = rw (head SLOTS-AT (omega arith)) (was .slots-high);
+    entries-are = rw (head SLOTS-AT (omega arith)) (len ∙ was .entries-are);
     current-below = rw (head SLOTS-AT (omega arith)) low;
     version-fits = fits;
   }
 
   sized : (z : Given) → Sized z s → Sized z (state w′ es′)
-  sized z u = record { readers-are = head READERS-AT (omega arith) ∙ u .readers-are; publishers-are = head PUBLISHERS-AT (omega arith) ∙ u .publishers-are; slots-are = head SLOTS-AT (omega arith) ∙ u .slots-are }
+  sized z was = record { readers-are = head READERS-AT (omega arith) ∙ was .readers-are; publishers-are = head PUBLISHERS-AT (omega arith) ∙ was .publishers-are; slots-are = head SLOTS-AT (omega arith) ∙ was .slots-are }
 
 -- A reader moves.
 module _ (K : DamageRules) (z : Given) (g : Ghost) (s : State) (i : Invariant K z g s) (g′ : Ghost) (w′ : List ℕ) (r : ℕ) (x : Reader) (m : MovesReader (s .words) w′ r x) where
   undamaged-reader : K .readerDamaged (readers (s .words)) (slots (s .words)) x ≡ false → Undamaged K (state w′ (s .entries))
-  undamaged-reader ok = let f = i .no-damage in let h = f .head in record {
-    head = head-undamaged K s w′ (s .entries) (m .long) (λ k l. m .head k (omega arith)) refl (rw (m .head CURRENT-AT (omega arith)) (h .current-below)) (rw (m .head VERSION-AT (omega arith)) (h .version-fits)) h;
+  undamaged-reader ok = let f = i .no-damage in let was = f .head in record {
+    head = head-undamaged K s w′ (s .entries) (m .long) (λ j l. m .head j (omega arith)) refl (rw (m .head CURRENT-AT (omega arith)) (was .current-below)) (rw (m .head VERSION-AT (omega arith)) (was .version-fits)) was;
     readers-undamaged = rw (m .head READERS-AT (omega arith), m .head SLOTS-AT (omega arith), m .readers-are) (at-or r (λ l. rw (same r) ok) (λ j e l. rw e (f .readers-undamaged j l)));
     publishers-undamaged = rw (m .head READERS-AT (omega arith), m .head PUBLISHERS-AT (omega arith), m .head SLOTS-AT (omega arith), m .publishers-stay) (f .publishers-undamaged);
   }
@@ -55,18 +55,18 @@ module _ (K : DamageRules) (z : Given) (g : Ghost) (s : State) (i : Invariant K 
       (upd (λ j. reader s j .place) r (x .place)) (upd (λ j. reader s j .picked) r (x .picked)) (λ p. publisher s p .place) (λ p. publisher s p .held) (λ p. formers (publisher s p)) (slotEntry (s .entries))
       → Phases (g′ .tally .place) (g′ .tally .phase) (upd (λ j. reader s j .place) r (x .place)) (λ p. publisher s p .place)
       → Invariant K z g′ (state w′ (s .entries))
-  reader-moved ok c d = record {
+  reader-moved ok core-is phases-is = record {
     no-damage = undamaged-reader ok;
-    sized = sized K s w′ (s .entries) (m .long) (λ k l. m .head k (omega arith)) z (i .sized);
+    sized = sized K s w′ (s .entries) (m .long) (λ j l. m .head j (omega arith)) z (i .sized);
     core = rw (
       m .head READERS-AT (omega arith),
       m .head PUBLISHERS-AT (omega arith),
       m .head CURRENT-AT (omega arith),
       m .publishers-stay,
-      reader-field (λ (y : Reader). y .place) (s .words) w′ r x m,
-      reader-field (λ (y : Reader). y .picked) (s .words) w′ r x m,
-    ) c;
-    phases = rw (m .publishers-stay, reader-field (λ (y : Reader). y .place) (s .words) w′ r x m) d;
+      reader-field (λ (x′ : Reader). x′ .place) (s .words) w′ r x m,
+      reader-field (λ (x′ : Reader). x′ .picked) (s .words) w′ r x m,
+    ) core-is;
+    phases = rw (m .publishers-stay, reader-field (λ (x′ : Reader). x′ .place) (s .words) w′ r x m) phases-is;
   }
 
 -- A publisher moves.
@@ -76,7 +76,7 @@ module _ (K : DamageRules) (z : Given) (g : Ghost) (s : State) (i : Invariant K 
   undamaged-publisher low fits ok = let f = i .no-damage in record {
     head = head-undamaged K s w′ es′ (m .long) (m .head) len (rw (m .current-is) low) (rw (m .version-is) fits) (f .head);
     readers-undamaged = rw (m .head READERS-AT (omega arith), m .head SLOTS-AT (omega arith), m .readers-stay) (f .readers-undamaged);
-    publishers-undamaged = rw (m .head READERS-AT (omega arith), m .head PUBLISHERS-AT (omega arith), m .head SLOTS-AT (omega arith), m .publishers-are) (at-or p (λ l. rw (same p) ok) (λ j e l. rw e (f .publishers-undamaged j l)));
+    publishers-undamaged = rw (m .head READERS-AT (omega arith), m .head PUBLISHERS-AT (omega arith), m .head SLOTS-AT (omega arith), m .publishers-are) (at-or p (λ l. rw (same p) ok) (λ q e l. rw e (f .publishers-undamaged q l)));
   }
 
   pub publisher-moved : cur < slots (s .words) → K .versions .tooLarge ver ≡ false → K .publisherDamaged (readers (s .words)) (slots (s .words)) y ≡ false
@@ -84,7 +84,7 @@ module _ (K : DamageRules) (z : Given) (g : Ghost) (s : State) (i : Invariant K 
       (upd (λ q. publisher s q .place) p (y .place)) (upd (λ q. publisher s q .held) p (y .held)) (upd (λ q. formers (publisher s q)) p (formers y)) (slotEntry es′)
       → Phases (g′ .tally .place) (g′ .tally .phase) (λ j. reader s j .place) (upd (λ q. publisher s q .place) p (y .place))
       → Invariant K z g′ (state w′ es′)
-  publisher-moved low fits ok c d = record {
+  publisher-moved low fits ok core-is phases-is = record {
     no-damage = undamaged-publisher low fits ok;
     sized = sized K s w′ es′ (m .long) (m .head) z (i .sized);
     core = rw (
@@ -92,9 +92,9 @@ module _ (K : DamageRules) (z : Given) (g : Ghost) (s : State) (i : Invariant K 
       m .head PUBLISHERS-AT (omega arith),
       m .current-is,
       m .readers-stay,
-      publisher-field (λ (x : Publisher). x .place) (s .words) w′ p y cur ver rel m,
-      publisher-field (λ (x : Publisher). x .held) (s .words) w′ p y cur ver rel m,
+      publisher-field (λ (y′ : Publisher). y′ .place) (s .words) w′ p y cur ver rel m,
+      publisher-field (λ (y′ : Publisher). y′ .held) (s .words) w′ p y cur ver rel m,
       publisher-field formers (s .words) w′ p y cur ver rel m,
-    ) c;
-    phases = rw (m .readers-stay, publisher-field (λ (x : Publisher). x .place) (s .words) w′ p y cur ver rel m) d;
+    ) core-is;
+    phases = rw (m .readers-stay, publisher-field (λ (y′ : Publisher). y′ .place) (s .words) w′ p y cur ver rel m) phases-is;
   }

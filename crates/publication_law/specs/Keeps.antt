@@ -14,7 +14,7 @@ use Rattle.base.specs.Base.{pick}
 use Rattle.base.specs.RowLaws.{not-both, or-false, within, none-below, no-below, pick-split, same, AllClear}
 use Rattle.calls.specs.declared.Call.the-variants.{Claim, Write, Swap}
 use Rattle.calls.specs.declared.Reply.the-variants.{Claimed, Written, Swapped}
-use Rattle.calls.specs.Numbers.{READERS-MAX, TABLE, FEATHERED}
+use Rattle.calls.specs.Numbers.{READERS-MAX, TABLE, FEATHERED, PLACE-OUT, PLACE-IDLE, PLACE-CLAIMED, PLACE-SWAPPED}
 use Rattle.calls.specs.Model.{entry, firstTable}
 use Rattle.calls.specs.ModelLaws.{entry-same}
 use Rattle.calls.specs.Told.{holds, Has}
@@ -44,29 +44,29 @@ use Rattle.publication_law.specs.InvariantLaws.{publisher-moved}
 
 module _ (K : DamageRules) (z : Given) (g : Ghost) (s : State) (i : Invariant K z g s) where
   -- A slot that is not in use is held by nobody.
-  unheld : (x : ℕ) → inUse s x ≡ false → (q : ℕ) → Hold (publisher s q .place) (publisher s q .held) (formers (publisher s q)) x → ⊥
-  unheld x e q o = single-free _ _ x
-      (none-below (λ q. heldSlot s q x) (publishers (s .words)) q (or-false (eqb (current (s .words)) x) _ e .1) (i .core .publishers q .bound x o)) o
+  unheld : (slot : ℕ) → inUse s slot ≡ false → (q : ℕ) → Hold (publisher s q .place) (publisher s q .held) (formers (publisher s q)) slot → ⊥
+  unheld slot e q held = single-free _ _ slot
+      (none-below (λ q. heldSlot s q slot) (publishers (s .words)) q (or-false (eqb (current (s .words)) slot) _ e .1) (i .core .publishers q .bound slot held)) held
 
-  not-current : (x : ℕ) → inUse s x ≡ false → current (s .words) ≢ x
-  not-current x e = eqb-false _ _ (or-false (eqb (current (s .words)) x) _ e .0)
+  not-current : (slot : ℕ) → inUse s slot ≡ false → current (s .words) ≢ slot
+  not-current slot e = eqb-false _ _ (or-false (eqb (current (s .words)) slot) _ e .0)
 
-  pub claim-keeps : (e : Bool) (p x : ℕ) → ClaimClear e s p x
-      → K .publisherDamaged (readers (s .words)) (slots (s .words)) (publisher s p atPlace 1 held≔ x) ≡ false
-      → Invariant K z (advance g (Claim p x) (Claimed x)) (claim s p x .after)
-  claim-keeps e p x f ok =
+  pub claim-keeps : (exclusive : Bool) (p slot : ℕ) → ClaimClear exclusive s p slot
+      → K .publisherDamaged (readers (s .words)) (slots (s .words)) (publisher s p atPlace PLACE-CLAIMED held≔ slot) ≡ false
+      → Invariant K z (advance g (Claim p slot) (Claimed slot)) (claim s p slot .after)
+  claim-keeps exclusive p slot f ok =
       let lt = f .publisher-named in
       let at-place-0 = f .in-turn in
       let free-slot = f .unused in
       publisher-moved K z g s i _ _ _ p _ _ _ _ (publisher-moves (i .no-damage) p _ lt) refl (i .no-damage .head .current-below) (i .no-damage .head .version-fits) ok
-      (claim-core _ _ _ _ _ _ _ _ _ _ _ (i .core) p x (Claimed x) _ lt (λ a b. omega arith) (not-current x free-slot) (unheld x free-slot)
-      (λ y. sym (former-early (publisher s p .place) (publisher s p .held) y (omega arith))))
+      (claim-core _ _ _ _ _ _ _ _ _ _ _ (i .core) p slot (Claimed slot) _ lt (λ low high. omega arith) (not-current slot free-slot) (unheld slot free-slot)
+      (λ slot′. sym (former-early (publisher s p .place) (publisher s p .held) slot′ (omega arith))))
       (move-phases _ _ _ _ (i .phases) p 1 writing refl)
 
   -- No accepted CLAIM is of a picked slot.
-  pub claim-unpicked : (e : Bool) (p x : ℕ) → ClaimClear e s p x → (r : ℕ) → ¬ (g .told .picked r ≡ some x)
-  claim-unpicked e p x f r d = let free-slot = f .unused in
-      current-or-former-core _ _ _ _ _ _ _ _ _ _ _ (i .core) r x d (free-core _ _ _ _ _ _ _ _ _ _ _ (i .core) x (not-current x free-slot) (unheld x free-slot))
+  pub claim-unpicked : (exclusive : Bool) (p slot : ℕ) → ClaimClear exclusive s p slot → (r : ℕ) → ¬ (g .told .picked r ≡ some slot)
+  claim-unpicked exclusive p slot f r d = let free-slot = f .unused in
+      current-or-former-core _ _ _ _ _ _ _ _ _ _ _ (i .core) r slot d (free-core _ _ _ _ _ _ _ _ _ _ _ (i .core) slot (not-current slot free-slot) (unheld slot free-slot))
 
   pub write-keeps : (p : ℕ) (v : ℤ) → AllClear (writeTests s p v) → publisher s p .held < slots (s .words)
       → K .publisherDamaged (readers (s .words)) (slots (s .words)) (publisher s p atPlace (publisher s p .place + 1)) ≡ false
@@ -74,35 +74,35 @@ module _ (K : DamageRules) (z : Given) (g : Ghost) (s : State) (i : Invariant K 
   write-keeps p v f held-below ok =
       let lt = leb-false (publishers (s .words)) p (f .0) in
       let range = within 1 32 (publisher s p .place) (f .1 .1 .0) in
-      let low : 1 ≤ publisher s p .place = range .0 in
+      let low : PLACE-CLAIMED ≤ publisher s p .place = range .0 in
       let high : publisher s p .place ≤ 32 = range .1 in
       let room : entryAt (publisher s p .held) (publisher s p .place - 1) < length (s .entries) = omega (arith, i .no-damage .head .entries-are) in
       publisher-moved K z g s i _ _ (set (s .entries) (entryAt (publisher s p .held) (publisher s p .place - 1)) v) p _ _ _ _ (publisher-moves (i .no-damage) p _ lt) (length-set (s .entries) _ v)
       (i .no-damage .head .current-below) (i .no-damage .head .version-fits) ok
       (rw (set-entry (s .entries) (publisher s p .held) (publisher s p .place - 1) v (omega arith) room)
       (write-core _ _ _ _ _ _ _ _ _ _ _ (i .core) p v (Written (publisher s p .place)) _ low high
-      (λ y. former-early (publisher s p .place + 1) (publisher s p .held) y (omega arith) ∙ sym (former-early (publisher s p .place) (publisher s p .held) y (omega arith)))))
+      (λ slot. former-early (publisher s p .place + 1) (publisher s p .held) slot (omega arith) ∙ sym (former-early (publisher s p .place) (publisher s p .held) slot (omega arith)))))
       (stay-phases _ _ _ _ (i .phases) p (publisher s p .place + 1) (phase-writing (publisher s p .place + 1) (omega arith) (omega arith) ∙ sym (phase-writing (publisher s p .place) low (omega arith))))
 
   pub swap-keeps : (p : ℕ) → AllClear (swapTests s p) → publisher s p .held < slots (s .words)
-      → K .publisherDamaged (readers (s .words)) (slots (s .words)) (publisher s p atPlace 34 held≔ current (s .words)) ≡ false
+      → K .publisherDamaged (readers (s .words)) (slots (s .words)) (publisher s p atPlace PLACE-SWAPPED held≔ current (s .words)) ≡ false
       → Invariant K z (advance g (Swap p) (Swapped (current (s .words)))) (swap s p .after)
   swap-keeps p f held-below ok =
       let lt = leb-false (publishers (s .words)) p (f .0) in
       let at33 = eqb-true (publisher s p .place) 33 (not-false _ (f .1 .0)) in
       publisher-moved K z g s i _ _ _ p _ _ _ _
       (publisher-moves-head (i .no-damage) p _ lt CURRENT-AT (publisher s p .held) (omega arith) (omega arith)) refl held-below (i .no-damage .head .version-fits) ok
-      (swap-core _ _ _ _ _ _ _ _ _ _ _ (i .core) p _ (Swapped (current (s .words))) _ at33 (λ y. former-swap (publisher s p .place) (publisher s p .held) (current (s .words)) y (omega arith)))
+      (swap-core _ _ _ _ _ _ _ _ _ _ _ (i .core) p _ (Swapped (current (s .words))) _ at33 (λ slot. former-swap (publisher s p .place) (publisher s p .held) (current (s .words)) slot (omega arith)))
       (move-phases _ _ _ _ (i .phases) p 34 swapped refl)
 
   -- What an accepted LOOK gives is the model's entry.
   pub look-right : (r k : ℕ) → AllClear (lookTests s r k) → entry (g .model .note r) k ≡ some (getD (s .entries) (entryAt (reader s r .picked) k) (pos 0))
   look-right r k f =
-      let k32 : k < TABLE = let q = ltb-false 31 k (f .1 .0) in omega arith in
+      let k32 : k < TABLE = let not-less = ltb-false 31 k (f .1 .0) in omega arith in
       rw (lt-ltb k TABLE k32) at (i .core .readers r .noted (eqb-true _ _ (not-false _ (f .1 .1 .0))) k k32)
 
-  pub held-told : (p x : ℕ) → heldSlot s p x ≡ holds (g .told) p x
-  held-told p x = single (publisher s p .place) (publisher s p .held) x ∙ sym (held-is _ _ _ _ _ _ _ _ _ _ _ (i .core) p x)
+  pub held-told : (p slot : ℕ) → heldSlot s p slot ≡ holds (g .told) p slot
+  held-told p slot = single (publisher s p .place) (publisher s p .held) slot ∙ sym (held-is _ _ _ _ _ _ _ _ _ _ _ (i .core) p slot)
 
   pub slots-right : Slots (g .told) s
   slots-right = record {
@@ -113,55 +113,55 @@ module _ (K : DamageRules) (z : Given) (g : Ghost) (s : State) (i : Invariant K 
   }
 
   pub picks-right : Picks (g .told)
-  picks-right r x e = current-or-former-core _ _ _ _ _ _ _ _ _ _ _ (i .core) r x e
+  picks-right r slot e = current-or-former-core _ _ _ _ _ _ _ _ _ _ _ (i .core) r slot e
 
   pub table-right : length (g .model .table) ≡ TABLE
   table-right = i .core .whole
 
   -- A publisher's place, by its phase.
-  pub placed : (p : ℕ) (x : Phase) → g .tally .phase p ≡ x → InPhase (publisher s p .place) x
-  placed p x e = subst (InPhase (publisher s p .place)) (sym (i .phases .phases p) ∙ e) (in-phase (publisher s p .place))
+  pub placed : (p : ℕ) (phase : Phase) → g .tally .phase p ≡ phase → InPhase (publisher s p .place) phase
+  placed p phase e = subst (InPhase (publisher s p .place)) (sym (i .phases .phases p) ∙ e) (in-phase (publisher s p .place))
 
   -- Who is at a place other than 0 is told to hold a slot.
-  holding : (p : ℕ) → eqb (publisher s p .place) 0 ≡ false → holds (g .told) p (publisher s p .held) ≡ true
+  holding : (p : ℕ) → eqb (publisher s p .place) PLACE-IDLE ≡ false → holds (g .told) p (publisher s p .held) ≡ true
   holding p e = sym (held-told p (publisher s p .held)) ∙ rw (e, same (publisher s p .held)) refl
 
-  at-0 : (p : ℕ) → eqb (publisher s p .place) 0 ≡ true → g .tally .phase p ≡ idle
+  at-0 : (p : ℕ) → eqb (publisher s p .place) PLACE-IDLE ≡ true → g .tally .phase p ≡ idle
   at-0 p e = i .phases .phases p ∙ rw e refl
 
   -- Who is told to hold nothing is idle; and who is not idle is a publisher of the store, at a place other than 0.
-  pub idle-told : (p : ℕ) → ((x : ℕ) → holds (g .told) p x ≡ false) → g .tally .phase p ≡ idle
-  idle-told p f = go (eqb (publisher s p .place) 0) refl
+  pub idle-told : (p : ℕ) → ((slot : ℕ) → holds (g .told) p slot ≡ false) → g .tally .phase p ≡ idle
+  idle-told p f = go (eqb (publisher s p .place) PLACE-IDLE) refl
     where
-      go : (b : Bool) → eqb (publisher s p .place) 0 ≡ b → g .tally .phase p ≡ idle
+      go : (b : Bool) → eqb (publisher s p .place) PLACE-IDLE ≡ b → g .tally .phase p ≡ idle
       go true e = at-0 p e
       go false e = absurd (not-both _ (holding p e) (f (publisher s p .held)))
 
-  pub busy-told : (p : ℕ) → g .tally .phase p ≢ idle → (p < publishers (s .words)) × (eqb (publisher s p .place) 0 ≡ false)
-  busy-told p ne = go (eqb (publisher s p .place) 0) refl
+  pub busy-told : (p : ℕ) → g .tally .phase p ≢ idle → (p < publishers (s .words)) × (eqb (publisher s p .place) PLACE-IDLE ≡ false)
+  busy-told p ne = go (eqb (publisher s p .place) PLACE-IDLE) refl
     where
-      go : (b : Bool) → eqb (publisher s p .place) 0 ≡ b → (p < publishers (s .words)) × (eqb (publisher s p .place) 0 ≡ false)
+      go : (b : Bool) → eqb (publisher s p .place) PLACE-IDLE ≡ b → (p < publishers (s .words)) × (eqb (publisher s p .place) PLACE-IDLE ≡ false)
       go true e = absurd (ne (at-0 p e))
       go false e = (held-bound _ _ _ _ _ _ _ _ _ _ _ (i .core) p (publisher s p .held) (holding p e), e)
 
   -- The slot that a publisher at 34 to 38 holds is told to be a former one of its.
-  pub former-told : (p : ℕ) → 34 ≤ publisher s p .place → g .told .former p (publisher s p .held) ≡ true
+  pub former-told : (p : ℕ) → PLACE-SWAPPED ≤ publisher s p .place → g .told .former p (publisher s p .held) ≡ true
   former-told p l = i .core .publishers p .former-is (publisher s p .held) ∙ rw (le-leb 34 (publisher s p .place) l, same (publisher s p .held)) refl
 
   -- A slot that is told free is not in use.
-  pub free-told : (x : ℕ) → Has (g .told) x free → inUse s x ≡ false
-  free-told x f = rw (current-not, no-below (λ q. heldSlot s q x) (publishers (s .words)) (λ q l. held-told q x ∙ f .1 q)) refl
+  pub free-told : (slot : ℕ) → Has (g .told) slot free → inUse s slot ≡ false
+  free-told slot f = rw (current-not, no-below (λ q. heldSlot s q slot) (publishers (s .words)) (λ q l. held-told q slot ∙ f .1 q)) refl
     where
-      current-not : eqb (current (s .words)) x ≡ false
+      current-not : eqb (current (s .words)) slot ≡ false
       current-not = rw (i .core .current-is) at (f .0)
 
 -- A fresh store: what holds of every reader and every publisher ..
-module _ (k : ℕ) (x : Reader) (z : Given) (s : State) where
-  pub readers-fresh : (h : Reader → ℕ) → h x ≡ 0 → h noReader ≡ 0 → _≡_ {A = ℕ → ℕ} (λ r. h (reader (made k x z s) r)) (λ r. 0)
-  readers-fresh h a b = fun-ext (λ r. ap h (fresh-reader k (z .readers) (z .publishers) (z .slots) (z .version) x r) ∙ pick-split (λ (y : Reader). h y ≡ 0) (ltb r READERS-MAX) (λ _. a) (λ _. b))
+module _ (number : ℕ) (x : Reader) (z : Given) (s : State) where
+  pub readers-fresh : (f : Reader → ℕ) → f x ≡ 0 → f noReader ≡ 0 → _≡_ {A = ℕ → ℕ} (λ r. f (reader (made number x z s) r)) (λ r. 0)
+  readers-fresh f out none = fun-ext (λ r. ap f (fresh-reader number (z .readers) (z .publishers) (z .slots) (z .version) x r) ∙ pick-split (λ (x′ : Reader). f x′ ≡ 0) (ltb r READERS-MAX) (λ _. out) (λ _. none))
 
-  pub publishers-fresh : {B : Type 0} (h : Publisher → B) → _≡_ {A = ℕ → B} (λ p. h (publisher (made k x z s) p)) (λ p. h noPublisher)
-  publishers-fresh h = fun-ext (λ p. ap h (fresh-publisher k (z .readers) (z .publishers) (z .slots) (z .version) x p))
+  pub publishers-fresh : {B : Type 0} (f : Publisher → B) → _≡_ {A = ℕ → B} (λ p. f (publisher (made number x z s) p)) (λ p. f noPublisher)
+  publishers-fresh f = fun-ext (λ p. ap f (fresh-publisher number (z .readers) (z .publishers) (z .slots) (z .version) x p))
 
 -- .. and that it has the invariant.
 module _ (K : DamageRules) (x : Reader) (z : Given) (s : State) (f : MakingClear (K .versions) z s) where
@@ -197,23 +197,23 @@ module _ (K : DamageRules) (x : Reader) (z : Given) (s : State) (f : MakingClear
         (λ p l. rw (fresh-publisher (K .number) (z .readers) (z .publishers) (z .slots) (z .version) x p) publisher-ok);
   }
 
-  pub made-invariant : x .place ≡ 0 → x .picked ≡ 0 → K .readerDamaged (z .readers) (z .slots) x ≡ false → K .publisherDamaged (z .readers) (z .slots) noPublisher ≡ false
+  pub made-invariant : x .place ≡ PLACE-OUT → x .picked ≡ 0 → K .readerDamaged (z .readers) (z .slots) x ≡ false → K .publisherDamaged (z .readers) (z .slots) noPublisher ≡ false
       → Invariant K z (ghost₀ firstTable) (made (K .number) x z s)
   unfolding w
-  made-invariant a b reader-ok publisher-ok = record {
+  made-invariant out none reader-ok publisher-ok = record {
     no-damage = made-undamaged reader-ok publisher-ok;
     sized = record { readers-are = head READERS-AT (omega arith); publishers-are = head PUBLISHERS-AT (omega arith); slots-are = head SLOTS-AT (omega arith) };
     core = rw (
       head READERS-AT (omega arith),
       head PUBLISHERS-AT (omega arith),
       head CURRENT-AT (omega arith),
-      readers-fresh (K .number) x z s (λ (y : Reader). y .place) a refl,
-      readers-fresh (K .number) x z s (λ (y : Reader). y .picked) b refl,
+      readers-fresh (K .number) x z s (λ (x′ : Reader). x′ .place) out refl,
+      readers-fresh (K .number) x z s (λ (x′ : Reader). x′ .picked) none refl,
       publishers-fresh (K .number) x z s (λ (y : Publisher). y .place),
       publishers-fresh (K .number) x z s (λ (y : Publisher). y .held),
       publishers-fresh (K .number) x z s formers,
     )
         (fresh-core firstTable _ _ (slotEntry (replicate (length (s .entries)) FEATHERED)) refl
         (λ k l. entry-same TABLE k FEATHERED l ∙ ap some (sym (slot-same (length (s .entries)) k FEATHERED l (omega (arith, f .entries-are, f .slots-low))))));
-    phases = rw (readers-fresh (K .number) x z s (λ (y : Reader). y .place) a refl, publishers-fresh (K .number) x z s (λ (y : Publisher). y .place)) fresh-phases;
+    phases = rw (readers-fresh (K .number) x z s (λ (x′ : Reader). x′ .place) out refl, publishers-fresh (K .number) x z s (λ (y : Publisher). y .place)) fresh-phases;
   }

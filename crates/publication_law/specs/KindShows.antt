@@ -17,7 +17,7 @@ use Rattle.calls.specs.declared.Call.the-variants.{Enter, Look, Leave, Claim, W
 use Rattle.calls.specs.declared.Reply.{Reply}
 use Rattle.calls.specs.declared.Reply.the-variants.{Made, At, Left, Synced, Walked, Freed, Refused}
 use Rattle.calls.specs.declared.WalkReply.the-variants.{Spent, Returned}
-use Rattle.calls.specs.Numbers.{READERS-MAX, FEATHERED, NUMBER-MAX, NOT-READING, MODULUS, DAMAGED}
+use Rattle.calls.specs.Numbers.{READERS-MAX, FEATHERED, NUMBER-MAX, NOT-READING, MODULUS, PLACE-OPEN, PLACE-IDLE, PLACE-CLAIMED, PLACE-WRITTEN, PLACE-SWAPPED, PLACE-RETURNED, DAMAGED}
 use Rattle.calls.specs.ReplyNumbersLaws.{Representable}
 use Rattle.calls.specs.Events.{accepted}
 use Rattle.calls.specs.Events.Event.{_⇒_}
@@ -58,18 +58,18 @@ pub record WholeInvariant (K : DamageRules) (Own : Ghost → State → Type 0) (
   pub shared : GraceInvariant K z g s
   pub own : Own g s
 
-pub record KindShows (R : Rules) (T : GraceTraits) : Type 1 where
+pub record KindShows (R : Rules) (traits : GraceTraits) : Type 1 where
   pub kind-law : KindLaw (R .damage)
   -- what is said of the kind beside its rules
-  pub first-is : T .every .first ≡ (λ z. firstTable)
-  pub lacks-is : (c : Call) → T .every .lacks c ≡ false
-  pub exclusive-is : T .every .exclusive ≡ R .exclusive
-  pub successor-is : T .successor ≡ R .damage .versions .markAt
-  pub raises-in : (x : Phase) → T .every .raisesIn x ≡ R .raisesAt (firstPlace x)
-  pub walks-in : (x : Phase) → T .every .walksIn x ≡ R .walksAt (firstPlace x)
+  pub first-is : traits .every .first ≡ (λ z. firstTable)
+  pub lacks-is : (c : Call) → traits .every .lacks c ≡ false
+  pub exclusive-is : traits .every .exclusive ≡ R .exclusive
+  pub successor-is : traits .successor ≡ R .damage .versions .markAt
+  pub raises-in : (phase : Phase) → traits .every .raisesIn phase ≡ R .raisesAt (firstPlace phase)
+  pub walks-in : (phase : Phase) → traits .every .walksIn phase ≡ R .walksAt (firstPlace phase)
   -- versions up to the last fit, and below it a SYNC is not refused
-  pub last-fits : (v : ℕ) → v ≤ T .every .last → R .damage .versions .tooLarge v ≡ false
-  pub below-last : (v : ℕ) → v < T .every .last → R .damage .versions .isLast v ≡ false
+  pub last-fits : (ver : ℕ) → ver ≤ traits .every .last → R .damage .versions .tooLarge ver ≡ false
+  pub below-last : (ver : ℕ) → ver < traits .every .last → R .damage .versions .isLast ver ≡ false
   pub Own : Ghost → State → Type 0
   pub start-own : (z : Given) (s : State) → MakingClear (R .damage .versions) z s → Own (ghost₀ firstTable) (made (R .damage .number) (R .freshReader) z s)
   pub fresh-is : R .freshReader ≡ blankReader NOT-READING
@@ -77,17 +77,17 @@ pub record KindShows (R : Rules) (T : GraceTraits) : Type 1 where
   pub no-further : (z : Given) (g : Ghost) (s : State) → WholeInvariant (R .damage) Own z g s → R .further s ≡ false
   -- below 35 a publisher's move does not touch the kind's own invariant
   pub early-own : (g g′ : Ghost) (s : State) (w′ : List ℕ) (es′ : List ℤ) (p : ℕ) (y : Publisher) (cur rel : ℕ) → Own g s → g′ .pend ≡ g .pend
-      → MovesPublisher (s .words) w′ p y cur (version (s .words)) rel → y .walk ≡ publisher s p .walk → y .place ≤ 34 → Own g′ (state w′ es′)
+      → MovesPublisher (s .words) w′ p y cur (version (s .words)) rel → y .walk ≡ publisher s p .walk → y .place ≤ PLACE-SWAPPED → Own g′ (state w′ es′)
   pub enter-moves : (s : State) → Undamaged (R .damage) s → (r : ℕ) → r < readers (s .words) → MovesReader (s .words) (R .enterWords s r) r (R .entered s r)
   -- the reader after its LEAVE
   pub left : State → ℕ → Reader
   pub leave-moves : (s : State) → Undamaged (R .damage) s → (r : ℕ) → r < readers (s .words) → MovesReader (s .words) (R .leaveWords s r) r (left s r)
-  pub enter-place : (s : State) → Undamaged (R .damage) s → (r : ℕ) → r < readers (s .words) → reader s r .place ≤ 4 → R .entered s r .place ≡ T .onward (reader s r .place)
+  pub enter-place : (s : State) → Undamaged (R .damage) s → (r : ℕ) → r < readers (s .words) → reader s r .place ≤ PLACE-OPEN → R .entered s r .place ≡ traits .onward (reader s r .place)
   -- which numbers ENTER and LEAVE move of the head, in a kind that publishes readers' versions, and of a reader
-  pub enter-head : T .publishes ≡ true → (s : State) (r k : ℕ) → k < HEAD → getD (R .enterWords s r) k 0 ≡ getD (s .words) k 0
-  pub leave-head : T .publishes ≡ true → (s : State) (r k : ℕ) → k < HEAD → getD (R .leaveWords s r) k 0 ≡ getD (s .words) k 0
-  pub enter-stays : (s : State) (r : ℕ) → reader s r .place ≤ 4 → PlaceAndOne (reader s r) (R .entered s r)
-  pub leave-stays : (s : State) (r : ℕ) → LeaveStays (T .publishes) (reader s r) (left s r)
+  pub enter-head : traits .publishes ≡ true → (s : State) (r j : ℕ) → j < HEAD → getD (R .enterWords s r) j 0 ≡ getD (s .words) j 0
+  pub leave-head : traits .publishes ≡ true → (s : State) (r j : ℕ) → j < HEAD → getD (R .leaveWords s r) j 0 ≡ getD (s .words) j 0
+  pub enter-stays : (s : State) (r : ℕ) → reader s r .place ≤ PLACE-OPEN → PlaceAndOne (reader s r) (R .entered s r)
+  pub leave-stays : (s : State) (r : ℕ) → LeaveStays (traits .publishes) (reader s r) (left s r)
   pub enter-kept : (z : Given) (g : Ghost) (s : State) → WholeInvariant (R .damage) Own z g s → (r : ℕ) → AllClear (enterTests s r)
       → WholeInvariant (R .damage) Own z (advance g (Enter r) (At (R .entered s r .place))) (state (R .enterWords s r) (s .entries))
   pub leave-kept : (z : Given) (g : Ghost) (s : State) → WholeInvariant (R .damage) Own z g s → (r : ℕ) → AllClear (leaveTests s r)
@@ -99,20 +99,20 @@ pub record KindShows (R : Rules) (T : GraceTraits) : Type 1 where
   pub walk-kept : (z : Given) (g : Ghost) (s : State) → WholeInvariant (R .damage) Own z g s → (p b : ℕ) → p < publishers (s .words) → R .walksAt (publisher s p .place) ≡ true
       → WholeInvariant (R .damage) Own z (advance g (Walk p b) (Walked (R .looks s p b .reply))) (walk s p (R .looks s p b) .after)
   -- RAISE and WALK are in turn from 35 on alone; a WALK keeps its mark, and with no looks it comes to nothing
-  pub raises-late : (pl : ℕ) → pl ≤ 34 → R .raisesAt pl ≡ false
-  pub walks-late : (pl : ℕ) → pl ≤ 34 → R .walksAt pl ≡ false
+  pub raises-late : (pl : ℕ) → pl ≤ PLACE-SWAPPED → R .raisesAt pl ≡ false
+  pub walks-late : (pl : ℕ) → pl ≤ PLACE-SWAPPED → R .walksAt pl ≡ false
   pub mark-stays : (s : State) (p b : ℕ) → R .looks s p b .walk .mark ≡ publisher s p .walk .mark
   pub no-looks : (s : State) (p : ℕ) → R .looks s p 0 ≡ record { walk = publisher s p .walk; reply = Spent }
-  pub return-shown : (z : Given) (g : Ghost) (s : State) → WholeInvariant (R .damage) Own z g s → (p b l w : ℕ) → p < publishers (s .words) → R .walksAt (publisher s p .place) ≡ true
-      → R .looks s p b .reply ≡ Returned l w → Back T z g p l w
+  pub return-shown : (z : Given) (g : Ghost) (s : State) → WholeInvariant (R .damage) Own z g s → (p b looks waits : ℕ) → p < publishers (s .words) → R .walksAt (publisher s p .place) ≡ true
+      → R .looks s p b .reply ≡ Returned looks waits → Back traits z g p looks waits
 
-module _ (R : Rules) (T : GraceTraits) (L : KindShows R T) where
+module _ (R : Rules) (traits : GraceTraits) (L : KindShows R traits) where
   -- What each call's rows and act show of themselves.
   numbers-above-1 : (s : State) (c : Call) → allAbove DAMAGED (tableBy R .tests s c) ≡ true
   numbers-above-1 s (Enter r) = refl
   numbers-above-1 s (Look r k) = refl
   numbers-above-1 s (Leave r) = refl
-  numbers-above-1 s (Claim p x) = refl
+  numbers-above-1 s (Claim p slot) = refl
   numbers-above-1 s (Write p v) = refl
   numbers-above-1 s (Swap p) = refl
   numbers-above-1 s (Sync p) = refl
@@ -120,34 +120,34 @@ module _ (R : Rules) (T : GraceTraits) (L : KindShows R T) where
   numbers-above-1 s (Walk p b) = refl
   numbers-above-1 s (Release p) = refl
 
-  act-facts : (s : State) (c : Call) → AllClear (rows (tableBy R) s c) → ActFacts (T .publishes) s c (tableBy R .act s c)
+  act-facts : (s : State) (c : Call) → AllClear (rows (tableBy R) s c) → ActFacts (traits .publishes) s c (tableBy R .act s c)
   act-facts s (Enter r) f = record {
     accepts = refl;
     representable = λ _. tt;
-    framed = reader-framed (T .publishes) (Enter r) _ _ r _ (L .enter-moves s (undamaged-facts (tableBy R) s (f .0)) r (leb-false _ _ (f .1 .0))) refl refl (λ b. L .enter-head b s r)
-        (λ e. subst (λ (x : Reader). PlaceAndOne (reader s r) x) (sym e) (L .enter-stays s r (let q = leb-false 5 (reader s r .place) (f .1 .1 .0) in omega arith)));
+    framed = reader-framed (traits .publishes) (Enter r) _ _ r _ (L .enter-moves s (undamaged-facts (tableBy R) s (f .0)) r (leb-false _ _ (f .1 .0))) refl refl (λ e. L .enter-head e s r)
+        (λ e. subst (λ (x : Reader). PlaceAndOne (reader s r) x) (sym e) (L .enter-stays s r (let less = leb-false 5 (reader s r .place) (f .1 .1 .0) in omega arith)));
     entries-stay = λ _. refl;
   }
-  act-facts s (Look r k) f = record { accepts = refl; representable = λ n. n _; framed = same-framed (T .publishes) (Look r k) (s .words); entries-stay = λ _. refl }
+  act-facts s (Look r k) f = record { accepts = refl; representable = λ n. n _; framed = same-framed (traits .publishes) (Look r k) (s .words); entries-stay = λ _. refl }
   act-facts s (Leave r) f = record {
     accepts = refl;
     representable = λ _. tt;
-    framed = reader-framed (T .publishes) (Leave r) _ _ r _ (L .leave-moves s (undamaged-facts (tableBy R) s (f .0)) r (leb-false _ _ (f .1 .0))) refl refl (λ b. L .leave-head b s r)
-        (λ e. subst (λ (x : Reader). LeaveStays (T .publishes) (reader s r) x) (sym e) (L .leave-stays s r));
+    framed = reader-framed (traits .publishes) (Leave r) _ _ r _ (L .leave-moves s (undamaged-facts (tableBy R) s (f .0)) r (leb-false _ _ (f .1 .0))) refl refl (λ e. L .leave-head e s r)
+        (λ e. subst (λ (x : Reader). LeaveStays (traits .publishes) (reader s r) x) (sym e) (L .leave-stays s r));
     entries-stay = λ _. refl;
   }
-  act-facts s (Claim p x) f = record { accepts = refl; representable = λ _. tt; framed = claim-framed (T .publishes) (R .damage) s (undamaged-facts (tableBy R) s (f .0)) (R .exclusive) p x (claim-clear (R .exclusive) s p x (f .1)); entries-stay = λ _. refl }
-  act-facts s (Write p v) f = record { accepts = refl; representable = λ _. tt; framed = write-framed (T .publishes) (R .damage) s (undamaged-facts (tableBy R) s (f .0)) p v (f .1); entries-stay = λ ne. absurd (ne p v refl) }
-  act-facts s (Swap p) f = record { accepts = refl; representable = λ _. tt; framed = swap-framed (T .publishes) (R .damage) s (undamaged-facts (tableBy R) s (f .0)) p (f .1); entries-stay = λ _. refl }
-  act-facts s (Sync p) f = record { accepts = refl; representable = λ _. tt; framed = sync-framed (T .publishes) (R .damage) s (undamaged-facts (tableBy R) s (f .0)) (R .damage .versions) p (f .1); entries-stay = λ _. refl }
+  act-facts s (Claim p slot) f = record { accepts = refl; representable = λ _. tt; framed = claim-framed (traits .publishes) (R .damage) s (undamaged-facts (tableBy R) s (f .0)) (R .exclusive) p slot (claim-clear (R .exclusive) s p slot (f .1)); entries-stay = λ _. refl }
+  act-facts s (Write p v) f = record { accepts = refl; representable = λ _. tt; framed = write-framed (traits .publishes) (R .damage) s (undamaged-facts (tableBy R) s (f .0)) p v (f .1); entries-stay = λ ne. absurd (ne p v refl) }
+  act-facts s (Swap p) f = record { accepts = refl; representable = λ _. tt; framed = swap-framed (traits .publishes) (R .damage) s (undamaged-facts (tableBy R) s (f .0)) p (f .1); entries-stay = λ _. refl }
+  act-facts s (Sync p) f = record { accepts = refl; representable = λ _. tt; framed = sync-framed (traits .publishes) (R .damage) s (undamaged-facts (tableBy R) s (f .0)) (R .damage .versions) p (f .1); entries-stay = λ _. refl }
   act-facts s (Raise p) f = record {
     accepts = raise-split (λ (o : Outcome). accepted (o .reply) ≡ true) (R .damage .versions) s p (λ _. refl) refl;
     representable = λ _. raise-split (λ (o : Outcome). Representable (o .reply)) (R .damage .versions) s p (λ _. tt) tt;
-    framed = raise-framed (T .publishes) (R .damage) s (undamaged-facts (tableBy R) s (f .0)) (R .damage .versions) p (leb-false _ _ (f .1 .0));
+    framed = raise-framed (traits .publishes) (R .damage) s (undamaged-facts (tableBy R) s (f .0)) (R .damage .versions) p (leb-false _ _ (f .1 .0));
     entries-stay = λ _. raise-split (λ (o : Outcome). o .after .entries ≡ s .entries) (R .damage .versions) s p (λ _. refl) refl;
   }
-  act-facts s (Walk p b) f = record { accepts = refl; representable = λ _. tt; framed = walk-framed (T .publishes) (R .damage) s (undamaged-facts (tableBy R) s (f .0)) p b (R .looks s p b) (leb-false _ _ (f .1 .0)) (L .mark-stays s p b); entries-stay = λ _. refl }
-  act-facts s (Release p) f = record { accepts = refl; representable = λ _. tt; framed = release-framed (T .publishes) (R .damage) s (undamaged-facts (tableBy R) s (f .0)) p (f .1); entries-stay = λ _. refl }
+  act-facts s (Walk p b) f = record { accepts = refl; representable = λ _. tt; framed = walk-framed (traits .publishes) (R .damage) s (undamaged-facts (tableBy R) s (f .0)) p b (R .looks s p b) (leb-false _ _ (f .1 .0)) (L .mark-stays s p b); entries-stay = λ _. refl }
+  act-facts s (Release p) f = record { accepts = refl; representable = λ _. tt; framed = release-framed (traits .publishes) (R .damage) s (undamaged-facts (tableBy R) s (f .0)) p (f .1); entries-stay = λ _. refl }
 
   -- An accepted WRITE stores the next entry of the slot held, which is one of the entries.
   writes-right : (s : State) (p : ℕ) (v : ℤ) → AllClear (rows (tableBy R) s (Write p v)) → Writes s p v (tableBy R .act s (Write p v))
@@ -160,11 +160,11 @@ module _ (R : Rules) (T : GraceTraits) (L : KindShows R T) where
         long = length-set (s .entries) (nextEntry s p) v;
       }
 
-  pub act-laws-of : ActLaws (λ s. T .publishes) (tableBy R)
-  act-laws-of = record { numbers-above-1 = λ s c _. numbers-above-1 s c; making-numbers = λ g s. refl; acts = act-facts; writes = writes-right }
+  pub act-laws-of : ActLaws (λ s. traits .publishes) (tableBy R)
+  act-laws-of = record { numbers-above-1 = λ s c _. numbers-above-1 s c; making-numbers = λ z s. refl; acts = act-facts; writes = writes-right }
 
   all-numbers : (s : State) (c : Call) → allAbove 0 (rows (tableBy R) s c) ≡ true
-  all-numbers s c = row-numbers (λ s. T .publishes) (tableBy R) act-laws-of s c refl
+  all-numbers s c = row-numbers (λ s. traits .publishes) (tableBy R) act-laws-of s c refl
 
   -- Each step keeps the invariant.
   module _ (z : Given) (g : Ghost) (s : State) (i : WholeInvariant (R .damage) (L .Own) z g s) where
@@ -175,15 +175,15 @@ module _ (R : Rules) (T : GraceTraits) (L : KindShows R T) where
     unfolding damaged
     undamaged-now = neither (sharedDamage (R .damage) s) (R .further s) (undamaged-to (R .damage) s (i .shared .every .no-damage)) (L .no-further z g s i)
 
-    claim-kept : (p x : ℕ) → AllClear (tableBy R .tests s (Claim p x)) → After (Claim p x) (tableBy R .act s (Claim p x))
+    claim-kept : (p slot : ℕ) → AllClear (tableBy R .tests s (Claim p slot)) → After (Claim p slot) (tableBy R .act s (Claim p slot))
     unfolding After
-    claim-kept p x f =
-        let c = claim-clear (R .exclusive) s p x f in
-        let y : Publisher = publisher s p atPlace 1 held≔ x in
-        let at-place-0 : publisher s p .place ≡ 0 = c .in-turn in
-        let m = publisher-moves (i .shared .every .no-damage) p y (c .publisher-named) in record {
+    claim-kept p slot f =
+        let ok = claim-clear (R .exclusive) s p slot f in
+        let y : Publisher = publisher s p atPlace PLACE-CLAIMED held≔ slot in
+        let at-place-0 : publisher s p .place ≡ PLACE-IDLE = ok .in-turn in
+        let m = publisher-moves (i .shared .every .no-damage) p y (ok .publisher-named) in record {
           shared = early-keeps (R .damage) z g s (i .shared) _ _ _ p y _ _ m
-              (claim-keeps (R .damage) z g s (i .shared .every) (R .exclusive) p x c (early-fits (L .kind-law) (readers (s .words)) (slots (s .words)) y (omega arith) (λ _. c .slot-named)))
+              (claim-keeps (R .damage) z g s (i .shared .every) (R .exclusive) p slot ok (early-fits (L .kind-law) (readers (s .words)) (slots (s .words)) y (omega arith) (λ _. ok .slot-named)))
               refl refl refl refl (omega arith) (omega arith);
           own = L .early-own g _ s _ _ p y _ _ (i .own) refl m refl (omega arith);
         }
@@ -207,8 +207,8 @@ module _ (R : Rules) (T : GraceTraits) (L : KindShows R T) where
     unfolding After
     swap-kept p f =
         let lt : p < publishers (s .words) = leb-false _ _ (f .0) in
-        let at33 : publisher s p .place ≡ 33 = eqb-true _ _ (not-false _ (f .1 .0)) in
-        let y : Publisher = publisher s p atPlace 34 held≔ current (s .words) in
+        let at33 : publisher s p .place ≡ PLACE-WRITTEN = eqb-true _ _ (not-false _ (f .1 .0)) in
+        let y : Publisher = publisher s p atPlace PLACE-SWAPPED held≔ current (s .words) in
         let m = publisher-moves-head (i .shared .every .no-damage) p y lt CURRENT-AT (publisher s p .held) (omega arith) (omega arith) in record {
           shared = early-keeps (R .damage) z g s (i .shared) _ _ _ p y _ _ m
               (swap-keeps (R .damage) z g s (i .shared .every) p f (moved-publisher-undamaged (R .damage) (L .kind-law) z g s (i .shared) p lt .held-below (omega arith))
@@ -220,7 +220,7 @@ module _ (R : Rules) (T : GraceTraits) (L : KindShows R T) where
     release-kept : (p : ℕ) → AllClear (tableBy R .tests s (Release p)) → After (Release p) (tableBy R .act s (Release p))
     unfolding After
     release-kept p f =
-        let y : Publisher = publisher s p atPlace 0 in record {
+        let y : Publisher = publisher s p atPlace PLACE-IDLE in record {
           shared = release-keeps (R .damage) z g s (i .shared) p f (early-fits (L .kind-law) (readers (s .words)) (slots (s .words)) y (omega arith) (λ l. absurd (omega arith)));
           own = L .early-own g _ s _ _ p y _ _ (i .own) refl
               (publisher-moves-head (i .shared .every .no-damage) p y (leb-false _ _ (f .0)) RELEASES-AT (oneMore s) (omega arith) (omega arith)) refl (omega arith);
@@ -229,7 +229,7 @@ module _ (R : Rules) (T : GraceTraits) (L : KindShows R T) where
     raised-kept : (p : ℕ) → AllClear (tableBy R .tests s (Raise p)) → After (Raise p) (tableBy R .act s (Raise p))
     unfolding After
     raised-kept p f = raise-split (λ (o : Outcome). WholeInvariant (R .damage) (L .Own) z (advance g (Raise p) (o .reply)) (o .after) → WholeInvariant (R .damage) (L .Own) z (afterEvent g (Raise p ⇒ o .reply)) (o .after))
-        (R .damage .versions) s p (λ _ x. record { shared = x .shared; own = x .own }) (λ x. record { shared = x .shared; own = x .own })
+        (R .damage .versions) s p (λ _ kept-now. record { shared = kept-now .shared; own = kept-now .own }) (λ kept-now. record { shared = kept-now .shared; own = kept-now .own })
         (L .raise-kept z g s i p (leb-false _ _ (f .0)) (not-false _ (f .1 .0)))
 
     act-kept : (c : Call) → AllClear (tableBy R .tests s c) → After c (tableBy R .act s c)
@@ -237,7 +237,7 @@ module _ (R : Rules) (T : GraceTraits) (L : KindShows R T) where
     act-kept (Enter r) f = L .enter-kept z g s i r f
     act-kept (Look r k) f = record { shared = i .shared; own = i .own }
     act-kept (Leave r) f = L .leave-kept z g s i r f
-    act-kept (Claim p x) f = claim-kept p x f
+    act-kept (Claim p slot) f = claim-kept p slot f
     act-kept (Write p v) f = write-kept p v f
     act-kept (Swap p) f = swap-kept p f
     act-kept (Sync p) f = L .sync-kept z g s i p f
@@ -249,11 +249,11 @@ module _ (R : Rules) (T : GraceTraits) (L : KindShows R T) where
     unfolding After step
     stepped c = decided (After c) (rows (tableBy R) s c) (tableBy R .act s c) s (all-numbers s c) (λ f. act-kept c (f .1)) i
 
-    return-back : (p b l w : ℕ) → step (tableBy R) s (Walk p b) .reply ≡ Walked (Returned l w) → Back T z g p l w
+    return-back : (p b looks waits : ℕ) → step (tableBy R) s (Walk p b) .reply ≡ Walked (Returned looks waits) → Back traits z g p looks waits
     unfolding step
-    return-back p b l w = decided (λ (o : Outcome). o .reply ≡ Walked (Returned l w) → Back T z g p l w) (rows (tableBy R) s (Walk p b)) (tableBy R .act s (Walk p b)) s refl
-        (λ f q. L .return-shown z g s i p b l w (leb-false _ _ (f .1 .0)) (not-false _ (f .1 .1 .0)) (cc))
-        (λ q. absurd (let y : _≡_ {A = ℕ} 0 1 = cc in omega arith))
+    return-back p b looks waits = decided (λ (o : Outcome). o .reply ≡ Walked (Returned looks waits) → Back traits z g p looks waits) (rows (tableBy R) s (Walk p b)) (tableBy R .act s (Walk p b)) s refl
+        (λ f e. L .return-shown z g s i p b looks waits (leb-false _ _ (f .1 .0)) (not-false _ (f .1 .1 .0)) (cc))
+        (λ e. absurd (let no : _≡_ {A = ℕ} 0 1 = cc in omega arith))
 
     release-order : (p : ℕ) → accepted (step (tableBy R) s (Release p) .reply) ≡ true → g .tally .phase p ≡ returned
     unfolding step
@@ -261,7 +261,7 @@ module _ (R : Rules) (T : GraceTraits) (L : KindShows R T) where
         (λ f ok. released-in-order (R .damage) z g s (i .shared) p (f .1)) (λ ok. clash (sym ok))
 
     not-damaged : (c : Call) → step (tableBy R) s c .reply ≢ Refused DAMAGED
-    not-damaged c = only-damaged (λ s. T .publishes) (tableBy R) act-laws-of s c refl undamaged-now
+    not-damaged c = only-damaged (λ s. traits .publishes) (tableBy R) act-laws-of s c refl undamaged-now
 
     accepts : (c : Call) → AllClear (tableBy R .tests s c) → step (tableBy R) s c ≡ tableBy R .act s c
     unfolding step
@@ -271,45 +271,45 @@ module _ (R : Rules) (T : GraceTraits) (L : KindShows R T) where
     shared-calls : SharedCalls (R .exclusive) (machine (tableBy R)) s
     shared-calls = record {
       looks = λ r k. sym (step-undamaged (tableBy R) s (Look r k) undamaged-now);
-      claims = λ p x. sym (step-undamaged (tableBy R) s (Claim p x) undamaged-now);
+      claims = λ p slot. sym (step-undamaged (tableBy R) s (Claim p slot) undamaged-now);
       writes = λ p v. sym (step-undamaged (tableBy R) s (Write p v) undamaged-now);
       swaps = λ p. sym (step-undamaged (tableBy R) s (Swap p) undamaged-now);
     }
 
-    syncs-on : (p : ℕ) → p < z .publishers → g .tally .phase p ≡ swapped → version (s .words) < T .every .last → accepted (step (tableBy R) s (Sync p) .reply) ≡ true
+    syncs-on : (p : ℕ) → p < z .publishers → g .tally .phase p ≡ swapped → version (s .words) < traits .every .last → accepted (step (tableBy R) s (Sync p) .reply) ≡ true
     syncs-on p pn ph low = rw (accepts (Sync p) (named-publisher (R .damage) z g s (i .shared .every) p pn, (negated _ (eq-eqb (publisher s p .place) 34 (placed (R .damage) z g s (i .shared .every) p swapped ph)), (L .below-last (version (s .words)) low, tt)))) refl
 
     -- Whether RAISE and WALK are in turn is told by the phase.
-    turn-told : (f : ℕ → Bool) → ((pl : ℕ) → pl ≤ 34 → f pl ≡ false) → (p : ℕ) → p < publishers (s .words) → f (firstPlace (g .tally .phase p)) ≡ f (publisher s p .place)
+    turn-told : (f : ℕ → Bool) → ((pl : ℕ) → pl ≤ PLACE-SWAPPED → f pl ≡ false) → (p : ℕ) → p < publishers (s .words) → f (firstPlace (g .tally .phase p)) ≡ f (publisher s p .place)
     turn-told f early p lt = rw (i .shared .every .phases .phases p)
         (phase-turn f early (publisher s p .place) (places (L .kind-law) (readers (s .words)) (slots (s .words)) (publisher s p) (i .shared .every .no-damage .publishers-undamaged p lt)))
 
-    raise-told : (p : ℕ) → p < publishers (s .words) → T .every .raisesIn (g .tally .phase p) ≡ R .raisesAt (publisher s p .place)
+    raise-told : (p : ℕ) → p < publishers (s .words) → traits .every .raisesIn (g .tally .phase p) ≡ R .raisesAt (publisher s p .place)
     raise-told p lt = L .raises-in (g .tally .phase p) ∙ turn-told (R .raisesAt) (L .raises-late) p lt
 
-    walk-told : (p : ℕ) → p < publishers (s .words) → T .every .walksIn (g .tally .phase p) ≡ R .walksAt (publisher s p .place)
+    walk-told : (p : ℕ) → p < publishers (s .words) → traits .every .walksIn (g .tally .phase p) ≡ R .walksAt (publisher s p .place)
     walk-told p lt = L .walks-in (g .tally .phase p) ∙ turn-told (R .walksAt) (L .walks-late) p lt
 
-    raises-on : (p : ℕ) → p < z .publishers → T .every .raisesIn (g .tally .phase p) ≡ true → accepted (step (tableBy R) s (Raise p) .reply) ≡ true
+    raises-on : (p : ℕ) → p < z .publishers → traits .every .raisesIn (g .tally .phase p) ≡ true → accepted (step (tableBy R) s (Raise p) .reply) ≡ true
     raises-on p pn e =
         let turn : R .raisesAt (publisher s p .place) ≡ true = sym (raise-told p (leb-false _ _ (named-publisher (R .damage) z g s (i .shared .every) p pn))) ∙ e in
         let f : AllClear (tableBy R .tests s (Raise p)) = (named-publisher (R .damage) z g s (i .shared .every) p pn, (negated _ turn, tt)) in
         rw (accepts (Raise p) f) (act-facts s (Raise p) (undamaged-now, f) .accepts)
 
-    walks-on : (p b : ℕ) → p < z .publishers → T .every .walksIn (g .tally .phase p) ≡ true → publisher s p .walk .looks + b ≤ NUMBER-MAX → accepted (step (tableBy R) s (Walk p b) .reply) ≡ true
+    walks-on : (p b : ℕ) → p < z .publishers → traits .every .walksIn (g .tally .phase p) ≡ true → publisher s p .walk .looks + b ≤ NUMBER-MAX → accepted (step (tableBy R) s (Walk p b) .reply) ≡ true
     walks-on p b pn e few-looks =
         let turn : R .walksAt (publisher s p .place) ≡ true = sym (walk-told p (leb-false _ _ (named-publisher (R .damage) z g s (i .shared .every) p pn))) ∙ e in
         rw (accepts (Walk p b) (named-publisher (R .damage) z g s (i .shared .every) p pn, (negated _ turn, (le-ltb NUMBER-MAX (publisher s p .walk .looks + b) few-looks, tt)))) refl
 
     -- An accepted call is in its turn.
-    at-phase : (p pl : ℕ) (x : Phase) → eqb (publisher s p .place) pl ≡ true → phaseAt pl ≡ x → g .tally .phase p ≡ x
-    at-phase p pl x e q = i .shared .every .phases .phases p ∙ (ap phaseAt (eqb-true (publisher s p .place) pl e) ∙ q)
+    at-phase : (p pl : ℕ) (phase : Phase) → eqb (publisher s p .place) pl ≡ true → phaseAt pl ≡ phase → g .tally .phase p ≡ phase
+    at-phase p pl phase e is = i .shared .every .phases .phases p ∙ (ap phaseAt (eqb-true (publisher s p .place) pl e) ∙ is)
 
-    turn-clear : (c : Call) → AllClear (tableBy R .tests s c) → InTurn (T .every) (g .model) (g .tally) c
+    turn-clear : (c : Call) → AllClear (tableBy R .tests s c) → InTurn (traits .every) (g .model) (g .tally) c
     turn-clear (Enter r) f = let l = leb-false 5 (reader s r .place) (f .1 .0) in omega (arith, i .shared .every .phases .places r)
     turn-clear (Look r k) f = look-turn (R .damage) z g s (i .shared .every) r k f
     turn-clear (Leave r) f = let l = ltb-false (reader s r .place) 4 (f .1 .0) in omega (arith, i .shared .every .phases .places r)
-    turn-clear (Claim p x) f = claim-turn (R .damage) z g s (i .shared .every) (R .exclusive) p x f
+    turn-clear (Claim p slot) f = claim-turn (R .damage) z g s (i .shared .every) (R .exclusive) p slot f
     turn-clear (Write p v) f = write-turn (R .damage) z g s (i .shared .every) p v f
     turn-clear (Swap p) f = swap-turn (R .damage) z g s (i .shared .every) p f
     turn-clear (Sync p) f = at-phase p 34 swapped (not-false _ (f .1 .0)) refl
@@ -317,21 +317,21 @@ module _ (R : Rules) (T : GraceTraits) (L : KindShows R T) where
     turn-clear (Walk p b) f = walk-told p (leb-false _ _ (f .0)) ∙ not-false _ (f .1 .0)
     turn-clear (Release p) f = released-in-order (R .damage) z g s (i .shared) p f
 
-    turn-right : (c : Call) → accepted (step (tableBy R) s c .reply) ≡ true → InTurn (T .every) (g .model) (g .tally) c
+    turn-right : (c : Call) → accepted (step (tableBy R) s c .reply) ≡ true → InTurn (traits .every) (g .model) (g .tally) c
     unfolding step
-    turn-right c = decided (λ (o : Outcome). accepted (o .reply) ≡ true → InTurn (T .every) (g .model) (g .tally) c) (rows (tableBy R) s c) (tableBy R .act s c) s (all-numbers s c)
+    turn-right c = decided (λ (o : Outcome). accepted (o .reply) ≡ true → InTurn (traits .every) (g .model) (g .tally) c) (rows (tableBy R) s c) (tableBy R .act s c) s (all-numbers s c)
         (λ f ok. turn-clear c (f .1)) (λ ok. clash (sym ok))
 
     frees-on : (p : ℕ) → p < z .publishers → g .tally .phase p ≡ returned
-        → (x : ℕ) × (g .told .former p x ≡ true) × (step (tableBy R) s (Release p) .reply ≡ Freed x ((g .tally .releases + 1) % MODULUS))
+        → (slot : ℕ) × (g .told .former p slot ≡ true) × (step (tableBy R) s (Release p) .reply ≡ Freed slot ((g .tally .releases + 1) % MODULUS))
     frees-on p pn ph =
         let at = placed (R .damage) z g s (i .shared .every) p returned ph in
         let top = places (L .kind-law) (readers (s .words)) (slots (s .words)) (publisher s p) (i .shared .every .no-damage .publishers-undamaged p (leb-false _ _ (named-publisher (R .damage) z g s (i .shared .every) p pn))) in
-        let turn : not (eqb (publisher s p .place) 38) ≡ false = negated _ (eq-eqb (publisher s p .place) 38 (omega arith)) in
+        let turn : not (eqb (publisher s p .place) PLACE-RETURNED) ≡ false = negated _ (eq-eqb (publisher s p .place) 38 (omega arith)) in
         let n : oneMore s ≡ (g .tally .releases + 1) % MODULUS = omega (arith, i .shared .tallied .releases-are) in
         (publisher s p .held, former-told (R .damage) z g s (i .shared .every) p (omega arith), rw (accepts (Release p) (named-publisher (R .damage) z g s (i .shared .every) p pn, (turn, tt)), n) refl)
 
-    state-companions : StateCompanions (machine (tableBy R)) (T .every) z (g .model) (g .told) (g .tally) s
+    state-companions : StateCompanions (machine (tableBy R)) (traits .every) z (g .model) (g .told) (g .tally) s
     state-companions = record {
       undamaged = λ c _. not-damaged c;
       lacked = λ c lacks. absurd (not-both _ lacks (L .lacks-is c));
@@ -344,12 +344,12 @@ module _ (R : Rules) (T : GraceTraits) (L : KindShows R T) where
       swaps = swaps-on (R .damage) z g s (i .shared .every) (R .exclusive) (machine (tableBy R)) shared-calls;
     }
 
-    grace-state-companions : GraceStateCompanions (machine (tableBy R)) T z (g .model) (g .told) (g .tally) s
+    grace-state-companions : GraceStateCompanions (machine (tableBy R)) traits z (g .model) (g .told) (g .tally) s
     grace-state-companions = record {
       enters = λ r rn low.
-          let pl : g .tally .place r ≡ reader s r .place = i .shared .every .phases .places r in
+          let same-place : g .tally .place r ≡ reader s r .place = i .shared .every .phases .places r in
           let rs : r < readers (s .words) = omega (arith, i .shared .every .sized .readers-are) in
-          rw (accepts (Enter r) (named-reader (R .damage) z g s (i .shared .every) r rn, (lt-leb 5 (reader s r .place) (omega arith), tt)), pl) (ap At (L .enter-place s (i .shared .every .no-damage) r rs (omega arith)));
+          rw (accepts (Enter r) (named-reader (R .damage) z g s (i .shared .every) r rn, (lt-leb 5 (reader s r .place) (omega arith), tt)), same-place) (ap At (L .enter-place s (i .shared .every .no-damage) r rs (omega arith)));
       leaves = λ r rn four. rw (accepts (Leave r) (named-reader (R .damage) z g s (i .shared .every) r rn, (le-ltb (reader s r .place) 4 (omega (arith, i .shared .every .phases .places r)), tt))) refl;
       idle-only-if = idle-empty (R .damage) z g s (i .shared);
       syncs = syncs-on;
@@ -361,47 +361,47 @@ module _ (R : Rules) (T : GraceTraits) (L : KindShows R T) where
 
   -- A fresh store has the invariant.
   outcome-parts : (o : Outcome) (a : Reply) (s : State) → o ≡ outcome a s → (o .reply ≡ a) × (o .after ≡ s)
-  outcome-parts o a s e = (ap (λ (x : Outcome). x .reply) e, ap (λ (x : Outcome). x .after) e)
+  outcome-parts o a s e = (ap (λ (o′ : Outcome). o′ .reply) e, ap (λ (o′ : Outcome). o′ .after) e)
 
   start : (s : State) (f : Fresh (machine (tableBy R)) s) → WholeInvariant (R .damage) (L .Own) (f .arguments) (ghost₀ firstTable) s
   unfolding making
   start s f = decided (λ (o : Outcome). o ≡ outcome Made s → WholeInvariant (R .damage) (L .Own) (f .arguments) (ghost₀ firstTable) s) (makingTests (R .damage .versions) (f .arguments) (f .lent))
       (outcome Made (made (R .damage .number) (R .freshReader) (f .arguments) (f .lent))) (f .lent) refl
-      (λ c e. subst (λ (u : State). WholeInvariant (R .damage) (L .Own) (f .arguments) (ghost₀ firstTable) u) (outcome-parts _ _ _ e .1) (record {
-        shared = made-grace-invariant (R .damage) (R .freshReader) (f .arguments) (f .lent) (making-clear (R .damage .versions) (f .arguments) (f .lent) c) (ap (λ (x : Reader). x .place) (L .fresh-is)) (ap (λ (x : Reader). x .picked) (L .fresh-is)) (L .fresh-reader-fits _ _) (early-fits (L .kind-law) (f .arguments .readers) (f .arguments .slots) noPublisher (omega arith) (λ l. absurd (omega arith)));
-        own = L .start-own (f .arguments) (f .lent) (making-clear (R .damage .versions) (f .arguments) (f .lent) c);
+      (λ ok e. subst (λ (s′ : State). WholeInvariant (R .damage) (L .Own) (f .arguments) (ghost₀ firstTable) s′) (outcome-parts _ _ _ e .1) (record {
+        shared = made-grace-invariant (R .damage) (R .freshReader) (f .arguments) (f .lent) (making-clear (R .damage .versions) (f .arguments) (f .lent) ok) (ap (λ (x : Reader). x .place) (L .fresh-is)) (ap (λ (x : Reader). x .picked) (L .fresh-is)) (L .fresh-reader-fits _ _) (early-fits (L .kind-law) (f .arguments .readers) (f .arguments .slots) noPublisher (omega arith) (λ l. absurd (omega arith)));
+        own = L .start-own (f .arguments) (f .lent) (making-clear (R .damage .versions) (f .arguments) (f .lent) ok);
       }))
-      (λ e. absurd (let q = outcome-parts _ _ _ e .0 in let y : _≡_ {A = ℕ} 0 1 = cc in omega arith))
+      (λ e. absurd (let said = outcome-parts _ _ _ e .0 in let no : _≡_ {A = ℕ} 0 1 = cc in omega arith))
       (f .made)
 
   -- A fresh store is document 01's, number by number.
   made-is : (z : Given) (s : State) → MakingClear (R .damage .versions) z s → IsFresh z (made (R .damage .number) (R .freshReader) z s)
-  made-is z s c =
-      let k = R .damage .number in
+  made-is z s ok =
+      let number = R .damage .number in
       let x = R .freshReader in
-      let head = fresh-head k (z .readers) (z .publishers) (z .slots) (z .version) x in record {
-        long = fresh-long k (z .readers) (z .publishers) (z .slots) (z .version) x;
+      let head = fresh-head number (z .readers) (z .publishers) (z .slots) (z .version) x in record {
+        long = fresh-long number (z .readers) (z .publishers) (z .slots) (z .version) x;
         readers-given = head READERS-AT (omega arith);
         publishers-given = head PUBLISHERS-AT (omega arith);
         slots-given = head SLOTS-AT (omega arith);
         version-given = head VERSION-AT (omega arith);
         current-is = head CURRENT-AT (omega arith);
         releases-are = head RELEASES-AT (omega arith);
-        indicators-are = fresh-indicator k (z .readers) (z .publishers) (z .slots) (z .version) x;
-        readers-are = λ r l. fresh-reader k (z .readers) (z .publishers) (z .slots) (z .version) x r ∙ rw (lt-ltb r READERS-MAX l) (L .fresh-is);
-        publishers-are = fresh-publisher k (z .readers) (z .publishers) (z .slots) (z .version) x;
-        entries-are = ap (λ (n : ℕ). replicate n FEATHERED) (c .entries-are);
+        indicators-are = fresh-indicator number (z .readers) (z .publishers) (z .slots) (z .version) x;
+        readers-are = λ r l. fresh-reader number (z .readers) (z .publishers) (z .slots) (z .version) x r ∙ rw (lt-ltb r READERS-MAX l) (L .fresh-is);
+        publishers-are = fresh-publisher number (z .readers) (z .publishers) (z .slots) (z .version) x;
+        entries-are = ap (λ (n : ℕ). replicate n FEATHERED) (ok .entries-are);
       }
 
   pub makes-fresh-of : MakesFresh (machine (tableBy R))
   unfolding making
   makes-fresh-of s f = decided (λ (o : Outcome). o ≡ outcome Made s → IsFresh (f .arguments) s) (makingTests (R .damage .versions) (f .arguments) (f .lent))
       (outcome Made (made (R .damage .number) (R .freshReader) (f .arguments) (f .lent))) (f .lent) refl
-      (λ c e. subst (IsFresh (f .arguments)) (outcome-parts _ _ _ e .1) (made-is (f .arguments) (f .lent) (making-clear (R .damage .versions) (f .arguments) (f .lent) c)))
-      (λ e. absurd (let q = outcome-parts _ _ _ e .0 in let y : _≡_ {A = ℕ} 0 1 = cc in omega arith))
+      (λ ok e. subst (IsFresh (f .arguments)) (outcome-parts _ _ _ e .1) (made-is (f .arguments) (f .lent) (making-clear (R .damage .versions) (f .arguments) (f .lent) ok)))
+      (λ e. absurd (let said = outcome-parts _ _ _ e .0 in let no : _≡_ {A = ℕ} 0 1 = cc in omega arith))
       (f .made)
 
-  kept : GraceKeptInvariant (machine (tableBy R)) T
+  kept : GraceKeptInvariant (machine (tableBy R)) traits
   kept = record {
     every = record {
       Inv = WholeInvariant (R .damage) (L .Own);
@@ -420,36 +420,36 @@ module _ (R : Rules) (T : GraceTraits) (L : KindShows R T) where
   }
 
   -- What the invariant gives after every list from fresh.
-  pub reached : (s : State) (f : Fresh (machine (tableBy R)) s) (cs : List Call) → WholeInvariant (R .damage) (L .Own) (f .arguments) (afterEvents (ghost₀ (T .every .first (f .arguments))) (events (machine (tableBy R)) s cs)) (afterAll (machine (tableBy R)) s cs)
+  pub reached : (s : State) (f : Fresh (machine (tableBy R)) s) (cs : List Call) → WholeInvariant (R .damage) (L .Own) (f .arguments) (afterEvents (ghost₀ (traits .every .first (f .arguments))) (events (machine (tableBy R)) s cs)) (afterAll (machine (tableBy R)) s cs)
   unfolding kept
-  reached s f cs = kept-after (machine (tableBy R)) (T .every) (kept .every) (f .arguments) (ghost₀ (T .every .first (f .arguments))) s (kept .every .start s f) cs
+  reached s f cs = kept-after (machine (tableBy R)) (traits .every) (kept .every) (f .arguments) (ghost₀ (traits .every .first (f .arguments))) s (kept .every .start s f) cs
 
-  pub demand3-of : Demand3 (machine (tableBy R)) (T .every .first)
-  demand3-of = grace-demand3 (machine (tableBy R)) T kept
+  pub demand3-of : Demand3 (machine (tableBy R)) (traits .every .first)
+  demand3-of = grace-demand3 (machine (tableBy R)) traits kept
 
-  pub companions-of : GraceCompanions (machine (tableBy R)) T
-  companions-of = grace-companions (machine (tableBy R)) T kept
+  pub companions-of : GraceCompanions (machine (tableBy R)) traits
+  companions-of = grace-companions (machine (tableBy R)) traits kept
 
   -- The damage test is false after every list from fresh.
   pub never-damaged-of : (s : State) → Fresh (machine (tableBy R)) s → (cs : List Call) → damaged (tableBy R) (afterAll (machine (tableBy R)) s cs) ≡ false
   never-damaged-of s f cs = go (ghost₀ firstTable) s (start s f) cs
     where
-      go : (g : Ghost) (u : State) → WholeInvariant (R .damage) (L .Own) (f .arguments) g u → (cs : List Call) → damaged (tableBy R) (afterAll (machine (tableBy R)) u cs) ≡ false
-      go g u i [] = undamaged-now (f .arguments) g u i
-      go g u i (c ∷ cs) = go (afterEvent g (c ⇒ step (tableBy R) u c .reply)) (step (tableBy R) u c .after) (stepped (f .arguments) g u i c) cs
+      go : (g : Ghost) (s′ : State) → WholeInvariant (R .damage) (L .Own) (f .arguments) g s′ → (cs : List Call) → damaged (tableBy R) (afterAll (machine (tableBy R)) s′ cs) ≡ false
+      go g s′ i [] = undamaged-now (f .arguments) g s′ i
+      go g s′ i (c ∷ cs) = go (afterEvent g (c ⇒ step (tableBy R) s′ c .reply)) (step (tableBy R) s′ c .after) (stepped (f .arguments) g s′ i c) cs
 
   -- A making with every argument in its range is accepted.
-  pub making-accepts-of : MakingAccepts (machine (tableBy R)) (T .every)
+  pub making-accepts-of : MakingAccepts (machine (tableBy R)) (traits .every)
   unfolding making
-  making-accepts-of g s long rl rh pl ph sl sh len low = rw (decide-accepts (makingTests (R .damage .versions) g s) (outcome Made (made (R .damage .number) (R .freshReader) g s)) s
-      (making-rows (R .damage .versions) g s (record {
+  making-accepts-of z s long rs-low rs-high ps-low ps-high ss-low ss-high len low = rw (decide-accepts (makingTests (R .damage .versions) z s) (outcome Made (made (R .damage .number) (R .freshReader) z s)) s
+      (making-rows (R .damage .versions) z s (record {
         long = long;
-        readers-low = rl;
-        readers-high = rh;
-        publishers-low = pl;
-        publishers-high = ph;
-        slots-low = sl;
-        slots-high = sh;
+        readers-low = rs-low;
+        readers-high = rs-high;
+        publishers-low = ps-low;
+        publishers-high = ps-high;
+        slots-low = ss-low;
+        slots-high = ss-high;
         entries-are = len;
         version-fits = L .last-fits _ low;
       }))) refl

@@ -5,4 +5,4 @@ use Rattle.layout.specs.Records.{_next≔_, _looks≔_, _waits≔_}
 
 -- A walk with one look more. Every look, passed or not, adds one to looks; next rises by the readers that it passed, waits by how often it waited.
 abbrev pub withLook : WalkRecord → ℕ → ℕ → WalkRecord
-withLook k passed waited = k next≔ (k .next + passed) looks≔ (k .looks + 1) waits≔ (k .waits + waited)
+withLook walk passed waited = walk next≔ (walk .next + passed) looks≔ (walk .looks + 1) waits≔ (walk .waits + waited)

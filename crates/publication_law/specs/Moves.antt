@@ -21,23 +21,23 @@ use Rattle.publication_law.specs.Damage.{DamageRules}
 use Rattle.publication_law.specs.DamageLaws.{Undamaged, reader-below, publisher-below}
 
 -- Where the whole head stays, and where number j of it is stored besides: at most one number of the head moved.
-pub none-moved : (w w′ : List ℕ) → ((k : ℕ) → k < HEAD → getD w′ k 0 ≡ getD w k 0) → One w w′
-none-moved w w′ stays = (0, λ k l ne. stays k l)
+pub none-moved : (w w′ : List ℕ) → ((j : ℕ) → j < HEAD → getD w′ j 0 ≡ getD w j 0) → One w w′
+none-moved w w′ stays = (0, λ j l ne. stays j l)
 
-pub one-moved : (w w′ : List ℕ) (j v : ℕ) → ((k : ℕ) → k < HEAD → getD w′ k 0 ≡ getD w k 0) → One w (set w′ j v)
-one-moved w w′ j v stays = (j, λ k l ne. getD-set-other w′ j k v 0 ne ∙ stays k l)
+pub one-moved : (w w′ : List ℕ) (j n : ℕ) → ((j′ : ℕ) → j′ < HEAD → getD w′ j′ 0 ≡ getD w j′ 0) → One w (set w′ j n)
+one-moved w w′ j n stays = (j, λ j′ l ne. getD-set-other w′ j j′ n 0 ne ∙ stays j′ l)
 
-upd-field : {A B : Type 0} (f : A → B) (u v : ℕ → A) (i : ℕ) (x : A) → u ≡ upd v i x → _≡_ {A = ℕ → B} (λ j. f (u j)) (upd (λ j. f (v j)) i (f x))
-upd-field f u v i x e = fun-ext (λ j. ap (λ (w : ℕ → _). f (w j)) e ∙ go (eqb j i) j)
+upd-field : {A B : Type 0} (f : A → B) (after before : ℕ → A) (i : ℕ) (value : A) → after ≡ upd before i value → _≡_ {A = ℕ → B} (λ j. f (after j)) (upd (λ j. f (before j)) i (f value))
+upd-field f after before i value e = fun-ext (λ j. ap (λ (all : ℕ → _). f (all j)) e ∙ go (eqb j i) j)
   where
-    go : (b : Bool) (j : ℕ) → f (pick b x (v j)) ≡ pick b (f x) (f (v j))
+    go : (b : Bool) (j : ℕ) → f (pick b value (before j)) ≡ pick b (f value) (f (before j))
     go true j = refl
     go false j = refl
 
 -- w′ is w with publisher p replaced by y, and this current slot, version and number of releases.
 pub record MovesPublisher (w w′ : List ℕ) (p : ℕ) (y : Publisher) (cur ver rel : ℕ) : Type 0 where
   pub long : length w′ ≡ length w
-  pub head : (k : ℕ) → k < CURRENT-AT → getD w′ k 0 ≡ getD w k 0
+  pub head : (j : ℕ) → j < CURRENT-AT → getD w′ j 0 ≡ getD w j 0
   pub indicators-stay : indicator w′ ≡ indicator w
   pub current-is : current w′ ≡ cur
   pub version-is : version w′ ≡ ver
@@ -57,40 +57,40 @@ moves-publisher : (w : List ℕ) (p : ℕ) (y : Publisher) → length w ≡ WORD
     → MovesPublisher w (withPublisher w p y) p y (current w) (version w) (releases w)
 moves-publisher w p y len lt = record {
   long = length-publisher w p y;
-  head = λ k l. head-publisher w p y k (omega arith);
-  indicators-stay = indicator-by (withPublisher w p y) w (λ k a b. head-publisher w p y k b);
+  head = λ j l. head-publisher w p y j (omega arith);
+  indicators-stay = indicator-by (withPublisher w p y) w (λ j low high. head-publisher w p y j high);
   current-is = head-publisher w p y CURRENT-AT (omega arith);
   version-is = head-publisher w p y VERSION-AT (omega arith);
   releases-is = head-publisher w p y RELEASES-AT (omega arith);
   readers-stay = reader-publisher w p y;
-  publishers-are = publisher-put (λ (x : Publisher). x) w p y len lt;
+  publishers-are = publisher-put (λ (y′ : Publisher). y′) w p y len lt;
 }
 
 -- .. and one of current slot, version and releases replaced besides.
-moves-head : (w w′ : List ℕ) (p : ℕ) (y : Publisher) (cur ver rel : ℕ) → MovesPublisher w w′ p y cur ver rel → length w ≡ WORDS → (k v : ℕ) → CURRENT-AT ≤ k → k ≤ RELEASES-AT
-    → MovesPublisher w (set w′ k v) p y (pick (eqb CURRENT-AT k) v cur) (pick (eqb VERSION-AT k) v ver) (pick (eqb RELEASES-AT k) v rel)
-moves-head w w′ p y cur ver rel m len k v low high = record {
-  long = length-set w′ k v ∙ m .long;
-  head = λ j l. getD-set-other w′ k j v 0 (λ z. omega arith) ∙ m .head j l;
-  indicators-stay = indicator-by (set w′ k v) w′ (λ j a b. getD-set-other w′ k j v 0 (λ z. omega arith)) ∙ m .indicators-stay;
+moves-head : (w w′ : List ℕ) (p : ℕ) (y : Publisher) (cur ver rel : ℕ) → MovesPublisher w w′ p y cur ver rel → length w ≡ WORDS → (j n : ℕ) → CURRENT-AT ≤ j → j ≤ RELEASES-AT
+    → MovesPublisher w (set w′ j n) p y (pick (eqb CURRENT-AT j) n cur) (pick (eqb VERSION-AT j) n ver) (pick (eqb RELEASES-AT j) n rel)
+moves-head w w′ p y cur ver rel m len j n low high = record {
+  long = length-set w′ j n ∙ m .long;
+  head = λ j′ l. getD-set-other w′ j j′ n 0 (λ eq. omega arith) ∙ m .head j′ l;
+  indicators-stay = indicator-by (set w′ j n) w′ (λ j′ from to. getD-set-other w′ j j′ n 0 (λ eq. omega arith)) ∙ m .indicators-stay;
   current-is = read CURRENT-AT cur (m .current-is);
   version-is = read VERSION-AT ver (m .version-is);
   releases-is = read RELEASES-AT rel (m .releases-is);
-  readers-stay = reader-head w′ k v (omega arith) ∙ m .readers-stay;
-  publishers-are = publisher-head w′ k v (omega arith) ∙ m .publishers-are;
+  readers-stay = reader-head w′ j n (omega arith) ∙ m .readers-stay;
+  publishers-are = publisher-head w′ j n (omega arith) ∙ m .publishers-are;
 }
   where
-    read : (j n : ℕ) → getD w′ j 0 ≡ n → getD (set w′ k v) j 0 ≡ pick (eqb j k) v n
-    read j n e = go (eqb j k) refl
+    read : (j′ n′ : ℕ) → getD w′ j′ 0 ≡ n′ → getD (set w′ j n) j′ 0 ≡ pick (eqb j′ j) n n′
+    read j′ n′ e = go (eqb j′ j) refl
       where
-        go : (b : Bool) → eqb j k ≡ b → getD (set w′ k v) j 0 ≡ pick b v n
-        go true d = rw (eqb-true j k d) (getD-set-same w′ k v 0 (omega (arith, m .long)))
-        go false d = getD-set-other w′ k j v 0 (eqb-false j k d) ∙ e
+        go : (b : Bool) → eqb j′ j ≡ b → getD (set w′ j n) j′ 0 ≡ pick b n n′
+        go true d = rw (eqb-true j′ j d) (getD-set-same w′ j n 0 (omega (arith, m .long)))
+        go false d = getD-set-other w′ j j′ n 0 (eqb-false j′ j d) ∙ e
 
 -- w′ is w with reader r replaced by x; one of the indicators may have moved, which is a kind's own.
 pub record MovesReader (w w′ : List ℕ) (r : ℕ) (x : Reader) : Type 0 where
   pub long : length w′ ≡ length w
-  pub head : (k : ℕ) → k ≤ RELEASES-AT → getD w′ k 0 ≡ getD w k 0
+  pub head : (j : ℕ) → j ≤ RELEASES-AT → getD w′ j 0 ≡ getD w j 0
   pub one : One w w′
   pub readers-are : readerAt w′ ≡ upd (readerAt w) r x
   pub publishers-stay : publisherAt w′ ≡ publisherAt w
@@ -105,20 +105,20 @@ reader-field f w w′ r x m = upd-field f (readerAt w′) (readerAt w) r x (m .r
 moves-reader : (w : List ℕ) (r : ℕ) (x : Reader) → length w ≡ WORDS → r < READERS-MAX → MovesReader w (withReader w r x) r x
 moves-reader w r x len lt = record {
   long = length-reader w r x;
-  head = λ k l. head-reader w r x k (omega arith);
+  head = λ j l. head-reader w r x j (omega arith);
   one = none-moved w (withReader w r x) (head-reader w r x);
-  readers-are = reader-put (λ (y : Reader). y) w r x len lt;
+  readers-are = reader-put (λ (x′ : Reader). x′) w r x len lt;
   publishers-stay = publisher-reader w r x lt;
 }
 
--- .. and indicator word k replaced besides.
-moves-indicator : (w : List ℕ) (r : ℕ) (x : Reader) → MovesReader w (withReader w r x) r x → (k v : ℕ) → RELEASES-AT < k → k < HEAD → MovesReader w (set (withReader w r x) k v) r x
-moves-indicator w r x m k v low high = record {
-  long = length-set (withReader w r x) k v ∙ m .long;
-  head = λ j l. getD-set-other (withReader w r x) k j v 0 (λ z. omega arith) ∙ m .head j l;
-  one = one-moved w (withReader w r x) k v (head-reader w r x);
-  readers-are = reader-head (withReader w r x) k v high ∙ m .readers-are;
-  publishers-stay = publisher-head (withReader w r x) k v high ∙ m .publishers-stay;
+-- .. and word j of the indicators replaced besides.
+moves-indicator : (w : List ℕ) (r : ℕ) (x : Reader) → MovesReader w (withReader w r x) r x → (j n : ℕ) → RELEASES-AT < j → j < HEAD → MovesReader w (set (withReader w r x) j n) r x
+moves-indicator w r x m j n low high = record {
+  long = length-set (withReader w r x) j n ∙ m .long;
+  head = λ j′ l. getD-set-other (withReader w r x) j j′ n 0 (λ eq. omega arith) ∙ m .head j′ l;
+  one = one-moved w (withReader w r x) j n (head-reader w r x);
+  readers-are = reader-head (withReader w r x) j n high ∙ m .readers-are;
+  publishers-stay = publisher-head (withReader w r x) j n high ∙ m .publishers-stay;
 }
 
 -- Of a store that is fine: each of its publishers and readers has a record.
@@ -126,12 +126,12 @@ module _ {K : DamageRules} {s : State} (f : Undamaged K s) where
   pub publisher-moves : (p : ℕ) (y : Publisher) → p < publishers (s .words) → MovesPublisher (s .words) (withPublisher (s .words) p y) p y (current (s .words)) (version (s .words)) (releases (s .words))
   publisher-moves p y lt = moves-publisher (s .words) p y (f .head .long) (publisher-below K s f p lt)
 
-  pub publisher-moves-head : (p : ℕ) (y : Publisher) → p < publishers (s .words) → (k v : ℕ) → CURRENT-AT ≤ k → k ≤ RELEASES-AT
-      → MovesPublisher (s .words) (set (withPublisher (s .words) p y) k v) p y (pick (eqb CURRENT-AT k) v (current (s .words))) (pick (eqb VERSION-AT k) v (version (s .words))) (pick (eqb RELEASES-AT k) v (releases (s .words)))
-  publisher-moves-head p y lt k v low high = moves-head (s .words) (withPublisher (s .words) p y) p y _ _ _ (publisher-moves p y lt) (f .head .long) k v low high
+  pub publisher-moves-head : (p : ℕ) (y : Publisher) → p < publishers (s .words) → (j n : ℕ) → CURRENT-AT ≤ j → j ≤ RELEASES-AT
+      → MovesPublisher (s .words) (set (withPublisher (s .words) p y) j n) p y (pick (eqb CURRENT-AT j) n (current (s .words))) (pick (eqb VERSION-AT j) n (version (s .words))) (pick (eqb RELEASES-AT j) n (releases (s .words)))
+  publisher-moves-head p y lt j n low high = moves-head (s .words) (withPublisher (s .words) p y) p y _ _ _ (publisher-moves p y lt) (f .head .long) j n low high
 
   pub reader-moves : (r : ℕ) (x : Reader) → r < readers (s .words) → MovesReader (s .words) (withReader (s .words) r x) r x
   reader-moves r x lt = moves-reader (s .words) r x (f .head .long) (reader-below K s f r lt)
 
-  pub reader-moves-indicator : (r : ℕ) (x : Reader) → r < readers (s .words) → (k v : ℕ) → RELEASES-AT < k → k < HEAD → MovesReader (s .words) (set (withReader (s .words) r x) k v) r x
-  reader-moves-indicator r x lt k v low high = moves-indicator (s .words) r x (reader-moves r x lt) k v low high
+  pub reader-moves-indicator : (r : ℕ) (x : Reader) → r < readers (s .words) → (j n : ℕ) → RELEASES-AT < j → j < HEAD → MovesReader (s .words) (set (withReader (s .words) r x) j n) r x
+  reader-moves-indicator r x lt j n low high = moves-indicator (s .words) r x (reader-moves r x lt) j n low high

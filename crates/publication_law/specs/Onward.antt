@@ -1,9 +1,10 @@
 -- What one ENTER does with a reader's place and pick, in every kind with sections.
 use Prim.Native.Nat.{ℕ, _≤_}
 use mathlib.Core.Path.{_≡_}
+use Rattle.calls.specs.Numbers.{PLACE-LOADED-AGAIN, PLACE-OPEN, PLACE-PICKED}
 
 -- From place and pick to newPlace and newPick: below 4 the reader stays out; from there its section opens, at 4; from 4 it picks the current slot, at 5.
 pub data Onward (current place pick newPlace newPick : ℕ) : Type 0 where
-  stays-out : place ≤ 3 → newPlace ≤ 3 → newPick ≡ pick → Onward current place pick newPlace newPick
-  opens : place ≤ 3 → newPlace ≡ 4 → newPick ≡ pick → Onward current place pick newPlace newPick
-  picks : place ≡ 4 → newPlace ≡ 5 → newPick ≡ current → Onward current place pick newPlace newPick
+  stays-out : place ≤ PLACE-LOADED-AGAIN → newPlace ≤ PLACE-LOADED-AGAIN → newPick ≡ pick → Onward current place pick newPlace newPick
+  opens : place ≤ PLACE-LOADED-AGAIN → newPlace ≡ PLACE-OPEN → newPick ≡ pick → Onward current place pick newPlace newPick
+  picks : place ≡ PLACE-OPEN → newPlace ≡ PLACE-PICKED → newPick ≡ current → Onward current place pick newPlace newPick

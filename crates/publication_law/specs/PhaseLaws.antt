@@ -8,46 +8,47 @@ use lib.Dec.{leb, eqb}
 use borrow.Author.Tests.{eqb-true, eqb-false, ne-eqb, leb-true, leb-false, le-leb}
 use Rattle.base.specs.Base.{pick, upd}
 use Rattle.base.specs.RowLaws.{same, at-or}
+use Rattle.calls.specs.Numbers.{PLACE-IDLE, PLACE-CLAIMED, PLACE-WRITTEN, PLACE-SWAPPED, PLACE-SYNCHRONISING, PLACE-QUIET, PLACE-RAISED, PLACE-RETURNED}
 use Rattle.calls.specs.Tally.{Phase, firstPlace, tally₀}
 use Rattle.calls.specs.Tally.Phase.{idle, writing, swapped, synchronising, quiet, raised, returned}
 use Rattle.publication_law.specs.Phases.{phaseAt, Phases}
 
 -- The places of a phase.
 abbrev pub InPhase : ℕ → Phase → Type 0
-InPhase pl idle = pl ≡ 0
-InPhase pl writing = (1 ≤ pl) × (pl ≤ 33)
-InPhase pl swapped = pl ≡ 34
-InPhase pl synchronising = pl ≡ 35
-InPhase pl quiet = pl ≡ 36
-InPhase pl raised = pl ≡ 37
-InPhase pl returned = 38 ≤ pl
+InPhase pl idle = pl ≡ PLACE-IDLE
+InPhase pl writing = (PLACE-CLAIMED ≤ pl) × (pl ≤ PLACE-WRITTEN)
+InPhase pl swapped = pl ≡ PLACE-SWAPPED
+InPhase pl synchronising = pl ≡ PLACE-SYNCHRONISING
+InPhase pl quiet = pl ≡ PLACE-QUIET
+InPhase pl raised = pl ≡ PLACE-RAISED
+InPhase pl returned = PLACE-RETURNED ≤ pl
 
 pub in-phase : (pl : ℕ) → InPhase pl (phaseAt pl)
 in-phase pl = go (eqb pl 0) refl (leb pl 33) refl
   where
-    late : (b : Bool) → eqb pl 34 ≡ b → (c : Bool) → eqb pl 35 ≡ c → (d : Bool) → eqb pl 36 ≡ d → (e : Bool) → eqb pl 37 ≡ e → 34 ≤ pl
+    late : (b : Bool) → eqb pl PLACE-SWAPPED ≡ b → (c : Bool) → eqb pl PLACE-SYNCHRONISING ≡ c → (d : Bool) → eqb pl PLACE-QUIET ≡ d → (e : Bool) → eqb pl PLACE-RAISED ≡ e → PLACE-SWAPPED ≤ pl
         → InPhase pl (pick b swapped (pick c synchronising (pick d quiet (pick e raised returned))))
     late true eb c ec d ed e ee l = eqb-true pl 34 eb
     late false eb true ec d ed e ee l = eqb-true pl 35 ec
     late false eb false ec true ed e ee l = eqb-true pl 36 ed
     late false eb false ec false ed true ee l = eqb-true pl 37 ee
     late false eb false ec false ed false ee l =
-        let q = eqb-false pl 34 eb in let r = eqb-false pl 35 ec in let t = eqb-false pl 36 ed in let u = eqb-false pl 37 ee in omega arith
+        let not-34 = eqb-false pl 34 eb in let not-35 = eqb-false pl 35 ec in let not-36 = eqb-false pl 36 ed in let not-37 = eqb-false pl 37 ee in omega arith
 
-    go : (a : Bool) → eqb pl 0 ≡ a → (b : Bool) → leb pl 33 ≡ b
-        → InPhase pl (pick a idle (pick b writing (pick (eqb pl 34) swapped (pick (eqb pl 35) synchronising (pick (eqb pl 36) quiet (pick (eqb pl 37) raised returned))))))
+    go : (a : Bool) → eqb pl PLACE-IDLE ≡ a → (b : Bool) → leb pl PLACE-WRITTEN ≡ b
+        → InPhase pl (pick a idle (pick b writing (pick (eqb pl PLACE-SWAPPED) swapped (pick (eqb pl PLACE-SYNCHRONISING) synchronising (pick (eqb pl PLACE-QUIET) quiet (pick (eqb pl PLACE-RAISED) raised returned))))))
     go true ea b eb = eqb-true pl 0 ea
-    go false ea true eb = let q = eqb-false pl 0 ea in (omega arith, leb-true pl 33 eb)
+    go false ea true eb = let unequal = eqb-false pl 0 ea in (omega arith, leb-true pl 33 eb)
     go false ea false eb = late (eqb pl 34) refl (eqb pl 35) refl (eqb pl 36) refl (eqb pl 37) refl (leb-false pl 33 eb)
 
-pub phase-writing : (pl : ℕ) → 1 ≤ pl → pl ≤ 33 → phaseAt pl ≡ writing
-phase-writing pl l h = rw (ne-eqb pl 0 (λ z. omega arith), le-leb pl 33 h) refl
+pub phase-writing : (pl : ℕ) → PLACE-CLAIMED ≤ pl → pl ≤ PLACE-WRITTEN → phaseAt pl ≡ writing
+phase-writing pl l h = rw (ne-eqb pl 0 (λ eq. omega arith), le-leb pl 33 h) refl
 
 -- A test that is false below 35 comes out alike at a place and at the first place of its phase.
-pub phase-turn : (f : ℕ → Bool) → ((pl : ℕ) → pl ≤ 34 → f pl ≡ false) → (pl : ℕ) → pl ≤ 38 → f (firstPlace (phaseAt pl)) ≡ f pl
+pub phase-turn : (f : ℕ → Bool) → ((pl : ℕ) → pl ≤ PLACE-SWAPPED → f pl ≡ false) → (pl : ℕ) → pl ≤ PLACE-RETURNED → f (firstPlace (phaseAt pl)) ≡ f pl
 phase-turn f early pl high = go (phaseAt pl) (in-phase pl)
   where
-    go : (x : Phase) → InPhase pl x → f (firstPlace x) ≡ f pl
+    go : (phase : Phase) → InPhase pl phase → f (firstPlace phase) ≡ f pl
     go idle e = ap f (sym e)
     go writing e = early 1 (omega arith) ∙ sym (early pl (omega (arith, e .1)))
     go swapped e = ap f (sym e)
@@ -62,8 +63,8 @@ module _ (place : ℕ → ℕ) (phase : ℕ → Phase) (rpl ppl : ℕ → ℕ) (
   place-phases r pl = record { places = at-or r (rw (same r) refl) (λ j e. rw e (i .places j)); phases = i .phases }
 
   -- A publisher at another place, of the phase told; and of the same phase.
-  pub move-phases : (p pl : ℕ) (x : Phase) → x ≡ phaseAt pl → Phases place (upd phase p x) rpl (upd ppl p pl)
-  move-phases p pl x e = record { places = i .places; phases = at-or p (rw (same p) e) (λ q d. rw d (i .phases q)) }
+  pub move-phases : (p pl : ℕ) (new : Phase) → new ≡ phaseAt pl → Phases place (upd phase p new) rpl (upd ppl p pl)
+  move-phases p pl new e = record { places = i .places; phases = at-or p (rw (same p) e) (λ q d. rw d (i .phases q)) }
 
   pub stay-phases : (p pl : ℕ) → phaseAt pl ≡ phaseAt (ppl p) → Phases place phase rpl (upd ppl p pl)
   stay-phases p pl e = record { places = i .places; phases = at-or p (rw (same p) (i .phases p ∙ sym e)) (λ q d. rw d (i .phases q)) }

@@ -3,18 +3,19 @@ use Prim.Native.Nat.{ℕ}
 use mathlib.Core.Path.{_≡_}
 use lib.Dec.{leb, eqb}
 use Rattle.base.specs.Base.{pick}
+use Rattle.calls.specs.Numbers.{PLACE-IDLE, PLACE-WRITTEN, PLACE-SWAPPED, PLACE-SYNCHRONISING, PLACE-QUIET, PLACE-RAISED}
 use Rattle.calls.specs.Tally.{Phase}
 use Rattle.calls.specs.Tally.Phase.{idle, writing, swapped, synchronising, quiet, raised, returned}
 
 -- The phase that a publisher's place tells.
 abbrev pub phaseAt : ℕ → Phase
 phaseAt place =
-    pick (eqb place 0) idle (
-    pick (leb place 33) writing (
-    pick (eqb place 34) swapped (
-    pick (eqb place 35) synchronising (
-    pick (eqb place 36) quiet (
-    pick (eqb place 37) raised returned)))))
+    pick (eqb place PLACE-IDLE) idle (
+    pick (leb place PLACE-WRITTEN) writing (
+    pick (eqb place PLACE-SWAPPED) swapped (
+    pick (eqb place PLACE-SYNCHRONISING) synchronising (
+    pick (eqb place PLACE-QUIET) quiet (
+    pick (eqb place PLACE-RAISED) raised returned)))))
 
 -- Readers' places and publishers' phases as told, beside readers' and publishers' places as stored.
 pub record Phases (place : ℕ → ℕ) (phase : ℕ → Phase) (readerPlace publisherPlace : ℕ → ℕ) : Type 0 where

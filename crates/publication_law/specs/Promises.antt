@@ -14,6 +14,7 @@ use Rattle.calls.specs.declared.Call.{Call}
 use Rattle.calls.specs.declared.Call.the-variants.{Sync, Raise, Walk}
 use Rattle.calls.specs.declared.Reply.the-variants.{Synced, Raised, Shared, Walked}
 use Rattle.calls.specs.declared.WalkReply.the-variants.{Spent}
+use Rattle.calls.specs.Numbers.{PLACE-SYNCHRONISING, PLACE-RAISED}
 use Rattle.calls.specs.ReplyNumbersLaws.{NarrowPitch, Representable}
 use Rattle.calls.specs.Events.{accepted}
 use Rattle.layout.specs.declared.Progress.{Progress}
@@ -38,98 +39,98 @@ use Rattle.publication_law.specs.KindShows.{KindShows, demand3-of, compa
 -- SYNC: the reply is the mark that it stores, the version's successor; next, looks and waits are 0.
 pub record SyncFacts (successor : ℕ → ℕ) (s : State) (p : ℕ) (o : Outcome) : Type 0 where
   pub reply-is : o .reply ≡ Synced (successor (version (s .words)))
-  pub record-is : publisher (o .after) p ≡ publisher s p atPlace 35 walk≔ (publisher s p .walk mark≔ (successor (version (s .words))) next≔ 0 looks≔ 0 waits≔ 0)
+  pub record-is : publisher (o .after) p ≡ publisher s p atPlace PLACE-SYNCHRONISING walk≔ (publisher s p .walk mark≔ (successor (version (s .words))) next≔ 0 looks≔ 0 waits≔ 0)
 
 -- RAISE: raised exactly if the version was one before the mark, and the version then is the mark; else shared, and the version stays. Place 37 either way.
 pub record RaiseFacts (successor : ℕ → ℕ) (s : State) (p : ℕ) (o : Outcome) : Type 0 where
   pub raised : successor (version (s .words)) ≡ publisher s p .walk .mark → (o .reply ≡ Raised) × (version (o .after .words) ≡ publisher s p .walk .mark)
   pub shared : successor (version (s .words)) ≢ publisher s p .walk .mark → (o .reply ≡ Shared) × (version (o .after .words) ≡ version (s .words))
-  pub record-is : publisher (o .after) p ≡ publisher s p atPlace 37
+  pub record-is : publisher (o .after) p ≡ publisher s p atPlace PLACE-RAISED
 
-pub record Promises (R : Table) (T : GraceTraits) : Type 0 where
-  pub demand3 : Demand3 (machine R) (T .every .first)
-  pub companions : GraceCompanions (machine R) T
+pub record Promises (T : Table) (traits : GraceTraits) : Type 0 where
+  pub demand3 : Demand3 (machine T) (traits .every .first)
+  pub companions : GraceCompanions (machine T) traits
   -- the damage test is false after every list from fresh
-  pub never-damaged : (s : State) → Fresh (machine R) s → (cs : List Call) → damaged R (afterAll (machine R) s cs) ≡ false
-  pub making-accepts : MakingAccepts (machine R) (T .every)
-  pub refused-leaves : RefusedLeaves (machine R)
-  pub frame : Frame (λ s. T .publishes) (machine R)
+  pub never-damaged : (s : State) → Fresh (machine T) s → (cs : List Call) → damaged T (afterAll (machine T) s cs) ≡ false
+  pub making-accepts : MakingAccepts (machine T) (traits .every)
+  pub refused-leaves : RefusedLeaves (machine T)
+  pub frame : Frame (λ s. traits .publishes) (machine T)
   -- a fresh store is document 01's, number by number
-  pub makes-fresh : MakesFresh (machine R)
+  pub makes-fresh : MakesFresh (machine T)
   -- what an accepted SYNC and an accepted RAISE reply and store, for every state
-  pub sync-facts : (s : State) (p : ℕ) → accepted (step R s (Sync p) .reply) ≡ true → SyncFacts (T .successor) s p (step R s (Sync p))
-  pub raise-facts : (s : State) (p : ℕ) → accepted (step R s (Raise p) .reply) ≡ true → RaiseFacts (T .successor) s p (step R s (Raise p))
+  pub sync-facts : (s : State) (p : ℕ) → accepted (step T s (Sync p) .reply) ≡ true → SyncFacts (traits .successor) s p (step T s (Sync p))
+  pub raise-facts : (s : State) (p : ℕ) → accepted (step T s (Raise p) .reply) ≡ true → RaiseFacts (traits .successor) s p (step T s (Raise p))
   -- every reply of a store whose entries are pitches of 64 bits has an answer that no other representable reply has
-  pub representable : (s : State) (c : Call) → ((j : ℕ) → NarrowPitch (getD (s .entries) j (pos 0))) → Representable (step R s c .reply)
-  pub representable-making : (g : Given) (s : State) → Representable (making R g s .reply)
+  pub representable : (s : State) (c : Call) → ((j : ℕ) → NarrowPitch (getD (s .entries) j (pos 0))) → Representable (step T s c .reply)
+  pub representable-making : (z : Given) (s : State) → Representable (making T z s .reply)
   -- a WALK with no looks that replies spent leaves the whole state as it was
-  pub walk-zero : (s : State) (p : ℕ) → step R s (Walk p 0) .reply ≡ Walked Spent → step R s (Walk p 0) .after ≡ s
+  pub walk-zero : (s : State) (p : ℕ) → step T s (Walk p 0) .reply ≡ Walked Spent → step T s (Walk p 0) .after ≡ s
 
-module _ (R : Rules) (T : GraceTraits) (L : KindShows R T) where
-  sync-facts-of : (s : State) (p : ℕ) → accepted (step (tableBy R) s (Sync p) .reply) ≡ true → SyncFacts (T .successor) s p (step (tableBy R) s (Sync p))
+module _ (R : Rules) (traits : GraceTraits) (L : KindShows R traits) where
+  sync-facts-of : (s : State) (p : ℕ) → accepted (step (tableBy R) s (Sync p) .reply) ≡ true → SyncFacts (traits .successor) s p (step (tableBy R) s (Sync p))
   unfolding step
-  sync-facts-of s p = decided (λ (o : Outcome). accepted (o .reply) ≡ true → SyncFacts (T .successor) s p o) (rows (tableBy R) s (Sync p)) (tableBy R .act s (Sync p)) s refl
+  sync-facts-of s p = decided (λ (o : Outcome). accepted (o .reply) ≡ true → SyncFacts (traits .successor) s p o) (rows (tableBy R) s (Sync p)) (tableBy R .act s (Sync p)) s refl
       (λ f _. rw (L .successor-is) (record { reply-is = refl; record-is = publisher-written (publisher-moves (undamaged-facts (tableBy R) s (f .0)) p _ (leb-false _ _ (f .1 .0))) }))
       (λ ok. clash (sym ok))
 
   -- A RAISE of a publisher whose mark fits.
-  raise-acts : (s : State) (p : ℕ) → Undamaged (R .damage) s → p < publishers (s .words) → R .damage .versions .wrongMark (publisher s p .walk .mark) ≡ false → RaiseFacts (T .successor) s p (raise (R .damage .versions) s p)
+  raise-acts : (s : State) (p : ℕ) → Undamaged (R .damage) s → p < publishers (s .words) → R .damage .versions .wrongMark (publisher s p .walk .mark) ≡ false → RaiseFacts (traits .successor) s p (raise (R .damage .versions) s p)
   raise-acts s p no-damage lt fits = rw (L .successor-is) (pick-split (λ (o : Outcome). RaiseFacts (R .damage .versions .markAt) s p o) (eqb (version (s .words)) (R .damage .versions .beforeMark (publisher s p .walk .mark)))
-      (λ e. let m = publisher-moves-head no-damage p (publisher s p atPlace 37) lt VERSION-AT (publisher s p .walk .mark) (omega arith) (omega arith) in
+      (λ e. let m = publisher-moves-head no-damage p (publisher s p atPlace PLACE-RAISED) lt VERSION-AT (publisher s p .walk .mark) (omega arith) (omega arith) in
       record {
         raised = λ _. (refl, m .version-is);
         shared = λ ne. absurd (ne (ap (R .damage .versions .markAt) (eqb-true _ _ e) ∙ L .kind-law .versions-law .mark-after _ fits));
         record-is = publisher-written m;
       })
-      (λ e. let m = publisher-moves no-damage p (publisher s p atPlace 37) lt in
+      (λ e. let m = publisher-moves no-damage p (publisher s p atPlace PLACE-RAISED) lt in
       record {
         raised = λ q. absurd (eqb-false _ _ e (sym (L .kind-law .versions-law .before-mark (version (s .words))) ∙ ap (R .damage .versions .beforeMark) q));
         shared = λ ne. (refl, m .version-is);
         record-is = publisher-written m;
       }))
 
-  raise-facts-of : (s : State) (p : ℕ) → accepted (step (tableBy R) s (Raise p) .reply) ≡ true → RaiseFacts (T .successor) s p (step (tableBy R) s (Raise p))
+  raise-facts-of : (s : State) (p : ℕ) → accepted (step (tableBy R) s (Raise p) .reply) ≡ true → RaiseFacts (traits .successor) s p (step (tableBy R) s (Raise p))
   unfolding step
-  raise-facts-of s p = decided (λ (o : Outcome). accepted (o .reply) ≡ true → RaiseFacts (T .successor) s p o) (rows (tableBy R) s (Raise p)) (tableBy R .act s (Raise p)) s refl
+  raise-facts-of s p = decided (λ (o : Outcome). accepted (o .reply) ≡ true → RaiseFacts (traits .successor) s p o) (rows (tableBy R) s (Raise p)) (tableBy R .act s (Raise p)) s refl
       (λ f _.
       let no-damage = undamaged-facts (tableBy R) s (f .0) in
       let lt = leb-false (publishers (s .words)) p (f .1 .0) in
       raise-acts s p no-damage lt (undamaged-publisher (L .kind-law) _ _ (publisher s p) (no-damage .publishers-undamaged p lt) .mark-fits (late-turn (publisher s p .place) (not-false _ (f .1 .1 .0)))))
       (λ ok. clash (sym ok))
     where
-      late-turn : (pl : ℕ) → R .raisesAt pl ≡ true → 35 ≤ pl
+      late-turn : (pl : ℕ) → R .raisesAt pl ≡ true → PLACE-SYNCHRONISING ≤ pl
       late-turn pl e = go (leb 35 pl) refl
         where
-          go : (b : Bool) → leb 35 pl ≡ b → 35 ≤ pl
+          go : (test : Bool) → leb PLACE-SYNCHRONISING pl ≡ test → PLACE-SYNCHRONISING ≤ pl
           go true d = leb-true 35 pl d
-          go false d = absurd (not-both _ e (L .raises-late pl (let q = leb-false 35 pl d in omega arith)))
+          go false d = absurd (not-both _ e (L .raises-late pl (let less = leb-false 35 pl d in omega arith)))
 
-pub promises-of : (R : Rules) (T : GraceTraits) → KindShows R T → Promises (tableBy R) T
-promises-of R T L = record {
-  demand3 = demand3-of R T L;
-  companions = companions-of R T L;
-  never-damaged = never-damaged-of R T L;
-  making-accepts = making-accepts-of R T L;
-  refused-leaves = refused-leaves-of-acts (λ s. T .publishes) (tableBy R) (act-laws-of R T L);
-  frame = frame-of-table (λ s. T .publishes) (tableBy R) (act-laws-of R T L);
-  makes-fresh = makes-fresh-of R T L;
-  sync-facts = sync-facts-of R T L;
-  raise-facts = raise-facts-of R T L;
-  representable = representable-of-table (λ s. T .publishes) (tableBy R) (act-laws-of R T L);
-  representable-making = representable-making-of-table (λ s. T .publishes) (tableBy R) (act-laws-of R T L);
-  walk-zero = walk-zero-of R T L;
+pub promises-of : (R : Rules) (traits : GraceTraits) → KindShows R traits → Promises (tableBy R) traits
+promises-of R traits L = record {
+  demand3 = demand3-of R traits L;
+  companions = companions-of R traits L;
+  never-damaged = never-damaged-of R traits L;
+  making-accepts = making-accepts-of R traits L;
+  refused-leaves = refused-leaves-of-acts (λ s. traits .publishes) (tableBy R) (act-laws-of R traits L);
+  frame = frame-of-table (λ s. traits .publishes) (tableBy R) (act-laws-of R traits L);
+  makes-fresh = makes-fresh-of R traits L;
+  sync-facts = sync-facts-of R traits L;
+  raise-facts = raise-facts-of R traits L;
+  representable = representable-of-table (λ s. traits .publishes) (tableBy R) (act-laws-of R traits L);
+  representable-making = representable-making-of-table (λ s. traits .publishes) (tableBy R) (act-laws-of R traits L);
+  walk-zero = walk-zero-of R traits L;
 }
 
--- The facts of every accepted WALK, for every state: reply and record are those of the looks made, of which a kind says L.
-pub record WalkFacts (s : State) (p : ℕ) (k : Progress) (L : Type 0) (o : Outcome) : Type 0 where
-  pub reply-is : o .reply ≡ Walked (k .reply)
-  pub record-is : publisher (o .after) p ≡ walked (publisher s p) k
-  pub looks-are : L
+-- The facts of every accepted WALK, for every state: reply and record are those of the looks made, of which a kind says Looks.
+pub record WalkFacts (s : State) (p : ℕ) (progress : Progress) (Looks : Type 0) (o : Outcome) : Type 0 where
+  pub reply-is : o .reply ≡ Walked (progress .reply)
+  pub record-is : publisher (o .after) p ≡ walked (publisher s p) progress
+  pub looks-are : Looks
 
-pub walk-facts : (R : Rules) (s : State) (p b : ℕ) (L : Type 0) → (Undamaged (R .damage) s → p < publishers (s .words) → R .walksAt (publisher s p .place) ≡ true → L)
-    → accepted (step (tableBy R) s (Walk p b) .reply) ≡ true → WalkFacts s p (R .looks s p b) L (step (tableBy R) s (Walk p b))
+pub walk-facts : (R : Rules) (s : State) (p b : ℕ) (Looks : Type 0) → (Undamaged (R .damage) s → p < publishers (s .words) → R .walksAt (publisher s p .place) ≡ true → Looks)
+    → accepted (step (tableBy R) s (Walk p b) .reply) ≡ true → WalkFacts s p (R .looks s p b) Looks (step (tableBy R) s (Walk p b))
 unfolding step
-walk-facts R s p b L looks = decided (λ (o : Outcome). accepted (o .reply) ≡ true → WalkFacts s p (R .looks s p b) L o) (rows (tableBy R) s (Walk p b)) (tableBy R .act s (Walk p b)) s refl
+walk-facts R s p b Looks looks = decided (λ (o : Outcome). accepted (o .reply) ≡ true → WalkFacts s p (R .looks s p b) Looks o) (rows (tableBy R) s (Walk p b)) (tableBy R .act s (Walk p b)) s refl
     (λ f _.
     let no-damage = undamaged-facts (tableBy R) s (f .0) in
     let lt = leb-false (publishers (s .words)) p (f .1 .0) in

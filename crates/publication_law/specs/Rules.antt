@@ -39,7 +39,7 @@ module _ (R : Rules) where
   testsBy s (Enter r) = enterTests s r
   testsBy s (Look r k) = lookTests s r k
   testsBy s (Leave r) = leaveTests s r
-  testsBy s (Claim p x) = claimTests (R .exclusive) s p x
+  testsBy s (Claim p slot) = claimTests (R .exclusive) s p slot
   testsBy s (Write p v) = writeTests s p v
   testsBy s (Swap p) = swapTests s p
   testsBy s (Sync p) = syncTests (R .damage .versions) s p
@@ -52,7 +52,7 @@ module _ (R : Rules) where
   actBy s (Enter r) = outcome (At (R .entered s r .place)) (state (R .enterWords s r) (s .entries))
   actBy s (Look r k) = look s r k
   actBy s (Leave r) = outcome Left (state (R .leaveWords s r) (s .entries))
-  actBy s (Claim p x) = claim s p x
+  actBy s (Claim p slot) = claim s p slot
   actBy s (Write p v) = write s p v
   actBy s (Swap p) = swap s p
   actBy s (Sync p) = sync (R .damage .versions) s p
@@ -68,6 +68,6 @@ tableBy R = record {
   lacks = λ c. false;
   tests = testsBy R;
   act = actBy R;
-  makingRows = λ g s. makingTests (R .damage .versions) g s;
-  fresh = λ g s. made (R .damage .number) (R .freshReader) g s;
+  makingRows = λ z s. makingTests (R .damage .versions) z s;
+  fresh = λ z s. made (R .damage .number) (R .freshReader) z s;
 }

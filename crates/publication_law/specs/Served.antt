@@ -13,7 +13,7 @@ use borrow.Author.Tests.{eqb-true, eqb-false, eq-eqb, ne-eqb, leb-false, lt-leb,
 use Rattle.base.specs.RowLaws.{clash, and-not, neither, negated, within, not-outside, no-below, some-below, AllClear}
 use Rattle.calls.specs.declared.Call.the-variants.{Look, Claim, Write, Swap}
 use Rattle.calls.specs.declared.Reply.the-variants.{Pitch, Claimed, Written, Swapped, Refused}
-use Rattle.calls.specs.Numbers.{TABLE, PITCH-LOW, PITCH-HIGH, BUSY}
+use Rattle.calls.specs.Numbers.{TABLE, PITCH-LOW, PITCH-HIGH, PLACE-PICKED, PLACE-IDLE, BUSY}
 use Rattle.calls.specs.Events.{accepted}
 use Rattle.calls.specs.Model.{entry}
 use Rattle.calls.specs.Told.{Has}
@@ -50,11 +50,11 @@ module _ (K : DamageRules) (z : Given) (g : Ghost) (s : State) (i : Invariant K 
   named-slot x l = lt-leb (slots (s .words)) x (omega (arith, i .sized .slots-are))
 
   -- A call to which no row applies is in its turn.
-  pub look-turn : (r k : ℕ) → AllClear (lookTests s r k) → g .tally .place r ≡ 5
+  pub look-turn : (r k : ℕ) → AllClear (lookTests s r k) → g .tally .place r ≡ PLACE-PICKED
   look-turn r k f = i .phases .places r ∙ eqb-true (reader s r .place) 5 (not-false _ (f .1 .1 .0))
 
-  pub claim-turn : (e : Bool) (p x : ℕ) → AllClear (claimTests e s p x) → g .tally .phase p ≡ idle
-  claim-turn e p x f = i .phases .phases p ∙ ap phaseAt (claim-clear e s p x f .in-turn)
+  pub claim-turn : (exclusive : Bool) (p x : ℕ) → AllClear (claimTests exclusive s p x) → g .tally .phase p ≡ idle
+  claim-turn exclusive p x f = i .phases .phases p ∙ ap phaseAt (claim-clear exclusive s p x f .in-turn)
 
   pub write-turn : (p : ℕ) (v : ℤ) → AllClear (writeTests s p v) → (g .tally .phase p ≡ writing) × (length (g .model .draft p) < TABLE)
   write-turn p v f =
@@ -68,24 +68,24 @@ module _ (K : DamageRules) (z : Given) (g : Ghost) (s : State) (i : Invariant K 
       let drafted = i .core .publishers p .drafted (omega arith) (omega arith) in
       (i .phases .phases p ∙ ap phaseAt at33, omega (arith, drafted, at33))
 
-  nobody-busy : (e : Bool) (p : ℕ) → (e ≡ true → (q : ℕ) → q ≢ p → g .tally .phase q ≡ idle) → (e && anotherBusy s p) ≡ false
-  nobody-busy e p f = and-not e (anotherBusy s p) (λ d. no-below _ (publishers (s .words)) (λ q l. and-not (not (eqb q p)) (not (eqb (publisher s q .place) 0))
+  nobody-busy : (exclusive : Bool) (p : ℕ) → (exclusive ≡ true → (q : ℕ) → q ≢ p → g .tally .phase q ≡ idle) → (exclusive && anotherBusy s p) ≡ false
+  nobody-busy exclusive p f = and-not exclusive (anotherBusy s p) (λ d. no-below _ (publishers (s .words)) (λ q l. and-not (not (eqb q p)) (not (eqb (publisher s q .place) PLACE-IDLE))
       (λ ne. negated _ (eq-eqb (publisher s q .place) 0 (placed K z g s i q idle (f d q (eqb-false q p (not-true _ ne))))))))
 
-  module _ (exclusive : Bool) (M : Machine) (c : SharedCalls exclusive M s) where
+  module _ (exclusive : Bool) (M : Machine) (served : SharedCalls exclusive M s) where
     -- Demand 3's looks and claims.
     pub look-shelf : (r k : ℕ) → accepted (M .step s (Look r k) .reply) ≡ true → (v : ℤ) × (M .step s (Look r k) .reply ≡ Pitch v) × (entry (g .model .note r) k ≡ some v)
-    look-shelf r k = rw (c .looks r k) (decided (λ (o : Outcome). accepted (o .reply) ≡ true → (v : ℤ) × (o .reply ≡ Pitch v) × (entry (g .model .note r) k ≡ some v)) (lookTests s r k) (look s r k) s refl
+    look-shelf r k = rw (served .looks r k) (decided (λ (o : Outcome). accepted (o .reply) ≡ true → (v : ℤ) × (o .reply ≡ Pitch v) × (entry (g .model .note r) k ≡ some v)) (lookTests s r k) (look s r k) s refl
         (λ f ok. (_, refl, look-right K z g s i r k f)) (λ ok. clash (sym ok)))
 
     pub claim-not-picked : (p x r : ℕ) → accepted (M .step s (Claim p x) .reply) ≡ true → ¬ (g .told .picked r ≡ some x)
-    claim-not-picked p x r = rw (c .claims p x) (decided (λ (o : Outcome). accepted (o .reply) ≡ true → ¬ (g .told .picked r ≡ some x)) (claimTests exclusive s p x) (claim s p x) s refl
+    claim-not-picked p x r = rw (served .claims p x) (decided (λ (o : Outcome). accepted (o .reply) ≡ true → ¬ (g .told .picked r ≡ some x)) (claimTests exclusive s p x) (claim s p x) s refl
         (λ f ok. claim-unpicked K z g s i exclusive p x (claim-clear exclusive s p x f) r) (λ ok. clash (sym ok)))
 
     -- The companions.
-    pub looks-on : (r k : ℕ) → r < z .readers → k < TABLE → g .tally .place r ≡ 5 → accepted (M .step s (Look r k) .reply) ≡ true
+    pub looks-on : (r k : ℕ) → r < z .readers → k < TABLE → g .tally .place r ≡ PLACE-PICKED → accepted (M .step s (Look r k) .reply) ≡ true
     looks-on r k rn k32 five = rw (
-      c .looks r k,
+      served .looks r k,
       decide-accepts (lookTests s r k) (look s r k) s
           (named-reader r rn, (le-ltb 31 k (omega arith), (negated _ (eq-eqb (reader s r .place) 5 (sym (i .phases .places r) ∙ five)), tt))),
     ) refl
@@ -93,7 +93,7 @@ module _ (K : DamageRules) (z : Given) (g : Ghost) (s : State) (i : Invariant K 
     pub claims-on : (p x : ℕ) → p < z .publishers → x < z .slots → Has (g .told) x free → g .tally .phase p ≡ idle
         → (exclusive ≡ true → (q : ℕ) → q ≢ p → g .tally .phase q ≡ idle) → M .step s (Claim p x) .reply ≡ Claimed x
     claims-on p x pn xn is-free idle-now others = rw (
-      c .claims p x,
+      served .claims p x,
       decide-accepts (claimTests exclusive s p x) (claim s p x) s (claim-rows exclusive s p x (record {
         publisher-named = leb-false _ _ (named-publisher p pn);
         slot-named = leb-false _ _ (named-slot x xn);
@@ -106,23 +106,23 @@ module _ (K : DamageRules) (z : Given) (g : Ghost) (s : State) (i : Invariant K 
     pub refused-busy : exclusive ≡ true → (p x q : ℕ) → p < z .publishers → x < z .slots → g .tally .phase p ≡ idle → q ≢ p → g .tally .phase q ≢ idle
         → M .step s (Claim p x) .reply ≡ Refused BUSY
     refused-busy e p x q pn xn idle-now ne busy =
-        let b = busy-told K z g s i q busy in
-        let another : anotherBusy s p ≡ true = some-below (λ q. not (eqb q p) && not (eqb (publisher s q .place) 0)) (publishers (s .words)) q (b .0) (rw (ne-eqb q p ne, b .1) refl) in
-        rw (c .claims p x, named-publisher p pn, named-slot x xn, eq-eqb (publisher s p .place) 0 (placed K z g s i p idle idle-now), e, another) refl
+        let busy-now = busy-told K z g s i q busy in
+        let another : anotherBusy s p ≡ true = some-below (λ q. not (eqb q p) && not (eqb (publisher s q .place) PLACE-IDLE)) (publishers (s .words)) q (busy-now .0) (rw (ne-eqb q p ne, busy-now .1) refl) in
+        rw (served .claims p x, named-publisher p pn, named-slot x xn, eq-eqb (publisher s p .place) 0 (placed K z g s i p idle idle-now), e, another) refl
 
     pub writes-on : (p : ℕ) (v : ℤ) → p < z .publishers → g .tally .phase p ≡ writing → length (g .model .draft p) < TABLE → ltZ v PITCH-LOW ≡ false → ltZ PITCH-HIGH v ≡ false
         → M .step s (Write p v) .reply ≡ Written (length (g .model .draft p) + 1)
     writes-on p v pn ph short low high =
         let at = placed K z g s i p writing ph in
-        let pl = i .core .publishers p .drafted (at .0) (at .1) in
+        let drafted = i .core .publishers p .drafted (at .0) (at .1) in
         rw (
-          c .writes p v,
+          served .writes p v,
           decide-accepts (writeTests s p v) (write s p v) s
               (named-publisher p pn, (neither (ltZ v PITCH-LOW) (ltZ PITCH-HIGH v) low high, (not-outside 1 32 (publisher s p .place) (at .0) (omega arith), tt))),
-        ) (ap Written (sym pl))
+        ) (ap Written (sym drafted))
 
     pub swaps-on : (p : ℕ) → p < z .publishers → g .tally .phase p ≡ writing → length (g .model .draft p) ≡ TABLE → (x : ℕ) × (g .told .current ≡ some x) × (M .step s (Swap p) .reply ≡ Swapped x)
     swaps-on p pn ph all =
         let at = placed K z g s i p writing ph in
-        let pl = i .core .publishers p .drafted (at .0) (at .1) in
-        (current (s .words), i .core .current-is, rw (c .swaps p, decide-accepts (swapTests s p) (swap s p) s (named-publisher p pn, (negated _ (eq-eqb (publisher s p .place) 33 (omega arith)), tt))) refl)
+        let drafted = i .core .publishers p .drafted (at .0) (at .1) in
+        (current (s .words), i .core .current-is, rw (served .swaps p, decide-accepts (swapTests s p) (swap s p) s (named-publisher p pn, (negated _ (eq-eqb (publisher s p .place) 33 (omega arith)), tt))) refl)

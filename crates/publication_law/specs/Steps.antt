@@ -12,7 +12,7 @@ use Rattle.base.specs.Rows.Test.{_gives_}
 use Rattle.calls.specs.declared.Reply.the-variants.{Pitch, Claimed, Written, Swapped, Synced, Raised, Shared, Walked, Freed, Refused}
 use Rattle.calls.specs.declared.WalkReply.{WalkReply}
 use Rattle.calls.specs.declared.WalkReply.the-variants.{Waiting, Spent, Quiet, Returned}
-use Rattle.calls.specs.Numbers.{READERS-MAX, PUBLISHERS-MAX, SLOTS-MIN, SLOTS-MAX, TABLE, PITCH-LOW, PITCH-HIGH, FEATHERED, MODULUS, NUMBER-MAX, DAMAGED, BAD-READERS, BAD-PUBLISHERS, BAD-SLOTS, BAD-ENTRIES, BAD-VERSION, NO-SUCH-READER, NO-SUCH-PUBLISHER, NO-SUCH-SLOT, NO-SUCH-ENTRY, BAD-PITCH, READER-TURN, PUBLISHER-TURN, SLOT-IN-USE, BUSY, VERSION-IS-LAST, TOO-MANY-LOOKS}
+use Rattle.calls.specs.Numbers.{READERS-MAX, PUBLISHERS-MAX, SLOTS-MIN, SLOTS-MAX, TABLE, PITCH-LOW, PITCH-HIGH, FEATHERED, MODULUS, NUMBER-MAX, PLACE-OPEN, PLACE-PICKED, PLACE-IDLE, PLACE-CLAIMED, PLACE-WRITTEN, PLACE-SWAPPED, PLACE-SYNCHRONISING, PLACE-QUIET, PLACE-RAISED, PLACE-RETURNED, DAMAGED, BAD-READERS, BAD-PUBLISHERS, BAD-SLOTS, BAD-ENTRIES, BAD-VERSION, NO-SUCH-READER, NO-SUCH-PUBLISHER, NO-SUCH-SLOT, NO-SUCH-ENTRY, BAD-PITCH, READER-TURN, PUBLISHER-TURN, SLOT-IN-USE, BUSY, VERSION-IS-LAST, TOO-MANY-LOOKS}
 use Rattle.layout.specs.declared.Reader.{Reader}
 use Rattle.layout.specs.declared.Publisher.{Publisher}
 use Rattle.layout.specs.declared.WalkRecord.{WalkRecord}
@@ -36,7 +36,7 @@ pub record Versions : Type 0 where
 
 -- The last version is a fixed number of each kind of store: none is above it, a mark is neither 0 nor above it, mark = version + 1.
 abbrev pub upTo : ℕ → Versions
-upTo last = record { tooLarge = λ v. ltb last v; isLast = λ v. eqb v last; wrongMark = λ m. eqb m 0 || ltb last m; markAt = λ v. v + 1; beforeMark = λ m. m - 1 }
+upTo last = record { tooLarge = λ ver. ltb last ver; isLast = λ ver. eqb ver last; wrongMark = λ mark. eqb mark 0 || ltb last mark; markAt = λ ver. ver + 1; beforeMark = λ mark. mark - 1 }
 
 abbrev pub reader : State → ℕ → Reader
 reader s r = readerAt (s .words) r
@@ -62,7 +62,7 @@ noSuchPublisher s p = leb (publishers (s .words)) p gives NO-SUCH-PUBLISHER
 
 -- Second argument: 12 no such slot; 13 entry above 31; 14 pitch out of range.
 abbrev pub noSuchSlot : State → ℕ → Test
-noSuchSlot s x = leb (slots (s .words)) x gives NO-SUCH-SLOT
+noSuchSlot s slot = leb (slots (s .words)) slot gives NO-SUCH-SLOT
 
 abbrev pub noSuchEntry : ℕ → Test
 noSuchEntry k = ltb 31 k gives NO-SUCH-ENTRY
@@ -79,35 +79,35 @@ publisherTurn wrong = wrong gives PUBLISHER-TURN
 
 -- ENTER r moves one place on (what that does is each kind's own); place 5 is the last.
 abbrev pub enterTests : State → ℕ → List Test
-enterTests s r = noSuchReader s r ∷ readerTurn (leb 5 (reader s r .place)) ∷ []
+enterTests s r = noSuchReader s r ∷ readerTurn (leb PLACE-PICKED (reader s r .place)) ∷ []
 
 -- LOOK r k (place 5) replies with entry k of the picked slot. (An undamaged store has that entry: the 0 is never read.)
 abbrev pub lookTests : State → ℕ → ℕ → List Test
-lookTests s r k = noSuchReader s r ∷ noSuchEntry k ∷ readerTurn (not (eqb (reader s r .place) 5)) ∷ []
+lookTests s r k = noSuchReader s r ∷ noSuchEntry k ∷ readerTurn (not (eqb (reader s r .place) PLACE-PICKED)) ∷ []
 
 abbrev pub look : State → ℕ → ℕ → Outcome
 look s r k = outcome (Pitch (getD (s .entries) (entryAt (reader s r .picked) k) (pos 0))) s
 
 -- LEAVE r (places 4, 5) goes to 0.
 abbrev pub leaveTests : State → ℕ → List Test
-leaveTests s r = noSuchReader s r ∷ readerTurn (ltb (reader s r .place) 4) ∷ []
+leaveTests s r = noSuchReader s r ∷ readerTurn (ltb (reader s r .place) PLACE-OPEN) ∷ []
 
 -- CLAIM p s: 0 to 1, holds s.
 -- 31 (old) another publisher not at place 0
 abbrev pub anotherBusy : State → ℕ → Bool
-anotherBusy s p = anyBelow (λ q. not (eqb q p) && not (eqb (publisher s q .place) 0)) (publishers (s .words))
+anotherBusy s p = anyBelow (λ q. not (eqb q p) && not (eqb (publisher s q .place) PLACE-IDLE)) (publishers (s .words))
 
 -- A slot is free if it is not current and no publisher at a place other than 0 holds it.
 abbrev pub inUse : State → ℕ → Bool
-inUse s x = eqb (current (s .words)) x || anyBelow (λ q. heldSlot s q x) (publishers (s .words))
+inUse s slot = eqb (current (s .words)) slot || anyBelow (λ q. heldSlot s q slot) (publishers (s .words))
 
 abbrev pub claimTests : Bool → State → ℕ → ℕ → List Test
-claimTests exclusive s p x =
-    noSuchPublisher s p ∷ noSuchSlot s x ∷ publisherTurn (not (eqb (publisher s p .place) 0))
-    ∷ ((exclusive && anotherBusy s p) gives BUSY) ∷ (inUse s x gives SLOT-IN-USE) ∷ []
+claimTests exclusive s p slot =
+    noSuchPublisher s p ∷ noSuchSlot s slot ∷ publisherTurn (not (eqb (publisher s p .place) PLACE-IDLE))
+    ∷ ((exclusive && anotherBusy s p) gives BUSY) ∷ (inUse s slot gives SLOT-IN-USE) ∷ []
 
 abbrev pub claim : State → ℕ → ℕ → Outcome
-claim s p x = outcome (Claimed x) (putPublisher s p (publisher s p atPlace 1 held≔ x))
+claim s p slot = outcome (Claimed slot) (putPublisher s p (publisher s p atPlace PLACE-CLAIMED held≔ slot))
 
 -- WRITE p v: stores the next entry, replies with the number written. At places 1 to 32 place - 1 entries are written.
 abbrev pub writeTests : State → ℕ → ℤ → List Test
@@ -120,24 +120,24 @@ write s p v =
 
 -- SWAP p: 33 to 34; its slot becomes current, it holds the former one and replies with that.
 abbrev pub swapTests : State → ℕ → List Test
-swapTests s p = noSuchPublisher s p ∷ publisherTurn (not (eqb (publisher s p .place) 33)) ∷ []
+swapTests s p = noSuchPublisher s p ∷ publisherTurn (not (eqb (publisher s p .place) PLACE-WRITTEN)) ∷ []
 
 abbrev pub swap : State → ℕ → Outcome
 swap s p = outcome (Swapped (current (s .words))) (state
-    (withCurrent (withPublisher (s .words) p (publisher s p atPlace 34 held≔ current (s .words))) (publisher s p .held))
+    (withCurrent (withPublisher (s .words) p (publisher s p atPlace PLACE-SWAPPED held≔ current (s .words))) (publisher s p .held))
     (s .entries))
 
 -- SYNC p: 34 to 35; mark = version + 1; next, looks and waits become 0. Replies with the mark. 32 version is the last.
 abbrev pub syncTests : Versions → State → ℕ → List Test
 syncTests vs s p =
-    noSuchPublisher s p ∷ publisherTurn (not (eqb (publisher s p .place) 34)) ∷ (vs .isLast (version (s .words)) gives VERSION-IS-LAST) ∷ []
+    noSuchPublisher s p ∷ publisherTurn (not (eqb (publisher s p .place) PLACE-SWAPPED)) ∷ (vs .isLast (version (s .words)) gives VERSION-IS-LAST) ∷ []
 
 abbrev pub newWalk : WalkRecord → ℕ → WalkRecord
-newWalk k m = k mark≔ m next≔ 0 looks≔ 0 waits≔ 0
+newWalk walk mark = walk mark≔ mark next≔ 0 looks≔ 0 waits≔ 0
 
 abbrev pub sync : Versions → State → ℕ → Outcome
 sync vs s p = outcome (Synced (vs .markAt (version (s .words))))
-    (putPublisher s p (publisher s p atPlace 35 walk≔ newWalk (publisher s p .walk) (vs .markAt (version (s .words)))))
+    (putPublisher s p (publisher s p atPlace PLACE-SYNCHRONISING walk≔ newWalk (publisher s p .walk) (vs .markAt (version (s .words)))))
 
 -- RAISE p (at which place is each kind's own): if version = mark - 1 it becomes mark, reply raised; otherwise reply shared. Place 37 either way.
 abbrev pub raiseTests : (ℕ → Bool) → State → ℕ → List Test
@@ -145,8 +145,8 @@ raiseTests raisesAt s p = noSuchPublisher s p ∷ publisherTurn (not (raisesAt (
 
 abbrev pub raise : Versions → State → ℕ → Outcome
 raise vs s p = pick (eqb (version (s .words)) (vs .beforeMark (publisher s p .walk .mark)))
-    (outcome Raised (state (withVersion (withPublisher (s .words) p (publisher s p atPlace 37)) (publisher s p .walk .mark)) (s .entries)))
-    (outcome Shared (putPublisher s p (publisher s p atPlace 37)))
+    (outcome Raised (state (withVersion (withPublisher (s .words) p (publisher s p atPlace PLACE-RAISED)) (publisher s p .walk .mark)) (s .entries)))
+    (outcome Shared (putPublisher s p (publisher s p atPlace PLACE-RAISED)))
 
 -- WALK p b (at which places is each kind's own) moves the four numbers of the publisher named and of no other. 33 looks + b above 2^64 - 1.
 abbrev pub walkTests : (ℕ → Bool) → State → ℕ → ℕ → List Test
@@ -156,42 +156,42 @@ walkTests walksAt s p b =
 
 -- A quiet look leads to place 36, a return to 38; waiting and spent stay.
 abbrev pub placeAfter : ℕ → WalkReply → ℕ
-placeAfter place (Waiting w) = place
+placeAfter place (Waiting who) = place
 placeAfter place Spent = place
-placeAfter place Quiet = 36
-placeAfter place (Returned l w) = 38
+placeAfter place Quiet = PLACE-QUIET
+placeAfter place (Returned looks waits) = PLACE-RETURNED
 
 abbrev pub walked : Publisher → Progress → Publisher
-walked y k = y atPlace (placeAfter (y .place) (k .reply)) walk≔ k .walk
+walked y progress = y atPlace (placeAfter (y .place) (progress .reply)) walk≔ progress .walk
 
 abbrev pub walk : State → ℕ → Progress → Outcome
-walk s p k = outcome (Walked (k .reply)) (putPublisher s p (walked (publisher s p) k))
+walk s p progress = outcome (Walked (progress .reply)) (putPublisher s p (walked (publisher s p) progress))
 
 -- RELEASE p: 38 to 0, which by itself frees the held slot (its number stays), adds one to releases (modulo 2^64), replies with slot and releases.
 abbrev pub releaseTests : State → ℕ → List Test
-releaseTests s p = noSuchPublisher s p ∷ publisherTurn (not (eqb (publisher s p .place) 38)) ∷ []
+releaseTests s p = noSuchPublisher s p ∷ publisherTurn (not (eqb (publisher s p .place) PLACE-RETURNED)) ∷ []
 
 abbrev pub oneMore : State → ℕ
 oneMore s = (releases (s .words) + 1) % MODULUS
 
 abbrev pub release : State → ℕ → Outcome
 release s p = outcome (Freed (publisher s p .held) (oneMore s)) (state
-    (withReleases (withPublisher (s .words) p (publisher s p atPlace 0)) (oneMore s))
+    (withReleases (withPublisher (s .words) p (publisher s p atPlace PLACE-IDLE)) (oneMore s))
     (s .entries))
 
 -- Making. 1 at any other length of the words, before all else;
 -- 2 readers, 3 publishers, 4 slots out of range; 5 entries' length; 6 first version above the last.
 abbrev pub makingTests : Versions → Given → State → List Test
-makingTests vs g s =
+makingTests vs z s =
     (not (eqb (length (s .words)) WORDS) gives DAMAGED)
-    ∷ (outside 1 READERS-MAX (g .readers) gives BAD-READERS)
-    ∷ (outside 1 PUBLISHERS-MAX (g .publishers) gives BAD-PUBLISHERS)
-    ∷ (outside SLOTS-MIN SLOTS-MAX (g .slots) gives BAD-SLOTS)
-    ∷ (not (eqb (length (s .entries)) (g .slots * TABLE)) gives BAD-ENTRIES)
-    ∷ (vs .tooLarge (g .version) gives BAD-VERSION)
+    ∷ (outside 1 READERS-MAX (z .readers) gives BAD-READERS)
+    ∷ (outside 1 PUBLISHERS-MAX (z .publishers) gives BAD-PUBLISHERS)
+    ∷ (outside SLOTS-MIN SLOTS-MAX (z .slots) gives BAD-SLOTS)
+    ∷ (not (eqb (length (s .entries)) (z .slots * TABLE)) gives BAD-ENTRIES)
+    ∷ (vs .tooLarge (z .version) gives BAD-VERSION)
     ∷ []
 
 -- A fresh store has every entry feathered, slot 0 current, readers and publishers at place 0, the version and the sizes as given
 -- and every other number 0, but for the kind word and what a kind's fresh reader x has.
 abbrev pub made : ℕ → Reader → Given → State → State
-made kind x g s = state (fresh kind (g .readers) (g .publishers) (g .slots) (g .version) x) (replicate (length (s .entries)) FEATHERED)
+made kind x z s = state (fresh kind (z .readers) (z .publishers) (z .slots) (z .version) x) (replicate (length (s .entries)) FEATHERED)

@@ -37,7 +37,7 @@ module _ (T : Table) where
   step s c = decide (rows s c) (T .act s c) s
 
   unfoldable pub making : Given → State → Outcome
-  making g s = decide (T .makingRows g s) (outcome Made (T .fresh g s)) s
+  making z s = decide (T .makingRows z s) (outcome Made (T .fresh z s)) s
 
   abbrev pub machine : Machine
   machine = record { making = making; step = step }

@@ -39,16 +39,16 @@ module _ (T : Table) where
   lacked-refused s c e = ap (λ (b : Bool). decide ((b gives DAMAGED) ∷ T .tests s c) (T .act s c) s) (or-left (T .lacks c) (damaged T s) e)
 
   -- A refused making leaves store and entries as they were lent.
-  pub making-leaves : (g : Given) (s : State) (n : ℕ) → making T g s .reply ≡ Refused n → making T g s .after ≡ s
+  pub making-leaves : (z : Given) (s : State) (n : ℕ) → making T z s .reply ≡ Refused n → making T z s .after ≡ s
   unfolding making
-  making-leaves g s n = decide-leaves (T .makingRows g s) (outcome Made (T .fresh g s)) s n refl
+  making-leaves z s n = decide-leaves (T .makingRows z s) (outcome Made (T .fresh z s)) s n refl
 
   -- Where no act refuses by itself, a refused call changes nothing.
   pub refused-leaves-of-table : ((s : State) (c : Call) → firstOf (rows T s c) ≡ 0 → accepted (T .act s c .reply) ≡ true) → RefusedLeaves (machine T)
   unfolding step
   refused-leaves-of-table accepts = record {
     step = λ s c n. pick-split (λ (o : Outcome). o .reply ≡ Refused n → o .after ≡ s) (eqb (firstOf (rows T s c)) 0)
-        (λ z e. absurd (not-both _ (accepts s c (eqb-true _ 0 z)) (rw e refl))) (λ _ _. refl);
+        (λ none e. absurd (not-both _ (accepts s c (eqb-true _ 0 none)) (rw e refl))) (λ _ _. refl);
     making = making-leaves;
   }
 
@@ -65,7 +65,7 @@ pub record ActFacts (publishes : Bool) (s : State) (c : Call) (o : Outcome) : Ty
 pub record ActLaws (publishes : State → Bool) (T : Table) : Type 0 where
   -- a call's numbers are above 1, and all are below 100
   pub numbers-above-1 : (s : State) (c : Call) → T .lacks c ≡ false → allAbove DAMAGED (T .tests s c) ≡ true
-  pub making-numbers : (g : Given) (s : State) → allAbove 0 (T .makingRows g s) ≡ true
+  pub making-numbers : (z : Given) (s : State) → allAbove 0 (T .makingRows z s) ≡ true
   pub acts : (s : State) (c : Call) → AllClear (rows T s c) → ActFacts (publishes s) s c (T .act s c)
   pub writes : (s : State) (p : ℕ) (v : ℤ) → AllClear (rows T s (Write p v)) → Writes s p v (T .act s (Write p v))
 
@@ -76,19 +76,19 @@ module _ (publishes : State → Bool) (T : Table) (L : ActLaws publishes T) wher
   -- A call is its act, where no row applies; or it is refused with a number from 1 to 99 and changes nothing.
   by-rows : (Q : Outcome → Type 0) (s : State) (c : Call) → (AllClear (rows T s c) → Q (T .act s c)) → ((n : ℕ) → n ≢ 0 → n < 100 → Q (outcome (Refused n) s)) → Q (step T s c)
   unfolding step
-  by-rows Q s c f g = go (T .lacks c) refl
+  by-rows Q s c f f′ = go (T .lacks c) refl
     where
       go : (b : Bool) → T .lacks c ≡ b → Q (step T s c)
-      go true e = rw (lacked-refused T s c e) (g DAMAGED (λ y. omega arith) (omega arith))
-      go false e = pick-split Q (eqb (firstOf (rows T s c)) 0) (λ z. f (clear (rows T s c) (row-numbers s c e) (eqb-true _ 0 z)))
-          (λ z. let ne = eqb-false (firstOf (rows T s c)) 0 z in g (firstOf (rows T s c)) ne (first-within 0 (rows T s c) (row-numbers s c e) ne .1))
+      go true e = rw (lacked-refused T s c e) (f′ DAMAGED (λ eq. omega arith) (omega arith))
+      go false e = pick-split Q (eqb (firstOf (rows T s c)) 0) (λ e′. f (clear (rows T s c) (row-numbers s c e) (eqb-true _ 0 e′)))
+          (λ e′. let ne = eqb-false (firstOf (rows T s c)) 0 e′ in f′ (firstOf (rows T s c)) ne (first-within 0 (rows T s c) (row-numbers s c e) ne .1))
 
   -- No act refuses by itself, so a refused call changes nothing.
   acts-accept : (s : State) (c : Call) → firstOf (rows T s c) ≡ 0 → accepted (T .act s c .reply) ≡ true
   acts-accept s c e = go (T .lacks c) refl
     where
       go : (b : Bool) → T .lacks c ≡ b → accepted (T .act s c .reply) ≡ true
-      go true lacks = absurd (let y : firstOf (rows T s c) ≡ DAMAGED = rw lacks refl in omega (arith, e, y))
+      go true lacks = absurd (let is : firstOf (rows T s c) ≡ DAMAGED = rw lacks refl in omega (arith, e, is))
       go false has = L .acts s c (clear (rows T s c) (row-numbers s c has) e) .accepts
 
   pub refused-leaves-of-acts : RefusedLeaves (machine T)
@@ -98,11 +98,11 @@ module _ (publishes : State → Bool) (T : Table) (L : ActLaws publishes T) wher
   pub only-damaged : (s : State) (c : Call) → T .lacks c ≡ false → damaged T s ≡ false → step T s c .reply ≢ Refused DAMAGED
   unfolding step
   only-damaged s c has clean = pick-split (λ (o : Outcome). o .reply ≢ Refused DAMAGED) (eqb (firstOf (rows T s c)) 0)
-      (λ z e. not-both _ (acts-accept s c (eqb-true _ 0 z)) (rw e refl))
-      (λ z e.
+      (λ e′ e. not-both _ (acts-accept s c (eqb-true _ 0 e′)) (rw e refl))
+      (λ e′ e.
       let is : firstOf (rows T s c) ≡ DAMAGED = cc in
       let own : firstOf (T .tests s c) ≡ DAMAGED = rw (has, clean) at is in
-      omega (arith, first-within DAMAGED (T .tests s c) (L .numbers-above-1 s c has) (λ y. omega arith) .0))
+      omega (arith, first-within DAMAGED (T .tests s c) (L .numbers-above-1 s c has) (λ eq. omega arith) .0))
 
   -- Only what a call names moves.
   pub frame-of-table : Frame publishes (machine T)
@@ -114,9 +114,9 @@ module _ (publishes : State → Bool) (T : Table) (L : ActLaws publishes T) wher
 
   -- A reply of a call or a making has an answer that no other representable reply has: a refusal's number is below 100, a pitch is an entry.
   pub representable-of-table : (s : State) (c : Call) → ((j : ℕ) → NarrowPitch (getD (s .entries) j (pos 0))) → Representable (step T s c .reply)
-  representable-of-table s c h = by-rows (λ (o : Outcome). Representable (o .reply)) s c (λ f. L .acts s c f .representable h) (λ n _ low. low)
+  representable-of-table s c narrow = by-rows (λ (o : Outcome). Representable (o .reply)) s c (λ f. L .acts s c f .representable narrow) (λ n _ low. low)
 
-  pub representable-making-of-table : (g : Given) (s : State) → Representable (making T g s .reply)
+  pub representable-making-of-table : (z : Given) (s : State) → Representable (making T z s .reply)
   unfolding making
-  representable-making-of-table g s = pick-split (λ (o : Outcome). Representable (o .reply)) (eqb (firstOf (T .makingRows g s)) 0) (λ _. tt)
-      (λ z. first-within 0 (T .makingRows g s) (L .making-numbers g s) (eqb-false (firstOf (T .makingRows g s)) 0 z) .1)
+  representable-making-of-table z s = pick-split (λ (o : Outcome). Representable (o .reply)) (eqb (firstOf (T .makingRows z s)) 0) (λ _. tt)
+      (λ found. first-within 0 (T .makingRows z s) (L .making-numbers z s) (eqb-false (firstOf (T .makingRows z s)) 0 found) .1)

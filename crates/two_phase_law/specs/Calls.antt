@@ -16,7 +16,7 @@ use Rattle.base.specs.RowLaws.{clash, pick-split, or-false, count-zero}
 use Rattle.calls.specs.declared.Call.the-variants.{Enter, Leave}
 use Rattle.calls.specs.declared.Reply.the-variants.{At, Left}
 use Rattle.calls.specs.declared.WalkReply.the-variants.{Waiting, Spent, Quiet, Returned}
-use Rattle.calls.specs.Numbers.{READERS-MAX}
+use Rattle.calls.specs.Numbers.{READERS-MAX, PLACE-OUT, PLACE-LOADED, PLACE-PUBLISHED, PLACE-OPEN, PLACE-PICKED, PLACE-SYNCHRONISING, PLACE-RAISED}
 use Rattle.layout.specs.declared.Reader.{Reader}
 use Rattle.layout.specs.declared.Publisher.{Publisher}
 use Rattle.layout.specs.declared.WalkRecord.{WalkRecord}
@@ -46,7 +46,7 @@ unfolding countBelow
 count-most f zero = omega arith
 count-most f (suc n) = go (f n) (count-most f n)
   where
-    go : (b : Bool) → countBelow f n ≤ n → pick b (suc (countBelow f n)) (countBelow f n) ≤ suc n
+    go : (test : Bool) → countBelow f n ≤ n → pick test (suc (countBelow f n)) (countBelow f n) ≤ suc n
     go true l = omega arith
     go false l = omega arith
 
@@ -56,23 +56,23 @@ module _ (w : List ℕ) where
   counts-none = refl
 
   -- A reader below 4 is not counted.
-  pub counts-out : (r : ℕ) → readerAt w r .place < 4 → addedCounts w r ≡ addedCounts w (r + 1)
-  counts-out r l = rw (count-more (λ q. addedTo 0 (readerAt w q)) r, count-more (λ q. addedTo 1 (readerAt w q)) r, lt-leb 4 (readerAt w r .place) l) refl
+  pub counts-out : (r : ℕ) → readerAt w r .place < PLACE-OPEN → addedCounts w r ≡ addedCounts w (r + 1)
+  counts-out r l = rw (count-more (λ r′. addedTo 0 (readerAt w r′)) r, count-more (λ r′. addedTo 1 (readerAt w r′)) r, lt-leb 4 (readerAt w r .place) l) refl
 
   -- One at 4 or 5 is, by the parity of its loaded version.
-  pub counts-in : (r i : ℕ) → 4 ≤ readerAt w r .place → i ≡ readerAt w r .first % 2 → set (addedCounts w r) i (getD (addedCounts w r) i 0 + 1) ≡ addedCounts w (r + 1)
-  counts-in r i l e = rw (count-more (λ q. addedTo 0 (readerAt w q)) r, count-more (λ q. addedTo 1 (readerAt w q)) r, le-leb 4 (readerAt w r .place) l, ← e) (go i (omega arith))
+  pub counts-in : (r i : ℕ) → PLACE-OPEN ≤ readerAt w r .place → i ≡ readerAt w r .first % 2 → set (addedCounts w r) i (getD (addedCounts w r) i 0 + 1) ≡ addedCounts w (r + 1)
+  counts-in r i l e = rw (count-more (λ r′. addedTo 0 (readerAt w r′)) r, count-more (λ r′. addedTo 1 (readerAt w r′)) r, le-leb 4 (readerAt w r .place) l, ← e) (go i (omega arith))
     where
       go : (j : ℕ) → j < 2 → set (addedCounts w r) j (getD (addedCounts w r) j 0 + 1)
-          ≡ pick (eqb j 0) (countBelow (λ q. addedTo 0 (readerAt w q)) r + 1) (countBelow (λ q. addedTo 0 (readerAt w q)) r)
-          ∷ pick (eqb j 1) (countBelow (λ q. addedTo 1 (readerAt w q)) r + 1) (countBelow (λ q. addedTo 1 (readerAt w q)) r) ∷ []
-      go zero h = refl
-      go (suc zero) h = refl
-      go (suc (suc j)) h = absurd (omega arith)
+          ≡ pick (eqb j 0) (countBelow (λ r′. addedTo 0 (readerAt w r′)) r + 1) (countBelow (λ r′. addedTo 0 (readerAt w r′)) r)
+          ∷ pick (eqb j 1) (countBelow (λ r′. addedTo 1 (readerAt w r′)) r + 1) (countBelow (λ r′. addedTo 1 (readerAt w r′)) r) ∷ []
+      go zero l = refl
+      go (suc zero) l = refl
+      go (suc (suc j)) l = absurd (omega arith)
 
   pub counts-most : (n i : ℕ) → getD (addedCounts w n) i 0 ≤ n
-  counts-most n zero = count-most (λ q. addedTo 0 (readerAt w q)) n
-  counts-most n (suc zero) = count-most (λ q. addedTo 1 (readerAt w q)) n
+  counts-most n zero = count-most (λ r′. addedTo 0 (readerAt w r′)) n
+  counts-most n (suc zero) = count-most (λ r′. addedTo 1 (readerAt w r′)) n
   counts-most n (suc (suc i)) = omega arith
 
 pub no-damage : (s : State) → damaged rules s ≡ false → Undamaged damageRules s
@@ -81,140 +81,140 @@ no-damage = undamaged-facts rules
 -- The code tests the readers and the indicators in one pass.
 module _ (s : State) where
   pub scan-undamaged : anyTrue (headRows damageRules s) ≡ false → readersTest damageRules s || rules .further s ≡ false → publishersTest damageRules s ≡ false → damaged rules s ≡ false
-  scan-undamaged h r p = let q = or-false (readersTest damageRules s) (rules .further s) r in undamaged rules s h (q .0) (q .1) p
+  scan-undamaged head-ok readers-ok publishers-ok = let parts = or-false (readersTest damageRules s) (rules .further s) readers-ok in undamaged rules s head-ok (parts .0) (parts .1) publishers-ok
 
   pub scan-damaged : readersTest damageRules s || rules .further s ≡ true → damaged rules s ≡ true
   scan-damaged e = go (readersTest damageRules s) refl e
     where
-      go : (b : Bool) → readersTest damageRules s ≡ b → b || rules .further s ≡ true → damaged rules s ≡ true
-      go true d t = damaged-readers rules s d
-      go false d t = damaged-further rules s t
+      go : (test : Bool) → readersTest damageRules s ≡ test → test || rules .further s ≡ true → damaged rules s ≡ true
+      go true d e = damaged-readers rules s d
+      go false d e = damaged-further rules s e
 
 -- The indicators are right, since the damage test counts the readers.
 pub counted-of : (s : State) → damaged rules s ≡ false → Counted (readers (s .words)) (indicator (s .words)) (readerAt (s .words))
-counted-of s e i l = let q = or-false (miscounted s 0) (miscounted s 1) (undamaged-further rules s e) in go i l (q .0) (q .1)
+counted-of s e i l = let parts = or-false (miscounted s 0) (miscounted s 1) (undamaged-further rules s e) in go i l (parts .0) (parts .1)
   where
     go : (i : ℕ) → i < 2 → miscounted s 0 ≡ false → miscounted s 1 ≡ false → indicator (s .words) i ≡ countBelow (λ r. addedTo i (reader s r)) (readers (s .words))
-    go zero l a b = eqb-true _ _ (not-false _ a)
-    go (suc zero) l a b = eqb-true _ _ (not-false _ b)
-    go (suc (suc i)) l a b = absurd (omega arith)
+    go zero l zero-right one-right = eqb-true _ _ (not-false _ zero-right)
+    go (suc zero) l zero-right one-right = eqb-true _ _ (not-false _ one-right)
+    go (suc (suc i)) l zero-right one-right = absurd (omega arith)
 
 -- So an indicator is at most the number of readers, and that of a reader at 4 or 5 is not 0.
 pub indicator-low : (s : State) → damaged rules s ≡ false → (i : ℕ) → i < 2 → indicator (s .words) i ≤ READERS-MAX
 indicator-low s e i l = omega (arith, counted-of s e i l, count-most (λ r. addedTo i (reader s r)) (readers (s .words)), no-damage s e .head .readers-high)
 
-pub indicator-some : (s : State) → damaged rules s ≡ false → (r : ℕ) → r < readers (s .words) → 4 ≤ reader s r .place → 1 ≤ indicator (s .words) (reader s r .first % 2)
+pub indicator-some : (s : State) → damaged rules s ≡ false → (r : ℕ) → r < readers (s .words) → PLACE-OPEN ≤ reader s r .place → 1 ≤ indicator (s .words) (reader s r .first % 2)
 indicator-some s e r named turn = go (indicator (s .words) (reader s r .first % 2)) refl
   where
     here : addedTo (reader s r .first % 2) (reader s r) ≡ true
     here = rw (le-leb 4 (reader s r .place) turn) (eq-eqb (reader s r .first % 2) (reader s r .first % 2) refl)
 
     go : (n : ℕ) → indicator (s .words) (reader s r .first % 2) ≡ n → 1 ≤ n
-    go zero d = clash (sym here ∙ count-zero (λ q. addedTo (reader s r .first % 2) (reader s q)) (readers (s .words)) r (sym (counted-of s e (reader s r .first % 2) (omega arith)) ∙ d) named)
+    go zero d = clash (sym here ∙ count-zero (λ r′. addedTo (reader s r .first % 2) (reader s r′)) (readers (s .words)) r (sym (counted-of s e (reader s r .first % 2) (omega arith)) ∙ d) named)
     go (suc n) d = omega arith
 
 -- What the pass over the readers finds at a reader, by its place.
 pub record InSection (ss : ℕ) (x : Reader) : Type 0 where
   pub fits : anyTrue (readerRows ss x) ≡ false
-  pub arrived : 4 ≤ x .place
+  pub arrived : PLACE-OPEN ≤ x .place
 
 module _ (ss : ℕ) (x : Reader) where
-  pub picked-right : x .place ≡ 5 → x .picked < ss → InSection ss x
+  pub picked-right : x .place ≡ PLACE-PICKED → x .picked < ss → InSection ss x
   picked-right e l = record { fits = picked-rows ss x e ∙ lt-leb ss (x .picked) l; arrived = omega arith }
 
-  pub picked-wrong : x .place ≡ 5 → ss ≤ x .picked → anyTrue (readerRows ss x) ≡ true
+  pub picked-wrong : x .place ≡ PLACE-PICKED → ss ≤ x .picked → anyTrue (readerRows ss x) ≡ true
   picked-wrong e l = picked-rows ss x e ∙ le-leb ss (x .picked) l
 
-  pub not-picked : x .place ≡ 4 → InSection ss x
+  pub not-picked : x .place ≡ PLACE-OPEN → InSection ss x
   not-picked e = record { fits = rw e refl; arrived = omega arith }
 
-  pub outside-fits : x .place < 2 → anyTrue (readerRows ss x) ≡ false
+  pub outside-fits : x .place < PLACE-PUBLISHED → anyTrue (readerRows ss x) ≡ false
   outside-fits l = go (x .place) refl l
     where
-      go : (n : ℕ) → x .place ≡ n → n < 2 → anyTrue (readerRows ss x) ≡ false
-      go zero e h = rw e refl
-      go (suc zero) e h = rw e refl
-      go (suc (suc n)) e h = absurd (omega arith)
+      go : (pl : ℕ) → x .place ≡ pl → pl < 2 → anyTrue (readerRows ss x) ≡ false
+      go zero e below = rw e refl
+      go (suc zero) e below = rw e refl
+      go (suc (suc pl)) e below = absurd (omega arith)
 
   -- 2 and 3 are the new store's.
-  pub no-reader-place : x .place ≢ 5 → 2 ≤ x .place → x .place ≢ 4 → anyTrue (readerRows ss x) ≡ true
+  pub no-reader-place : x .place ≢ PLACE-PICKED → PLACE-PUBLISHED ≤ x .place → x .place ≢ PLACE-OPEN → anyTrue (readerRows ss x) ≡ true
   no-reader-place five low four = go (x .place) refl low
     where
-      go : (n : ℕ) → x .place ≡ n → 2 ≤ n → anyTrue (readerRows ss x) ≡ true
-      go zero e h = absurd (omega arith)
-      go (suc zero) e h = absurd (omega arith)
-      go (suc (suc zero)) e h = rw e refl
-      go (suc (suc (suc zero))) e h = rw e refl
-      go (suc (suc (suc (suc zero)))) e h = absurd (four e)
-      go (suc (suc (suc (suc (suc zero))))) e h = absurd (five e)
-      go (suc (suc (suc (suc (suc (suc n)))))) e h = rw (lt-ltb 5 (x .place) (omega arith)) refl
+      go : (pl : ℕ) → x .place ≡ pl → 2 ≤ pl → anyTrue (readerRows ss x) ≡ true
+      go zero e below = absurd (omega arith)
+      go (suc zero) e below = absurd (omega arith)
+      go (suc (suc zero)) e below = rw e refl
+      go (suc (suc (suc zero))) e below = rw e refl
+      go (suc (suc (suc (suc zero)))) e below = absurd (four e)
+      go (suc (suc (suc (suc (suc zero))))) e below = absurd (five e)
+      go (suc (suc (suc (suc (suc (suc pl)))))) e below = rw (lt-ltb 5 (x .place) (omega arith)) refl
 
 -- A reader one place on, by its place.
-module _ (v cur : ℕ) (x : Reader) where
-  pub onward-loads : x .place ≡ 0 → (x place≔ 1 first≔ v) ≡ onward v cur x
+module _ (ver cur : ℕ) (x : Reader) where
+  pub onward-loads : x .place ≡ PLACE-OUT → (x place≔ PLACE-LOADED first≔ ver) ≡ onward ver cur x
   unfolding onward
   onward-loads e = rw e refl
 
-  pub onward-arrives : x .place ≡ 1 → (x place≔ 4) ≡ onward v cur x
+  pub onward-arrives : x .place ≡ PLACE-LOADED → (x place≔ PLACE-OPEN) ≡ onward ver cur x
   unfolding onward
   onward-arrives e = rw e refl
 
-  pub onward-picks : x .place ≢ 0 → x .place ≢ 1 → (x place≔ 5 picked≔ cur) ≡ onward v cur x
+  pub onward-picks : x .place ≢ PLACE-OUT → x .place ≢ PLACE-LOADED → (x place≔ PLACE-PICKED picked≔ cur) ≡ onward ver cur x
   unfolding onward
-  onward-picks a b = rw (ne-eqb (x .place) 0 a, ne-eqb (x .place) 1 b) refl
+  onward-picks not-0 not-1 = rw (ne-eqb (x .place) 0 not-0, ne-eqb (x .place) 1 not-1) refl
 
 module _ (s : State) (clean : damaged rules s ≡ false) where
   -- ENTER to 4 counts the reader, and to 1 and 5 leaves the indicators.
-  pub arrive-is : (v : List ℕ) (r i count : ℕ) (x y : Reader) → r < readers (s .words) → x ≡ reader s r → x .place ≡ 1 → y ≡ onward (version (s .words)) (current (s .words)) x
-      → i ≡ x .first % 2 → count ≡ indicator (s .words) i → v ≡ withIndicator (withReader (s .words) r y) i (count + 1)
-      → outcome (At (y .place)) (state v (s .entries)) ≡ step rules s (Enter r)
-  arrive-is v r i count x y named is turn moved index counted put =
-      let t : reader s r .place ≡ 1 = rw is at turn in
-      rw (put, counted, index, moved, is) (words t ∙ enter-accepted fixed s clean r x named is (omega (arith, turn)))
+  pub arrive-is : (w′ : List ℕ) (r i count : ℕ) (x x′ : Reader) → r < readers (s .words) → x ≡ reader s r → x .place ≡ PLACE-LOADED → x′ ≡ onward (version (s .words)) (current (s .words)) x
+      → i ≡ x .first % 2 → count ≡ indicator (s .words) i → w′ ≡ withIndicator (withReader (s .words) r x′) i (count + 1)
+      → outcome (At (x′ .place)) (state w′ (s .entries)) ≡ step rules s (Enter r)
+  arrive-is w′ r i count x x′ named is turn moved index counted put =
+      let at1 : reader s r .place ≡ PLACE-LOADED = rw is at turn in
+      rw (put, counted, index, moved, is) (words at1 ∙ enter-accepted fixed s clean r x named is (omega (arith, turn)))
     where
-      words : reader s r .place ≡ 1
+      words : reader s r .place ≡ PLACE-LOADED
           → outcome (At (entered s r .place)) (state (withIndicator (withReader (s .words) r (entered s r)) (reader s r .first % 2) (indicator (s .words) (reader s r .first % 2) + 1)) (s .entries)) ≡ rules .act s (Enter r)
-      words t = ap (λ (b : Bool). outcome (At (entered s r .place)) (state (pick b (withIndicator (withReader (s .words) r (entered s r)) (reader s r .first % 2) (indicator (s .words) (reader s r .first % 2) + 1)) (withReader (s .words) r (entered s r))) (s .entries))) (sym (eq-eqb (reader s r .place) 1 t))
+      words at1 = ap (λ (test : Bool). outcome (At (entered s r .place)) (state (pick test (withIndicator (withReader (s .words) r (entered s r)) (reader s r .first % 2) (indicator (s .words) (reader s r .first % 2) + 1)) (withReader (s .words) r (entered s r))) (s .entries))) (sym (eq-eqb (reader s r .place) 1 at1))
 
-  pub enter-is : (v : List ℕ) (r : ℕ) (x y : Reader) → r < readers (s .words) → x ≡ reader s r → x .place < 5 → x .place ≢ 1 → y ≡ onward (version (s .words)) (current (s .words)) x → v ≡ withReader (s .words) r y
-      → outcome (At (y .place)) (state v (s .entries)) ≡ step rules s (Enter r)
-  enter-is v r x y named is turn ne moved put =
+  pub enter-is : (w′ : List ℕ) (r : ℕ) (x x′ : Reader) → r < readers (s .words) → x ≡ reader s r → x .place < PLACE-PICKED → x .place ≢ PLACE-LOADED → x′ ≡ onward (version (s .words)) (current (s .words)) x → w′ ≡ withReader (s .words) r x′
+      → outcome (At (x′ .place)) (state w′ (s .entries)) ≡ step rules s (Enter r)
+  enter-is w′ r x x′ named is turn ne moved put =
       rw (put, moved, is) (words (rw is at ne) ∙ enter-accepted fixed s clean r x named is turn)
     where
-      words : reader s r .place ≢ 1 → outcome (At (entered s r .place)) (state (withReader (s .words) r (entered s r)) (s .entries)) ≡ rules .act s (Enter r)
-      words t = ap (λ (b : Bool). outcome (At (entered s r .place)) (state (pick b (withIndicator (withReader (s .words) r (entered s r)) (reader s r .first % 2) (indicator (s .words) (reader s r .first % 2) + 1)) (withReader (s .words) r (entered s r))) (s .entries))) (sym (ne-eqb (reader s r .place) 1 t))
+      words : reader s r .place ≢ PLACE-LOADED → outcome (At (entered s r .place)) (state (withReader (s .words) r (entered s r)) (s .entries)) ≡ rules .act s (Enter r)
+      words at1 = ap (λ (test : Bool). outcome (At (entered s r .place)) (state (pick test (withIndicator (withReader (s .words) r (entered s r)) (reader s r .first % 2) (indicator (s .words) (reader s r .first % 2) + 1)) (withReader (s .words) r (entered s r))) (s .entries))) (sym (ne-eqb (reader s r .place) 1 at1))
 
-  pub leave-is : (v : List ℕ) (r i count : ℕ) (x : Reader) → r < readers (s .words) → x ≡ reader s r → 4 ≤ x .place → i ≡ x .first % 2 → count ≡ indicator (s .words) i
-      → v ≡ withIndicator (withReader (s .words) r (leaving x)) i (count - 1) → outcome Left (state v (s .entries)) ≡ step rules s (Leave r)
-  leave-is v r i count x named is turn index counted put =
+  pub leave-is : (w′ : List ℕ) (r i count : ℕ) (x : Reader) → r < readers (s .words) → x ≡ reader s r → PLACE-OPEN ≤ x .place → i ≡ x .first % 2 → count ≡ indicator (s .words) i
+      → w′ ≡ withIndicator (withReader (s .words) r (leaving x)) i (count - 1) → outcome Left (state w′ (s .entries)) ≡ step rules s (Leave r)
+  leave-is w′ r i count x named is turn index counted put =
       rw (put, counted, index, is) (leave-accepted fixed s clean r x named is turn)
 
 -- WALK's two places.
-pub walks-at : (n : ℕ) → (n ≡ 35) ⊎ (n ≡ 37) → (eqb n 35 || eqb n 37) ≡ true
-walks-at n (inl e) = rw e refl
-walks-at n (inr e) = rw e refl
+pub walks-at : (pl : ℕ) → (pl ≡ PLACE-SYNCHRONISING) ⊎ (pl ≡ PLACE-RAISED) → (eqb pl PLACE-SYNCHRONISING || eqb pl PLACE-RAISED) ≡ true
+walks-at pl (inl e) = rw e refl
+walks-at pl (inr e) = rw e refl
 
-pub walks-not : (n : ℕ) → ((n ≡ 35) ⊎ (n ≡ 37) → ⊥) → (eqb n 35 || eqb n 37) ≡ false
-walks-not n f = rw (ne-eqb n 35 (λ e. f (inl e)), ne-eqb n 37 (λ e. f (inr e))) refl
+pub walks-not : (pl : ℕ) → ((pl ≡ PLACE-SYNCHRONISING) ⊎ (pl ≡ PLACE-RAISED) → ⊥) → (eqb pl PLACE-SYNCHRONISING || eqb pl PLACE-RAISED) ≡ false
+walks-not pl f = rw (ne-eqb pl 35 (λ e. f (inl e)), ne-eqb pl 37 (λ e. f (inr e))) refl
 
 -- There are two indicators.
 pub watched-low : (y : Publisher) → watched y < 2
-watched-low y = pick-split (λ (i : ℕ). i < 2) (eqb (y .place) 35) (λ _. omega arith) (λ _. omega arith)
+watched-low y = pick-split (λ (i : ℕ). i < 2) (eqb (y .place) PLACE-SYNCHRONISING) (λ _. omega arith) (λ _. omega arith)
 
--- What a look gives; one that is made leaves the walk m.
+-- What a look gives; one that is made leaves the walk moved.
 module _ (count : ℕ) (y : Publisher) (b : ℕ) where
   pub look-spent : b ≡ 0 → record { walk = y .walk; reply = Spent } ≡ lookAt count y b
   unfolding lookAt
   look-spent e = rw e refl
 
-  pub look-waits : (m : WalkRecord) → m ≡ withLook (y .walk) 0 1 → b ≢ 0 → count ≢ 0 → record { walk = m; reply = Waiting (watched y) } ≡ lookAt count y b
+  pub look-waits : (moved : WalkRecord) → moved ≡ withLook (y .walk) 0 1 → b ≢ 0 → count ≢ 0 → record { walk = moved; reply = Waiting (watched y) } ≡ lookAt count y b
   unfolding lookAt
-  look-waits m is e f = rw (is, add-zero (y .walk .next), ne-eqb b 0 e, ne-eqb count 0 f) refl
+  look-waits moved is e f = rw (is, add-zero (y .walk .next), ne-eqb b 0 e, ne-eqb count 0 f) refl
 
-  pub look-quiet : (m : WalkRecord) → m ≡ withLook (y .walk) 0 0 → b ≢ 0 → count ≡ 0 → y .place ≡ 35 → record { walk = m; reply = Quiet } ≡ lookAt count y b
+  pub look-quiet : (moved : WalkRecord) → moved ≡ withLook (y .walk) 0 0 → b ≢ 0 → count ≡ 0 → y .place ≡ PLACE-SYNCHRONISING → record { walk = moved; reply = Quiet } ≡ lookAt count y b
   unfolding lookAt
-  look-quiet m is e f t = rw (is, add-zero (y .walk .next), add-zero (y .walk .waits), ne-eqb b 0 e, eq-eqb count 0 f, eq-eqb (y .place) 35 t) refl
+  look-quiet moved is e f turn = rw (is, add-zero (y .walk .next), add-zero (y .walk .waits), ne-eqb b 0 e, eq-eqb count 0 f, eq-eqb (y .place) 35 turn) refl
 
-  pub look-returned : (m : WalkRecord) → m ≡ withLook (y .walk) 0 0 → b ≢ 0 → count ≡ 0 → y .place ≢ 35 → record { walk = m; reply = Returned (m .looks) (m .waits) } ≡ lookAt count y b
+  pub look-returned : (moved : WalkRecord) → moved ≡ withLook (y .walk) 0 0 → b ≢ 0 → count ≡ 0 → y .place ≢ PLACE-SYNCHRONISING → record { walk = moved; reply = Returned (moved .looks) (moved .waits) } ≡ lookAt count y b
   unfolding lookAt
-  look-returned m is e f t = rw (is, add-zero (y .walk .next), add-zero (y .walk .waits), ne-eqb b 0 e, eq-eqb count 0 f, ne-eqb (y .place) 35 t) refl
+  look-returned moved is e f turn = rw (is, add-zero (y .walk .next), add-zero (y .walk .waits), ne-eqb b 0 e, eq-eqb count 0 f, ne-eqb (y .place) 35 turn) refl

@@ -10,6 +10,7 @@ use Rattle.base.specs.Base.{pick, upd}
 use Rattle.base.specs.Rows.{countBelow}
 use Rattle.base.specs.RowLaws.{and-false, negated, neither, pick-split, same, count-zero, count-upd}
 use Rattle.calls.specs.declared.WalkReply.the-variants.{Quiet, Waiting, Spent, Returned}
+use Rattle.calls.specs.Numbers.{PLACE-LOADED-AGAIN, PLACE-OPEN, PLACE-SYNCHRONISING, PLACE-RAISED, PLACE-RETURNED}
 use Rattle.layout.specs.declared.Reader.{Reader}
 use Rattle.layout.specs.declared.Publisher.{Publisher}
 use Rattle.layout.specs.declared.Progress.{Progress}
@@ -21,92 +22,92 @@ use Rattle.two_phase_law.specs.Steps.{parity, addedTo, miscounted, watch
 
 -- Each indicator is the number of readers that added to it.
 abbrev pub Counted : ℕ → (ℕ → ℕ) → (ℕ → Reader) → Type 0
-Counted n ind R = (i : ℕ) → i < 2 → ind i ≡ countBelow (λ r. addedTo i (R r)) n
+Counted n ind X = (i : ℕ) → i < 2 → ind i ≡ countBelow (λ r. addedTo i (X r)) n
 
 pub counted-to : (s : State) → Counted (readers (s .words)) (indicator (s .words)) (readerAt (s .words)) → miscounted s 0 || miscounted s 1 ≡ false
-counted-to s c = neither (miscounted s 0) (miscounted s 1) (negated _ (eq-eqb _ _ (c 0 (omega arith)))) (negated _ (eq-eqb _ _ (c 1 (omega arith))))
+counted-to s counted = neither (miscounted s 0) (miscounted s 1) (negated _ (eq-eqb _ _ (counted 0 (omega arith)))) (negated _ (eq-eqb _ _ (counted 1 (omega arith))))
 
 -- No reader at 4 or 5 added to an indicator that is zero.
-pub none-added : (n : ℕ) (ind : ℕ → ℕ) (R : ℕ → Reader) → Counted n ind R → (i : ℕ) → i < 2 → ind i ≡ 0 → (r : ℕ) → r < n → 4 ≤ R r .place → parity (R r .first) ≢ i
-none-added n ind R c i i2 z r lt l = eqb-false (parity (R r .first)) i
-    (and-false (leb 4 (R r .place)) (eqb (parity (R r .first)) i) (count-zero (λ r. addedTo i (R r)) n r (sym (c i i2) ∙ z) lt) (le-leb 4 (R r .place) l))
+pub none-added : (n : ℕ) (ind : ℕ → ℕ) (X : ℕ → Reader) → Counted n ind X → (i : ℕ) → i < 2 → ind i ≡ 0 → (r : ℕ) → r < n → PLACE-OPEN ≤ X r .place → parity (X r .first) ≢ i
+none-added n ind X counted i i2 e r lt l = eqb-false (parity (X r .first)) i
+    (and-false (leb PLACE-OPEN (X r .place)) (eqb (parity (X r .first)) i) (count-zero (λ r. addedTo i (X r)) n r (sym (counted i i2) ∙ e) lt) (le-leb 4 (X r .place) l))
 
 -- One reader changes: the counts follow.
-module _ (n : ℕ) (ind : ℕ → ℕ) (R : ℕ → Reader) (c : Counted n ind R) (r : ℕ) (rn : r < n) (x : Reader) where
-  changed : (i : ℕ) → countBelow (λ j. addedTo i (upd R r x j)) n + pick (addedTo i (R r)) 1 0 ≡ countBelow (λ j. addedTo i (R j)) n + pick (addedTo i x) 1 0
-  changed i = rw (same r) at (count-upd (λ j. addedTo i (R j)) (λ j. addedTo i (upd R r x j)) n r rn (λ j e. rw e refl))
+module _ (n : ℕ) (ind : ℕ → ℕ) (X : ℕ → Reader) (counted : Counted n ind X) (r : ℕ) (rn : r < n) (x : Reader) where
+  changed : (i : ℕ) → countBelow (λ j. addedTo i (upd X r x j)) n + pick (addedTo i (X r)) 1 0 ≡ countBelow (λ j. addedTo i (X j)) n + pick (addedTo i x) 1 0
+  changed i = rw (same r) at (count-upd (λ j. addedTo i (X j)) (λ j. addedTo i (upd X r x j)) n r rn (λ j e. rw e refl))
 
   -- It is out before and after, or inside before and after with the same version.
-  pub stays-counted : ((i : ℕ) → addedTo i x ≡ addedTo i (R r)) → Counted n ind (upd R r x)
-  stays-counted e i i2 = let q = changed i in let a = e i in let d = c i i2 in c i i2 ∙ omega (arith, rw a at q)
+  pub stays-counted : ((i : ℕ) → addedTo i x ≡ addedTo i (X r)) → Counted n ind (upd X r x)
+  stays-counted e i i2 = let moved-so = changed i in let same-so = e i in let was = counted i i2 in counted i i2 ∙ omega (arith, rw same-so at moved-so)
 
   -- It arrives, or it leaves.
-  pub arrives-counted : (ind′ : ℕ → ℕ) → R r .place ≤ 3 → 4 ≤ x .place → ((i : ℕ) → i < 2 → ind′ i ≡ pick (eqb (parity (x .first)) i) (ind i + 1) (ind i)) → Counted n ind′ (upd R r x)
+  pub arrives-counted : (ind′ : ℕ → ℕ) → X r .place ≤ PLACE-LOADED-AGAIN → PLACE-OPEN ≤ x .place → ((i : ℕ) → i < 2 → ind′ i ≡ pick (eqb (parity (x .first)) i) (ind i + 1) (ind i)) → Counted n ind′ (upd X r x)
   arrives-counted ind′ out inside e i i2 = e i i2 ∙ go (eqb (parity (x .first)) i) refl
     where
-      go : (b : Bool) → eqb (parity (x .first)) i ≡ b → pick b (ind i + 1) (ind i) ≡ countBelow (λ j. addedTo i (upd R r x j)) n
-      go true d = let q = rw (lt-leb 4 (R r .place) (omega arith), le-leb 4 (x .place) inside, d) at (changed i) in omega (arith, c i i2)
-      go false d = let q = rw (lt-leb 4 (R r .place) (omega arith), le-leb 4 (x .place) inside, d) at (changed i) in omega (arith, c i i2)
+      go : (test : Bool) → eqb (parity (x .first)) i ≡ test → pick test (ind i + 1) (ind i) ≡ countBelow (λ j. addedTo i (upd X r x j)) n
+      go true d = let moved-so = rw (lt-leb 4 (X r .place) (omega arith), le-leb 4 (x .place) inside, d) at (changed i) in omega (arith, counted i i2)
+      go false d = let moved-so = rw (lt-leb 4 (X r .place) (omega arith), le-leb 4 (x .place) inside, d) at (changed i) in omega (arith, counted i i2)
 
-  pub leaves-counted : (ind′ : ℕ → ℕ) → 4 ≤ R r .place → x .place ≤ 3 → ((i : ℕ) → i < 2 → ind′ i ≡ pick (eqb (parity (R r .first)) i) (ind i - 1) (ind i)) → Counted n ind′ (upd R r x)
-  leaves-counted ind′ inside out e i i2 = e i i2 ∙ go (eqb (parity (R r .first)) i) refl
+  pub leaves-counted : (ind′ : ℕ → ℕ) → PLACE-OPEN ≤ X r .place → x .place ≤ PLACE-LOADED-AGAIN → ((i : ℕ) → i < 2 → ind′ i ≡ pick (eqb (parity (X r .first)) i) (ind i - 1) (ind i)) → Counted n ind′ (upd X r x)
+  leaves-counted ind′ inside out e i i2 = e i i2 ∙ go (eqb (parity (X r .first)) i) refl
     where
-      go : (b : Bool) → eqb (parity (R r .first)) i ≡ b → pick b (ind i - 1) (ind i) ≡ countBelow (λ j. addedTo i (upd R r x j)) n
-      go true d = let q = rw (le-leb 4 (R r .place) inside, lt-leb 4 (x .place) (omega arith), d) at (changed i) in omega (arith, c i i2)
-      go false d = let q = rw (le-leb 4 (R r .place) inside, lt-leb 4 (x .place) (omega arith), d) at (changed i) in omega (arith, c i i2)
+      go : (test : Bool) → eqb (parity (X r .first)) i ≡ test → pick test (ind i - 1) (ind i) ≡ countBelow (λ j. addedTo i (upd X r x j)) n
+      go true d = let moved-so = rw (le-leb 4 (X r .place) inside, lt-leb 4 (x .place) (omega arith), d) at (changed i) in omega (arith, counted i i2)
+      go false d = let moved-so = rw (le-leb 4 (X r .place) inside, lt-leb 4 (x .place) (omega arith), d) at (changed i) in omega (arith, counted i i2)
 
 -- How many of a walk's two looks have passed at a place.
 abbrev pub passedAt : ℕ → ℕ
-passedAt place = pick (eqb place 35) 0 (pick (eqb place 38) 2 1)
+passedAt place = pick (eqb place PLACE-SYNCHRONISING) 0 (pick (eqb place PLACE-RETURNED) 2 1)
 
 -- What one look gives.
-pub record LookFacts (count : ℕ) (y : Publisher) (b : ℕ) (k : Progress) : Type 0 where
-  pub mark-same : k .walk .mark ≡ y .walk .mark
-  pub next-same : k .walk .next ≡ y .walk .next
+pub record LookFacts (count : ℕ) (y : Publisher) (b : ℕ) (progress : Progress) : Type 0 where
+  pub mark-same : progress .walk .mark ≡ y .walk .mark
+  pub next-same : progress .walk .next ≡ y .walk .next
   -- each look passed or waited
-  pub counted : k .walk .looks + passedAt (y .place) + y .walk .waits ≡ y .walk .looks + passedAt (placeAfter (y .place) (k .reply)) + k .walk .waits
-  pub waits-are : k .walk .waits ≡ waitsAfter (y .walk .waits) (k .reply)
-  pub quiet-zero : y .place ≡ 35 → placeAfter (y .place) (k .reply) ≢ 35 → count ≡ 0
-  pub returned-zero : y .place ≡ 37 → placeAfter (y .place) (k .reply) ≢ 37 → count ≡ 0
+  pub counted : progress .walk .looks + passedAt (y .place) + y .walk .waits ≡ y .walk .looks + passedAt (placeAfter (y .place) (progress .reply)) + progress .walk .waits
+  pub waits-are : progress .walk .waits ≡ waitsAfter (y .walk .waits) (progress .reply)
+  pub quiet-zero : y .place ≡ PLACE-SYNCHRONISING → placeAfter (y .place) (progress .reply) ≢ PLACE-SYNCHRONISING → count ≡ 0
+  pub returned-zero : y .place ≡ PLACE-RAISED → placeAfter (y .place) (progress .reply) ≢ PLACE-RAISED → count ≡ 0
   -- quiet is said at 35 only; waiting names the indicator looked at, which is not zero; spent exactly if b = 0
-  pub quiets : k .reply ≡ Quiet → y .place ≡ 35
-  pub waiting-is : (w : ℕ) → k .reply ≡ Waiting w → (w ≡ watched y) × (count ≢ 0)
-  pub spent-only : k .reply ≡ Spent → b ≡ 0
-  pub spent-if : b ≡ 0 → k .reply ≡ Spent
-  pub returns : (l w : ℕ) → k .reply ≡ Returned l w → (y .place ≢ 35) × (l ≡ k .walk .looks) × (w ≡ k .walk .waits)
-  pub high : placeAfter (y .place) (k .reply) ≤ 38
+  pub quiets : progress .reply ≡ Quiet → y .place ≡ PLACE-SYNCHRONISING
+  pub waiting-is : (who : ℕ) → progress .reply ≡ Waiting who → (who ≡ watched y) × (count ≢ 0)
+  pub spent-only : progress .reply ≡ Spent → b ≡ 0
+  pub spent-if : b ≡ 0 → progress .reply ≡ Spent
+  pub returns : (looks waits : ℕ) → progress .reply ≡ Returned looks waits → (y .place ≢ PLACE-SYNCHRONISING) × (looks ≡ progress .walk .looks) × (waits ≡ progress .walk .waits)
+  pub high : placeAfter (y .place) (progress .reply) ≤ PLACE-RETURNED
 
 -- A look keeps the mark.
 pub look-mark : (count : ℕ) (y : Publisher) (b : ℕ) → lookAt count y b .walk .mark ≡ y .walk .mark
 unfolding lookAt
-look-mark count y b = pick-split (λ (k : Progress). k .walk .mark ≡ y .walk .mark) (eqb b 0) (λ _. refl)
-    (λ _. pick-split (λ (k : Progress). k .walk .mark ≡ y .walk .mark) (eqb count 0) (λ _. refl) (λ _. refl))
+look-mark count y b = pick-split (λ (progress : Progress). progress .walk .mark ≡ y .walk .mark) (eqb b 0) (λ _. refl)
+    (λ _. pick-split (λ (progress : Progress). progress .walk .mark ≡ y .walk .mark) (eqb count 0) (λ _. refl) (λ _. refl))
 
-pub walk-places : (place : ℕ) → (eqb place 35 || eqb place 37) ≡ true → (place ≡ 35) ⊎ (place ≡ 37)
+pub walk-places : (place : ℕ) → (eqb place PLACE-SYNCHRONISING || eqb place PLACE-RAISED) ≡ true → (place ≡ PLACE-SYNCHRONISING) ⊎ (place ≡ PLACE-RAISED)
 walk-places place e = go (eqb place 35) refl
   where
-    go : (b : Bool) → eqb place 35 ≡ b → (place ≡ 35) ⊎ (place ≡ 37)
+    go : (test : Bool) → eqb place PLACE-SYNCHRONISING ≡ test → (place ≡ PLACE-SYNCHRONISING) ⊎ (place ≡ PLACE-RAISED)
     go true d = inl (eqb-true place 35 d)
     go false d = inr (eqb-true place 37 (rw d at e))
 
-pub turn-low : (place : ℕ) → (place ≡ 35) ⊎ (place ≡ 37) → 35 ≤ place
+pub turn-low : (place : ℕ) → (place ≡ PLACE-SYNCHRONISING) ⊎ (place ≡ PLACE-RAISED) → PLACE-SYNCHRONISING ≤ place
 turn-low place (inl e) = omega arith
 turn-low place (inr e) = omega arith
 
-pub turn-high : (place : ℕ) → (place ≡ 35) ⊎ (place ≡ 37) → place ≤ 37
+pub turn-high : (place : ℕ) → (place ≡ PLACE-SYNCHRONISING) ⊎ (place ≡ PLACE-RAISED) → place ≤ PLACE-RAISED
 turn-high place (inl e) = omega arith
 turn-high place (inr e) = omega arith
 
 -- A look that passes is quiet at 35 and a return at 37; one that waits and none at all leave the place.
 module _ (count : ℕ) (y : Publisher) (b : ℕ) where
-  passing : count ≡ 0 → b ≢ 0 → (y .place ≡ 35) ⊎ (y .place ≡ 37)
-      → LookFacts count y b (lookResult y (y .walk .looks + 1) (y .walk .waits) (pick (eqb (y .place) 35) Quiet (Returned (y .walk .looks + 1) (y .walk .waits))))
-  passing z s (inl e) = rw (eq-eqb (y .place) 35 e) (record { mark-same = refl; next-same = refl; counted = rw (eq-eqb (y .place) 35 e) (omega arith); waits-are = refl; quiet-zero = λ _ _. z; returned-zero = λ q. absurd (omega arith); quiets = λ _. e; waiting-is = λ w q. absurd (let d : _≡_ {A = ℕ} 0 1 = cc in omega arith); spent-only = λ q. absurd (let d : _≡_ {A = ℕ} 0 1 = cc in omega arith); spent-if = λ q. absurd (s q); returns = λ l w q. absurd (let d : _≡_ {A = ℕ} 0 1 = cc in omega arith); high = omega arith })
-  passing z s (inr e) = rw (ne-eqb (y .place) 35 (λ q. omega arith)) (record { mark-same = refl; next-same = refl; counted = rw e (omega arith); waits-are = refl; quiet-zero = λ q. absurd (omega arith); returned-zero = λ _ _. z; quiets = λ q. absurd (let d : _≡_ {A = ℕ} 0 1 = cc in omega arith); waiting-is = λ w q. absurd (let d : _≡_ {A = ℕ} 0 1 = cc in omega arith); spent-only = λ q. absurd (let d : _≡_ {A = ℕ} 0 1 = cc in omega arith); spent-if = λ q. absurd (s q); returns = λ l w q. (λ f. omega arith, (let c : y .walk .looks + 1 ≡ l = cc in sym c), (let d : y .walk .waits ≡ w = cc in sym d)); high = omega arith })
+  passing : count ≡ 0 → b ≢ 0 → (y .place ≡ PLACE-SYNCHRONISING) ⊎ (y .place ≡ PLACE-RAISED)
+      → LookFacts count y b (lookResult y (y .walk .looks + 1) (y .walk .waits) (pick (eqb (y .place) PLACE-SYNCHRONISING) Quiet (Returned (y .walk .looks + 1) (y .walk .waits))))
+  passing empty some-look (inl e) = rw (eq-eqb (y .place) 35 e) (record { mark-same = refl; next-same = refl; counted = rw (eq-eqb (y .place) 35 e) (omega arith); waits-are = refl; quiet-zero = λ _ _. empty; returned-zero = λ e′. absurd (omega arith); quiets = λ _. e; waiting-is = λ who e′. absurd (let d : _≡_ {A = ℕ} 0 1 = cc in omega arith); spent-only = λ e′. absurd (let d : _≡_ {A = ℕ} 0 1 = cc in omega arith); spent-if = λ e′. absurd (some-look e′); returns = λ looks waits e′. absurd (let d : _≡_ {A = ℕ} 0 1 = cc in omega arith); high = omega arith })
+  passing empty some-look (inr e) = rw (ne-eqb (y .place) 35 (λ e′. omega arith)) (record { mark-same = refl; next-same = refl; counted = rw e (omega arith); waits-are = refl; quiet-zero = λ e′. absurd (omega arith); returned-zero = λ _ _. empty; quiets = λ e′. absurd (let d : _≡_ {A = ℕ} 0 1 = cc in omega arith); waiting-is = λ who e′. absurd (let d : _≡_ {A = ℕ} 0 1 = cc in omega arith); spent-only = λ e′. absurd (let d : _≡_ {A = ℕ} 0 1 = cc in omega arith); spent-if = λ e′. absurd (some-look e′); returns = λ looks waits e′. (λ f. omega arith, (let is : y .walk .looks + 1 ≡ looks = cc in sym is), (let d : y .walk .waits ≡ waits = cc in sym d)); high = omega arith })
 
-  pub look-facts : (y .place ≡ 35) ⊎ (y .place ≡ 37) → LookFacts count y b (lookAt count y b)
+  pub look-facts : (y .place ≡ PLACE-SYNCHRONISING) ⊎ (y .place ≡ PLACE-RAISED) → LookFacts count y b (lookAt count y b)
   unfolding lookAt
   look-facts turn = pick-split (LookFacts count y b) (eqb b 0)
-      (λ s. record { mark-same = refl; next-same = refl; counted = refl; waits-are = refl; quiet-zero = λ e n. absurd (n e); returned-zero = λ e n. absurd (n e); quiets = λ q. absurd (let d : _≡_ {A = ℕ} 0 1 = cc in omega arith); waiting-is = λ w q. absurd (let d : _≡_ {A = ℕ} 0 1 = cc in omega arith); spent-only = λ _. eqb-true b 0 s; spent-if = λ _. refl; returns = λ l w q. absurd (let d : _≡_ {A = ℕ} 0 1 = cc in omega arith); high = omega (arith, turn-high (y .place) turn) })
-      (λ s. pick-split (LookFacts count y b) (eqb count 0) (λ z. passing (eqb-true count 0 z) (eqb-false b 0 s) turn)
-      (λ z. record { mark-same = refl; next-same = refl; counted = omega arith; waits-are = refl; quiet-zero = λ e n. absurd (n e); returned-zero = λ e n. absurd (n e); quiets = λ q. absurd (let d : _≡_ {A = ℕ} 0 1 = cc in omega arith); waiting-is = λ w q. ((let c : watched y ≡ w = cc in sym c), eqb-false count 0 z); spent-only = λ q. absurd (let d : _≡_ {A = ℕ} 0 1 = cc in omega arith); spent-if = λ q. absurd (eqb-false b 0 s q); returns = λ l w q. absurd (let d : _≡_ {A = ℕ} 0 1 = cc in omega arith); high = omega (arith, turn-high (y .place) turn) }))
+      (λ looked. record { mark-same = refl; next-same = refl; counted = refl; waits-are = refl; quiet-zero = λ e n. absurd (n e); returned-zero = λ e n. absurd (n e); quiets = λ e′. absurd (let d : _≡_ {A = ℕ} 0 1 = cc in omega arith); waiting-is = λ who e′. absurd (let d : _≡_ {A = ℕ} 0 1 = cc in omega arith); spent-only = λ _. eqb-true b 0 looked; spent-if = λ _. refl; returns = λ looks waits e′. absurd (let d : _≡_ {A = ℕ} 0 1 = cc in omega arith); high = omega (arith, turn-high (y .place) turn) })
+      (λ looked. pick-split (LookFacts count y b) (eqb count 0) (λ empty. passing (eqb-true count 0 empty) (eqb-false b 0 looked) turn)
+      (λ empty. record { mark-same = refl; next-same = refl; counted = omega arith; waits-are = refl; quiet-zero = λ e n. absurd (n e); returned-zero = λ e n. absurd (n e); quiets = λ e′. absurd (let d : _≡_ {A = ℕ} 0 1 = cc in omega arith); waiting-is = λ who e′. ((let is : watched y ≡ who = cc in sym is), eqb-false count 0 empty); spent-only = λ e′. absurd (let d : _≡_ {A = ℕ} 0 1 = cc in omega arith); spent-if = λ e′. absurd (eqb-false b 0 looked e′); returns = λ looks waits e′. absurd (let d : _≡_ {A = ℕ} 0 1 = cc in omega arith); high = omega (arith, turn-high (y .place) turn) }))

@@ -29,5 +29,5 @@ old-walk-zero = old-promises .walk-zero
 
 -- An accepted WALK says waiting, spent, quiet and returned of the look made.
 pub old-walk-facts : (s : State) (p b : ℕ) → accepted (step rules s (Walk p b) .reply) ≡ true
-    → let k = looksOf s (publisher s p) b in WalkFacts s p k (LookFacts (indicator (s .words) (watched (publisher s p))) (publisher s p) b k) (step rules s (Walk p b))
+    → let progress = looksOf s (publisher s p) b in WalkFacts s p progress (LookFacts (indicator (s .words) (watched (publisher s p))) (publisher s p) b progress) (step rules s (Walk p b))
 old-walk-facts s p b = walk-facts fixed s p b _ (λ no-damage lt turn. look-facts (indicator (s .words) (watched (publisher s p))) (publisher s p) b (walk-places (publisher s p .place) turn))

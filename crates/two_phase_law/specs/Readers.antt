@@ -10,6 +10,7 @@ use Rattle.base.specs.Base.{pick}
 use Rattle.base.specs.RowLaws.{clash}
 use Rattle.calls.specs.declared.Call.the-variants.{Enter, Leave}
 use Rattle.calls.specs.declared.Reply.the-variants.{At, Left}
+use Rattle.calls.specs.Numbers.{PLACE-OUT, PLACE-LOADED, PLACE-OPEN, PLACE-PICKED}
 use Rattle.calls.specs.Events.{accepted}
 use Rattle.layout.specs.declared.Reader.{Reader}
 use Rattle.layout.specs.Layout.{HEAD, readers, current, version, indicator, withReader, withIndicator}
@@ -29,26 +30,26 @@ use Rattle.two_phase_law.specs.Calls.{onward-loads, onward-arrives, onwa
 -- ENTER: 0 to 1 loads the version; 1 to 4 adds one to the indicator of its parity (0 or 1); 4 to 5 picks.
 pub record EnterFacts (s : State) (r : ℕ) (o : Outcome) : Type 0 where
   pub reply-is : o .reply ≡ At (reader (o .after) r .place)
-  pub from-0 : reader s r .place ≡ 0
-      → reader (o .after) r ≡ reader s r place≔ 1 first≔ version (s .words)
-  pub from-1 : reader s r .place ≡ 1
-      → reader (o .after) r ≡ reader s r place≔ 4
-  pub from-4 : reader s r .place ≡ 4
-      → reader (o .after) r ≡ reader s r place≔ 5 picked≔ current (s .words)
-  pub counts : (i : ℕ) → indicator (o .after .words) i ≡ pick (eqb (reader s r .place) 1 && eqb (reader s r .first % 2) i) (indicator (s .words) i + 1) (indicator (s .words) i)
+  pub from-0 : reader s r .place ≡ PLACE-OUT
+      → reader (o .after) r ≡ reader s r place≔ PLACE-LOADED first≔ version (s .words)
+  pub from-1 : reader s r .place ≡ PLACE-LOADED
+      → reader (o .after) r ≡ reader s r place≔ PLACE-OPEN
+  pub from-4 : reader s r .place ≡ PLACE-OPEN
+      → reader (o .after) r ≡ reader s r place≔ PLACE-PICKED picked≔ current (s .words)
+  pub counts : (i : ℕ) → indicator (o .after .words) i ≡ pick (eqb (reader s r .place) PLACE-LOADED && eqb (reader s r .first % 2) i) (indicator (s .words) i + 1) (indicator (s .words) i)
 
 -- LEAVE goes to 0 and takes one from the indicator that r added to.
 pub record LeaveFacts (s : State) (r : ℕ) (o : Outcome) : Type 0 where
   pub reply-is : o .reply ≡ Left
-  pub record-is : reader (o .after) r ≡ reader s r place≔ 0
+  pub record-is : reader (o .after) r ≡ reader s r place≔ PLACE-OUT
   pub counts : (i : ℕ) → indicator (o .after .words) i ≡ pick (eqb (reader s r .first % 2) i) (indicator (s .words) i - 1) (indicator (s .words) i)
 
 module _ (s : State) (no-damage : Undamaged damageRules s) (r : ℕ) where
   long : HEAD ≤ length (s .words)
   long = omega (arith, no-damage .head .long)
 
-  enter-counts : (i : ℕ) → indicator (enterWords s r) i ≡ pick (eqb (reader s r .place) 1 && eqb (reader s r .first % 2) i) (indicator (s .words) i + 1) (indicator (s .words) i)
-  enter-counts i = go (eqb (reader s r .place) 1)
+  enter-counts : (i : ℕ) → indicator (enterWords s r) i ≡ pick (eqb (reader s r .place) PLACE-LOADED && eqb (reader s r .first % 2) i) (indicator (s .words) i + 1) (indicator (s .words) i)
+  enter-counts i = go (eqb (reader s r .place) PLACE-LOADED)
     where
       go : (b : Bool) → indicator (pick b (withIndicator (withReader (s .words) r (entered s r)) (reader s r .first % 2) (indicator (s .words) (reader s r .first % 2) + 1)) (withReader (s .words) r (entered s r))) i
           ≡ pick (b && eqb (reader s r .first % 2) i) (indicator (s .words) i + 1) (indicator (s .words) i)
@@ -67,7 +68,7 @@ old-enter-facts s r = decided (λ (o : Outcome). accepted (o .reply) ≡ true �
       reply-is = ap (λ (x : Reader). At (x .place)) (sym is);
       from-0 = λ e. is ∙ sym (onward-loads _ (current (s .words)) (reader s r) e);
       from-1 = λ e. is ∙ sym (onward-arrives (version (s .words)) (current (s .words)) (reader s r) e);
-      from-4 = λ e. is ∙ sym (onward-picks (version (s .words)) _ (reader s r) (λ z. omega arith) (λ z. omega arith));
+      from-4 = λ e. is ∙ sym (onward-picks (version (s .words)) _ (reader s r) (λ eq. omega arith) (λ eq. omega arith));
       counts = enter-counts s no-damage r;
     })
     (λ ok. clash (sym ok))

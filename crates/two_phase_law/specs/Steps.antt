@@ -8,7 +8,7 @@ use Rattle.base.specs.Base.{pick}
 use Rattle.base.specs.Rows.{anyTrue, countBelow}
 use Rattle.calls.specs.declared.WalkReply.{WalkReply}
 use Rattle.calls.specs.declared.WalkReply.the-variants.{Waiting, Spent, Quiet, Returned}
-use Rattle.calls.specs.Numbers.{NOT-READING, KIND-OLD}
+use Rattle.calls.specs.Numbers.{NOT-READING, KIND-OLD, PLACE-OUT, PLACE-LOADED, PLACE-PUBLISHED, PLACE-LOADED-AGAIN, PLACE-OPEN, PLACE-PICKED, PLACE-SYNCHRONISING, PLACE-QUIET, PLACE-RAISED, PLACE-RETURNED}
 use Rattle.layout.specs.declared.Reader.{Reader}
 use Rattle.layout.specs.declared.Publisher.{Publisher}
 use Rattle.layout.specs.declared.Progress.{Progress}
@@ -29,7 +29,7 @@ versions = upTo LAST
 
 -- A place that the kind does not have (2 and 3 are the new store's); a picked slot too large.
 abbrev pub readerRows : ℕ → Reader → List Bool
-readerRows slots x = ltb 5 (x .place) ∷ eqb (x .place) 2 ∷ eqb (x .place) 3 ∷ wrongPick slots x ∷ []
+readerRows slots x = ltb PLACE-PICKED (x .place) ∷ eqb (x .place) PLACE-PUBLISHED ∷ eqb (x .place) PLACE-LOADED-AGAIN ∷ wrongPick slots x ∷ []
 
 abbrev pub damageRules : DamageRules
 damageRules = record {
@@ -37,7 +37,7 @@ damageRules = record {
   versions = versions;
   readerDamaged = λ readers slots x. anyTrue (readerRows slots x);
   -- a place that the kind does not have
-  publisherDamaged = λ readers slots y. ltb 38 (y .place) || anyTrue (publisherRows versions slots y);
+  publisherDamaged = λ readers slots y. ltb PLACE-RETURNED (y .place) || anyTrue (publisherRows versions slots y);
 }
 
 -- The indicator that a reader adds to is that of the parity (0 or 1) of its loaded version.
@@ -46,7 +46,7 @@ parity n = n % 2
 
 -- A reader at 4 or 5 that added to indicator i.
 abbrev pub addedTo : ℕ → Reader → Bool
-addedTo i x = leb 4 (x .place) && eqb (parity (x .first)) i
+addedTo i x = leb PLACE-OPEN (x .place) && eqb (parity (x .first)) i
 
 -- An indicator unlike the number of readers at 4 or 5 that added to it; n is how many readers there are.
 abbrev pub miscountedAt : List ℕ → ℕ → ℕ → Bool
@@ -58,13 +58,13 @@ miscounted s i = miscountedAt (s .words) (readers (s .words)) i
 -- ENTER r: 0 to 1 loads the version; 1 to 4 adds one to the indicator of its parity; 4 to 5 picks.
 unfoldable pub onward : ℕ → ℕ → Reader → Reader
 onward version current x =
-    pick (eqb (x .place) 0) (x place≔ 1 first≔ version)
-    (pick (eqb (x .place) 1) (x place≔ 4)
-    (x place≔ 5 picked≔ current))
+    pick (eqb (x .place) PLACE-OUT) (x place≔ PLACE-LOADED first≔ version)
+    (pick (eqb (x .place) PLACE-LOADED) (x place≔ PLACE-OPEN)
+    (x place≔ PLACE-PICKED picked≔ current))
 
 -- The place that follows: 1, 4, 5.
 abbrev pub placeOn : ℕ → ℕ
-placeOn place = pick (eqb place 0) 1 (pick (eqb place 1) 4 5)
+placeOn place = pick (eqb place PLACE-OUT) PLACE-LOADED (pick (eqb place PLACE-LOADED) PLACE-OPEN PLACE-PICKED)
 
 abbrev pub entered : State → ℕ → Reader
 entered s r = onward (version (s .words)) (current (s .words)) (reader s r)
@@ -73,11 +73,11 @@ abbrev pub enterWords : State → ℕ → List ℕ
 enterWords s r =
     let w = withReader (s .words) r (entered s r) in
     let i = parity (reader s r .first) in
-    pick (eqb (reader s r .place) 1) (withIndicator w i (indicator (s .words) i + 1)) w
+    pick (eqb (reader s r .place) PLACE-LOADED) (withIndicator w i (indicator (s .words) i + 1)) w
 
 -- LEAVE r goes to 0 and takes one from the indicator that r added to. The slot that was picked stays in its word, and counts no more.
 abbrev pub leaving : Reader → Reader
-leaving x = x place≔ 0
+leaving x = x place≔ PLACE-OUT
 
 abbrev pub leaveWords : State → ℕ → List ℕ
 leaveWords s r =
@@ -86,7 +86,7 @@ leaveWords s r =
 
 -- WALK p b, at most one look. At 35 at indicator (mark mod 2), at 37 at the other.
 abbrev pub watched : Publisher → ℕ
-watched y = pick (eqb (y .place) 35) (parity (y .walk .mark)) (1 - parity (y .walk .mark))
+watched y = pick (eqb (y .place) PLACE-SYNCHRONISING) (parity (y .walk .mark)) (1 - parity (y .walk .mark))
 
 abbrev pub lookResult : Publisher → ℕ → ℕ → WalkReply → Progress
 lookResult y looks waits a = record { walk = y .walk looks≔ looks waits≔ waits; reply = a }
@@ -97,7 +97,7 @@ unfoldable pub lookAt : ℕ → Publisher → ℕ → Progress
 lookAt count y b =
     pick (eqb b 0) (lookResult y (y .walk .looks) (y .walk .waits) Spent)
     (pick (eqb count 0)
-    (lookResult y (y .walk .looks + 1) (y .walk .waits) (pick (eqb (y .place) 35) Quiet (Returned (y .walk .looks + 1) (y .walk .waits))))
+    (lookResult y (y .walk .looks + 1) (y .walk .waits) (pick (eqb (y .place) PLACE-SYNCHRONISING) Quiet (Returned (y .walk .looks + 1) (y .walk .waits))))
     (lookResult y (y .walk .looks + 1) (y .walk .waits + 1) (Waiting (watched y))))
 
 abbrev pub looksOf : State → Publisher → ℕ → Progress
@@ -117,8 +117,8 @@ fixed = record {
   enterWords = enterWords;
   leaveWords = leaveWords;
   exclusive = true;
-  raisesAt = λ place. eqb place 36;
-  walksAt = λ place. eqb place 35 || eqb place 37;
+  raisesAt = λ place. eqb place PLACE-QUIET;
+  walksAt = λ place. eqb place PLACE-SYNCHRONISING || eqb place PLACE-RAISED;
   looks = λ s p b. looksOf s (publisher s p) b;
 }
 

@@ -3,6 +3,7 @@ use Prim.Native.Nat.{_+_}
 use mathlib.Core.Bool.{true, false, _||_}
 use lib.Dec.{eqb}
 use Rattle.base.specs.Base.{pick}
+use Rattle.calls.specs.Numbers.{PLACE-OUT, PLACE-LOADED, PLACE-OPEN, PLACE-PICKED}
 use Rattle.calls.specs.Model.{firstTable}
 use Rattle.calls.specs.Tally.{inPhase}
 use Rattle.calls.specs.Tally.Phase.{synchronising, quiet, raised}
@@ -18,10 +19,10 @@ traits = record {
     lacks = λ c. false;
     exclusive = true;
     raisesIn = inPhase quiet;
-    walksIn = λ x. inPhase synchronising x || inPhase raised x;
+    walksIn = λ phase. inPhase synchronising phase || inPhase raised phase;
   };
   passes = λ z. 2;
-  successor = λ v. v + 1;
-  onward = λ place. pick (eqb place 0) 1 (pick (eqb place 1) 4 5);
+  successor = λ ver. ver + 1;
+  onward = λ place. pick (eqb place PLACE-OUT) PLACE-LOADED (pick (eqb place PLACE-LOADED) PLACE-OPEN PLACE-PICKED);
   publishes = false;
 }
