@@ -8,7 +8,7 @@ use mathlib.Core.List.{List, [], _∷_, _++_}
 use lib.Seq.{getD-set-other}
 use Rattle.calls.specs.Numbers.{KIND-NEW, KIND-OLD}
 use Rattle.layout.specs.declared.Publisher.{Publisher}
-use Rattle.layout.specs.Layout.{READERS-AT, PUBLISHERS-AT, SLOTS-AT, CURRENT-AT, VERSION-AT, INDICATORS-AT, kind as kindWord}
+use Rattle.layout.specs.Layout.{READERS-AT, PUBLISHERS-AT, SLOTS-AT, CURRENT-AT, VERSION-AT, INDICATORS-AT, kindWord}
 use Rattle.layout.specs.Laws.{head-reader, head-publisher, fresh-head}
 use Rattle.statement.specs.Machine.{State}
 use Rattle.statement.specs.Examples.{Example, AllHold, all-hold-append}

@@ -15,7 +15,7 @@ use Rattle.calls.specs.Numbers.{PLACE-PUBLISHED}
 use Rattle.calls.specs.Events.{accepted}
 use Rattle.calls.specs.Tally.{tallyOf}
 use Rattle.calls.specs.Model.{firstTable}
-use Rattle.layout.specs.Layout.{WORDS, kind as kindWord, indicator}
+use Rattle.layout.specs.Layout.{WORDS, kindWord, indicator}
 use Rattle.statement.specs.Machine.{State, state, Given, Fresh, events, afterAll}
 use Rattle.statement.specs.Demand3.{Demand3}
 use Rattle.statement.specs.Frame.{Frame}

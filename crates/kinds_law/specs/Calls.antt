@@ -9,7 +9,7 @@ use borrow.Author.Tests.{ne-eqb}
 use Rattle.calls.specs.declared.Call.{Call}
 use Rattle.calls.specs.declared.Reply.the-variants.{Refused}
 use Rattle.calls.specs.Numbers.{KIND-NEW, KIND-OLD, DAMAGED}
-use Rattle.layout.specs.Layout.{WORDS, kind as kindWord}
+use Rattle.layout.specs.Layout.{WORDS, kindWord}
 use Rattle.statement.specs.Machine.{State, outcome, Given}
 use Rattle.publication_law.specs.Table.{step, making}
 use Rattle.publication_law.specs.TableLaws.{making-leaves}

@@ -7,7 +7,7 @@ use Rattle.base.specs.Base.{pick}
 use Rattle.calls.specs.declared.Call.{Call}
 use Rattle.calls.specs.declared.Reply.the-variants.{Refused}
 use Rattle.calls.specs.Numbers.{KIND-NEW, KIND-OLD, DAMAGED}
-use Rattle.layout.specs.Layout.{kind as kindWord}
+use Rattle.layout.specs.Layout.{kindWord}
 use Rattle.statement.specs.Machine.{State, Outcome, outcome, Given, Machine}
 use Rattle.publication_law.specs.Table.{Table, step, making}
 use Rattle.grace_version_law.specs.Steps as new-store

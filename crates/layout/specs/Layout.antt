@@ -57,8 +57,8 @@ FIRST-PUBLISHER = HEAD + READER-WORDS * READERS-MAX
 abbrev pub WORDS : ℕ
 WORDS = FIRST-PUBLISHER + PUBLISHER-WORDS * PUBLISHERS-MAX
 
-abbrev pub kind : List ℕ → ℕ
-kind w = getD w KIND-AT 0
+abbrev pub kindWord : List ℕ → ℕ
+kindWord w = getD w KIND-AT 0
 
 abbrev pub readers : List ℕ → ℕ
 readers w = getD w READERS-AT 0

@@ -1,4 +1,4 @@
--- A record with one number replaced: `x place≔ 1 first≔ n` is the reader x with place 1 and first n, and every other number as it was.
+-- A record with one number replaced: `x place≔ PLACE-LOADED first≔ version` is the reader x at place 1, with that version as its first and every other number as it was.
 -- A reader's place is set by place≔, a publisher's by atPlace.
 use Prim.Native.Nat.{ℕ}
 use Rattle.layout.specs.declared.Reader.{Reader}

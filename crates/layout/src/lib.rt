@@ -6,7 +6,7 @@ ghost use mathlib.Core.Path.{_≡_};
 ghost use Prim.Native.Nat.{_<_};
 ghost use lib.ListN.{length, replicate};
 ghost use Rattle.calls.specs.Numbers.{READERS-MAX, PUBLISHERS-MAX};
-ghost use Rattle.layout.specs.Layout.{WORDS, INDICATORS, kind, readers, publishers, slots, current, version, releases, indicator, withCurrent, withVersion, withReleases, withIndicator, readerAt, publisherAt, withReader, withPublisher, withReaders, blankReader, fresh};
+ghost use Rattle.layout.specs.Layout.{WORDS, INDICATORS, kindWord, readers, publishers, slots, current, version, releases, indicator, withCurrent, withVersion, withReleases, withIndicator, readerAt, publisherAt, withReader, withPublisher, withReaders, blankReader, fresh};
 use calls::PUBLISHERS_MAX;
 use calls::WalkReply;
 
@@ -91,7 +91,7 @@ pub struct Progress {
 
 pub fn kind_of(words: &[u64]) -> u64
     requires { ⌜ length (now words) ≡ WORDS ⌝ }
-    ensures { λ n. ⌜ n ≡ kind (now (words .entry)) ⌝ }
+    ensures { λ n. ⌜ n ≡ kindWord (now (words .entry)) ⌝ }
 {
     words[KIND_AT]
 }

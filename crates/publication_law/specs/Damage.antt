@@ -8,7 +8,7 @@ use Rattle.base.specs.Rows.{anyTrue, anyBelow, outside}
 use Rattle.calls.specs.Numbers.{READERS-MAX, PUBLISHERS-MAX, SLOTS-MIN, SLOTS-MAX, TABLE, PLACE-PICKED, PLACE-IDLE, PLACE-SYNCHRONISING}
 use Rattle.layout.specs.declared.Reader.{Reader}
 use Rattle.layout.specs.declared.Publisher.{Publisher}
-use Rattle.layout.specs.Layout.{WORDS, kind, readers, publishers, slots, current, version}
+use Rattle.layout.specs.Layout.{WORDS, kindWord, readers, publishers, slots, current, version}
 use Rattle.statement.specs.Machine.{State}
 use Rattle.publication_law.specs.Steps.{Versions, reader, publisher}
 
@@ -23,7 +23,7 @@ pub record DamageRules : Type 0 where
 abbrev pub headRows : DamageRules → State → List Bool
 headRows K s =
     not (eqb (length (s .words)) WORDS)
-    ∷ not (eqb (kind (s .words)) (K .number))
+    ∷ not (eqb (kindWord (s .words)) (K .number))
     ∷ outside 1 READERS-MAX (readers (s .words))
     ∷ outside 1 PUBLISHERS-MAX (publishers (s .words))
     ∷ outside SLOTS-MIN SLOTS-MAX (slots (s .words))

@@ -12,7 +12,7 @@ use Rattle.base.specs.Rows.{anyTrue, outside}
 use Rattle.base.specs.RowLaws.{and-false, and-not, or-false, or-left, or-right, neither, negated, within, not-outside, all-false, none-true, none-below, no-below}
 use Rattle.calls.specs.Numbers.{READERS-MAX, PUBLISHERS-MAX, SLOTS-MIN, SLOTS-MAX, TABLE, PLACE-IDLE, PLACE-CLAIMED, PLACE-SYNCHRONISING}
 use Rattle.layout.specs.declared.Publisher.{Publisher}
-use Rattle.layout.specs.Layout.{WORDS, kind, readers, publishers, slots, current, version}
+use Rattle.layout.specs.Layout.{WORDS, kindWord, readers, publishers, slots, current, version}
 use Rattle.statement.specs.Machine.{State, state}
 use Rattle.publication_law.specs.Steps.{Versions, reader, publisher}
 use Rattle.publication_law.specs.Table.{Table, damaged}
@@ -20,7 +20,7 @@ use Rattle.publication_law.specs.Damage.{DamageRules, headRows, publishe
 
 pub record UndamagedHead (K : DamageRules) (s : State) : Type 0 where
   pub long : length (s .words) ≡ WORDS
-  pub kind-is : kind (s .words) ≡ K .number
+  pub kind-is : kindWord (s .words) ≡ K .number
   pub readers-low : 1 ≤ readers (s .words)
   pub readers-high : readers (s .words) ≤ READERS-MAX
   pub publishers-low : 1 ≤ publishers (s .words)

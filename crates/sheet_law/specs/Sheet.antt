@@ -7,7 +7,7 @@ use lib.IntN.{ℤ, pos}
 use lib.ListN.{length, take, drop, replicate}
 use Rattle.base.specs.Base.{pick}
 use Rattle.calls.specs.Numbers.{MODULUS, TABLE, SLOTS-MAX}
-use Rattle.layout.specs.Layout.{WORDS, kind as kindWord, slots}
+use Rattle.layout.specs.Layout.{WORDS, kindWord, slots}
 use Rattle.statement.specs.Machine.{State, state, Outcome, outcome, given}
 use Rattle.kinds_law.specs.Kinds.{kindOfNumber, anyStep, lackedBy, anyMaking}
 use Rattle.sheet_law.specs.declared.Command.{Command}

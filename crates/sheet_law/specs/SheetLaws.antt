@@ -10,7 +10,7 @@ use lib.ListN.{take, take-append-drop}
 use Rattle.calls.specs.declared.Call.{Call}
 use Rattle.calls.specs.declared.Reply.the-variants.{Refused}
 use Rattle.calls.specs.Numbers.{TABLE, NUMBER-MAX, DAMAGED}
-use Rattle.layout.specs.Layout.{kind as kindWord}
+use Rattle.layout.specs.Layout.{kindWord}
 use Rattle.statement.specs.Machine.{State, state, outcome, given}
 use Rattle.kinds_law.specs.Kinds.{Kind, kindOfNumber, anyStep, lackedBy}
 use Rattle.kinds_law.specs.Kinds.Kind.{new, old}

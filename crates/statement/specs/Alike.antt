@@ -79,8 +79,8 @@ module _ (M N : Machine) where
   led-same ok s e (d ∷ ds) cs = rw (e [] d) (led-same (ok && accepted (M .step s d .reply)) (M .step s d .after) (λ more c. e (d ∷ more) c) ds cs)
 
   module _ (z : Given) (h : Model) (t : Told) (u : Tally) (s : State) (e : (c : Call) → N .step s c ≡ M .step s c) where
-    state-same : (T : Traits) → StateCompanions M T z h t u s → StateCompanions N T z h t u s
-    state-same T known = record {
+    state-same : (traits : Traits) → StateCompanions M traits z h t u s → StateCompanions N traits z h t u s
+    state-same traits known = record {
       undamaged = λ c has. rw (e c) (known .undamaged c has);
       lacked = λ c lacks. rw (e c) (known .lacked c lacks);
       in-turn = λ c. rw (e c) (known .in-turn c);
@@ -92,8 +92,8 @@ module _ (M N : Machine) where
       swaps = λ p. rw (e (Swap p)) (known .swaps p);
     }
 
-    grace-state-same : (T : GraceTraits) → GraceStateCompanions M T z h t u s → GraceStateCompanions N T z h t u s
-    grace-state-same T known = record {
+    grace-state-same : (traits : GraceTraits) → GraceStateCompanions M traits z h t u s → GraceStateCompanions N traits z h t u s
+    grace-state-same traits known = record {
       enters = λ r. rw (e (Enter r)) (known .enters r);
       leaves = λ r. rw (e (Leave r)) (known .leaves r);
       idle-only-if = known .idle-only-if;
@@ -125,27 +125,27 @@ module _ (M N : Machine) where
           claims = λ pre post p slot r a e. known .claims pre post p slot r a (q ∙ e);
         }
 
-    pub companions-alike : (T : Traits) → Companions M T → Companions N T
-    companions-alike T promise s f cs =
+    pub companions-alike : (traits : Traits) → Companions M traits → Companions N traits
+    companions-alike traits promise s f cs =
         let known = promise s (fresh-alike s f) cs in record {
-          state-companions = rw (events-alike s f cs, after-alike s f cs) (state-same (f .arguments) _ _ _ (afterAll M s cs) (like .steps s (fresh-alike s f) cs) T (known .state-companions));
+          state-companions = rw (events-alike s f cs, after-alike s f cs) (state-same (f .arguments) _ _ _ (afterAll M s cs) (like .steps s (fresh-alike s f) cs) traits (known .state-companions));
           tables = rw (events-alike s f cs) (known .tables);
         }
 
-    pub grace-companions-alike : (T : GraceTraits) → GraceCompanions M T → GraceCompanions N T
-    grace-companions-alike T promise s f cs =
+    pub grace-companions-alike : (traits : GraceTraits) → GraceCompanions M traits → GraceCompanions N traits
+    grace-companions-alike traits promise s f cs =
         let known = promise s (fresh-alike s f) cs in
         let q = sym (events-alike s f cs) in record {
-          every = companions-alike (T .every) (λ s f cs. promise s f cs .every) s f cs;
-          state-companions = rw (events-alike s f cs, after-alike s f cs) (grace-state-same (f .arguments) _ _ _ (afterAll M s cs) (like .steps s (fresh-alike s f) cs) T (known .state-companions));
+          every = companions-alike (traits .every) (λ s f cs. promise s f cs .every) s f cs;
+          state-companions = rw (events-alike s f cs, after-alike s f cs) (grace-state-same (f .arguments) _ _ _ (afterAll M s cs) (like .steps s (fresh-alike s f) cs) traits (known .state-companions));
           returns-after = λ pre post p b looks waits e. known .returns-after pre post p b looks waits (q ∙ e);
           releases-after = λ pre post p a e. known .releases-after pre post p a (q ∙ e);
           looks-are = λ pre post p b looks waits e. known .looks-are pre post p b looks waits (q ∙ e);
           waits-are = λ pre post p b looks waits e. known .waits-are pre post p b looks waits (q ∙ e);
         }
 
-    pub making-accepts-alike : (T : Traits) → MakingAccepts M T → MakingAccepts N T
-    making-accepts-alike T promise z s = rw (like .makings z s) (promise z s)
+    pub making-accepts-alike : (traits : Traits) → MakingAccepts M traits → MakingAccepts N traits
+    making-accepts-alike traits promise z s = rw (like .makings z s) (promise z s)
 
     pub makes-fresh-alike : MakesFresh M → MakesFresh N
     makes-fresh-alike promise s f = promise s (fresh-alike s f)

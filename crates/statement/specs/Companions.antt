@@ -52,8 +52,8 @@ pub record GraceTraits : Type 0 where
 
 -- A making with every argument in its range, and lent words and entries of the right lengths, is accepted.
 abbrev pub MakingAccepts : Machine → Traits → Type 0
-MakingAccepts M T = (z : Given) (s : State) → length (s .words) ≡ WORDS → 1 ≤ z .readers → z .readers ≤ READERS-MAX → 1 ≤ z .publishers → z .publishers ≤ PUBLISHERS-MAX
-    → SLOTS-MIN ≤ z .slots → z .slots ≤ SLOTS-MAX → length (s .entries) ≡ z .slots * TABLE → z .version ≤ T .last → M .making z s .reply ≡ Made
+MakingAccepts M traits = (z : Given) (s : State) → length (s .words) ≡ WORDS → 1 ≤ z .readers → z .readers ≤ READERS-MAX → 1 ≤ z .publishers → z .publishers ≤ PUBLISHERS-MAX
+    → SLOTS-MIN ≤ z .slots → z .slots ≤ SLOTS-MAX → length (s .entries) ≡ z .slots * TABLE → z .version ≤ traits .last → M .making z s .reply ≡ Made
 
 -- A fresh store, to the letter: every entry feathered, slot 0 current, readers and publishers at place 0, published versions NOT_READING, the version and the sizes as given
 -- and every other number 0.
@@ -80,30 +80,30 @@ pub record RefusedLeaves (M : Machine) : Type 0 where
 
 -- The turn of each call, by what the calls told: a reader's place, a publisher's phase and its draft.
 abbrev pub InTurn : Traits → Model → Tally → Call → Type 0
-InTurn T h u (Enter r) = u .place r < PLACE-PICKED
-InTurn T h u (Look r k) = u .place r ≡ PLACE-PICKED
-InTurn T h u (Leave r) = PLACE-OPEN ≤ u .place r
-InTurn T h u (Claim p slot) = u .phase p ≡ idle
-InTurn T h u (Write p v) = (u .phase p ≡ writing) × (length (h .draft p) < TABLE)
-InTurn T h u (Swap p) = (u .phase p ≡ writing) × (length (h .draft p) ≡ TABLE)
-InTurn T h u (Sync p) = u .phase p ≡ swapped
-InTurn T h u (Raise p) = T .raisesIn (u .phase p) ≡ true
-InTurn T h u (Walk p b) = T .walksIn (u .phase p) ≡ true
-InTurn T h u (Release p) = u .phase p ≡ returned
+InTurn traits h u (Enter r) = u .place r < PLACE-PICKED
+InTurn traits h u (Look r k) = u .place r ≡ PLACE-PICKED
+InTurn traits h u (Leave r) = PLACE-OPEN ≤ u .place r
+InTurn traits h u (Claim p slot) = u .phase p ≡ idle
+InTurn traits h u (Write p v) = (u .phase p ≡ writing) × (length (h .draft p) < TABLE)
+InTurn traits h u (Swap p) = (u .phase p ≡ writing) × (length (h .draft p) ≡ TABLE)
+InTurn traits h u (Sync p) = u .phase p ≡ swapped
+InTurn traits h u (Raise p) = traits .raisesIn (u .phase p) ≡ true
+InTurn traits h u (Walk p b) = traits .walksIn (u .phase p) ≡ true
+InTurn traits h u (Release p) = u .phase p ≡ returned
 
 -- What holds of a state after a list of calls that told h, t and u.
-pub record StateCompanions (M : Machine) (T : Traits) (z : Given) (h : Model) (t : Told) (u : Tally) (s : State) : Type 0 where
+pub record StateCompanions (M : Machine) (traits : Traits) (z : Given) (h : Model) (t : Told) (u : Tally) (s : State) : Type 0 where
   -- never damaged: no call that the kind has is refused with 1, and every call that it lacks is, and changes nothing
-  pub undamaged : (c : Call) → T .lacks c ≡ false → M .step s c .reply ≢ Refused DAMAGED
-  pub lacked : (c : Call) → T .lacks c ≡ true → M .step s c ≡ outcome (Refused DAMAGED) s
+  pub undamaged : (c : Call) → traits .lacks c ≡ false → M .step s c .reply ≢ Refused DAMAGED
+  pub lacked : (c : Call) → traits .lacks c ≡ true → M .step s c ≡ outcome (Refused DAMAGED) s
   -- order: a call is accepted in its turn alone
-  pub in-turn : (c : Call) → accepted (M .step s c .reply) ≡ true → InTurn T h u c
+  pub in-turn : (c : Call) → accepted (M .step s c .reply) ≡ true → InTurn traits h u c
   -- LOOK is accepted after the pick
   pub looks : (r k : ℕ) → r < z .readers → k < TABLE → u .place r ≡ PLACE-PICKED → accepted (M .step s (Look r k) .reply) ≡ true
   -- a claim of a slot told free by an idle publisher, both in range, is accepted (exclusive: if every other one is idle too, else 31)
   pub claims : (p slot : ℕ) → p < z .publishers → slot < z .slots → Has t slot free → u .phase p ≡ idle
-      → (T .exclusive ≡ true → (q : ℕ) → q ≢ p → u .phase q ≡ idle) → M .step s (Claim p slot) .reply ≡ Claimed slot
-  pub busy : T .exclusive ≡ true → (p slot q : ℕ) → p < z .publishers → slot < z .slots → u .phase p ≡ idle → q ≢ p → u .phase q ≢ idle
+      → (traits .exclusive ≡ true → (q : ℕ) → q ≢ p → u .phase q ≡ idle) → M .step s (Claim p slot) .reply ≡ Claimed slot
+  pub busy : traits .exclusive ≡ true → (p slot q : ℕ) → p < z .publishers → slot < z .slots → u .phase p ≡ idle → q ≢ p → u .phase q ≢ idle
       → M .step s (Claim p slot) .reply ≡ Refused BUSY
   -- who is told to hold nothing is idle: so claims speaks of every publisher that holds nothing
   pub idle-if : (p : ℕ) → ((slot : ℕ) → holds t p slot ≡ false) → u .phase p ≡ idle
@@ -113,42 +113,42 @@ pub record StateCompanions (M : Machine) (T : Traits) (z : Given) (h : Model) (t
   pub swaps : (p : ℕ) → p < z .publishers → u .phase p ≡ writing → length (h .draft p) ≡ TABLE → (slot : ℕ) × (t .current ≡ some slot) × (M .step s (Swap p) .reply ≡ Swapped slot)
 
 -- What holds of it besides, in a kind with sections and grace periods.
-pub record GraceStateCompanions (M : Machine) (T : GraceTraits) (z : Given) (h : Model) (t : Told) (u : Tally) (s : State) : Type 0 where
+pub record GraceStateCompanions (M : Machine) (traits : GraceTraits) (z : Given) (h : Model) (t : Told) (u : Tally) (s : State) : Type 0 where
   -- readers never wait: the next ENTER replies the next place, whatever stands between; LEAVE is accepted in an open section
-  pub enters : (r : ℕ) → r < z .readers → u .place r < PLACE-PICKED → M .step s (Enter r) .reply ≡ At (T .onward (u .place r))
+  pub enters : (r : ℕ) → r < z .readers → u .place r < PLACE-PICKED → M .step s (Enter r) .reply ≡ At (traits .onward (u .place r))
   pub leaves : (r : ℕ) → r < z .readers → PLACE-OPEN ≤ u .place r → M .step s (Leave r) .reply ≡ Left
   -- who is idle is told to hold nothing: so busy speaks of every other publisher that holds a slot; with idle-if, told idle is told to hold nothing
   pub idle-only-if : (p : ℕ) → u .phase p ≡ idle → (slot : ℕ) → holds t p slot ≡ false
   -- a publisher gets on: after its SWAP it synchronises unless the version is the last,
   -- raises and walks each in its phases, a WALK unless its looks could pass 2^64 - 1 (33), and releases what it held
-  pub syncs : (p : ℕ) → p < z .publishers → u .phase p ≡ swapped → version (s .words) < T .every .last → accepted (M .step s (Sync p) .reply) ≡ true
-  pub raises : (p : ℕ) → p < z .publishers → T .every .raisesIn (u .phase p) ≡ true → accepted (M .step s (Raise p) .reply) ≡ true
-  pub walks : (p b : ℕ) → p < z .publishers → T .every .walksIn (u .phase p) ≡ true → publisherAt (s .words) p .walk .looks + b ≤ NUMBER-MAX → accepted (M .step s (Walk p b) .reply) ≡ true
+  pub syncs : (p : ℕ) → p < z .publishers → u .phase p ≡ swapped → version (s .words) < traits .every .last → accepted (M .step s (Sync p) .reply) ≡ true
+  pub raises : (p : ℕ) → p < z .publishers → traits .every .raisesIn (u .phase p) ≡ true → accepted (M .step s (Raise p) .reply) ≡ true
+  pub walks : (p b : ℕ) → p < z .publishers → traits .every .walksIn (u .phase p) ≡ true → publisherAt (s .words) p .walk .looks + b ≤ NUMBER-MAX → accepted (M .step s (Walk p b) .reply) ≡ true
   pub frees : (p : ℕ) → p < z .publishers → u .phase p ≡ returned
       → (slot : ℕ) × (t .former p slot ≡ true) × (M .step s (Release p) .reply ≡ Freed slot ((u .releases + 1) % MODULUS))
   -- releases is the number of accepted RELEASEs modulo 2^64
   pub counted : releases (s .words) ≡ u .releases % MODULUS
 
 -- What stands beside demand 3 after every list of calls on a fresh state ..
-pub record ListCompanions (M : Machine) (T : Traits) (z : Given) (s : State) (cs : List Call) : Type 0 where
-  pub state-companions : StateCompanions M T z (modelOf (T .first z) (events M s cs)) (toldBy (events M s cs)) (tallyOf (events M s cs)) (afterAll M s cs)
+pub record ListCompanions (M : Machine) (traits : Traits) (z : Given) (s : State) (cs : List Call) : Type 0 where
+  pub state-companions : StateCompanions M traits z (modelOf (traits .first z) (events M s cs)) (toldBy (events M s cs)) (tallyOf (events M s cs)) (afterAll M s cs)
   -- whole tables: the model's table always has 32 entries
-  pub tables : length (modelOf (T .first z) (events M s cs) .table) ≡ TABLE
+  pub tables : length (modelOf (traits .first z) (events M s cs) .table) ≡ TABLE
 
 -- .. and in a kind with sections and grace periods.
-pub record GraceListCompanions (M : Machine) (T : GraceTraits) (z : Given) (s : State) (cs : List Call) : Type 0 where
-  pub every : ListCompanions M (T .every) z s cs
-  pub state-companions : GraceStateCompanions M T z (modelOf (T .every .first z) (events M s cs)) (toldBy (events M s cs)) (tallyOf (events M s cs)) (afterAll M s cs)
+pub record GraceListCompanions (M : Machine) (traits : GraceTraits) (z : Given) (s : State) (cs : List Call) : Type 0 where
+  pub every : ListCompanions M (traits .every) z s cs
+  pub state-companions : GraceStateCompanions M traits z (modelOf (traits .every .first z) (events M s cs)) (toldBy (events M s cs)) (tallyOf (events M s cs)) (afterAll M s cs)
   -- order: of a publisher's CLAIM, SWAP, SYNC, quiet, RAISE, return and RELEASE the last one before a return is a RAISE ..
   pub returns-after : (pre post : List Event) (p b looks waits : ℕ) → events M s cs ≡ pre ++ (Walk p b ⇒ Walked (Returned looks waits)) ∷ post → tallyOf pre .phase p ≡ raised
   -- .. and the last one before an accepted RELEASE is a return
   pub releases-after : (pre post : List Event) (p : ℕ) (a : Reply) → events M s cs ≡ pre ++ (Release p ⇒ a) ∷ post → accepted a ≡ true → tallyOf pre .phase p ≡ returned
   -- counts: a return has looks = readers + waits (new) or 2 + waits (old); waits is how often p's WALK replied waiting since its SYNC
-  pub looks-are : (pre post : List Event) (p b looks waits : ℕ) → events M s cs ≡ pre ++ (Walk p b ⇒ Walked (Returned looks waits)) ∷ post → looks ≡ T .passes z + waits
+  pub looks-are : (pre post : List Event) (p b looks waits : ℕ) → events M s cs ≡ pre ++ (Walk p b ⇒ Walked (Returned looks waits)) ∷ post → looks ≡ traits .passes z + waits
   pub waits-are : (pre post : List Event) (p b looks waits : ℕ) → events M s cs ≡ pre ++ (Walk p b ⇒ Walked (Returned looks waits)) ∷ post → waits ≡ tallyOf pre .waits p
 
 abbrev pub Companions : Machine → Traits → Type 0
-Companions M T = (s : State) (f : Fresh M s) (cs : List Call) → ListCompanions M T (f .arguments) s cs
+Companions M traits = (s : State) (f : Fresh M s) (cs : List Call) → ListCompanions M traits (f .arguments) s cs
 
 abbrev pub GraceCompanions : Machine → GraceTraits → Type 0
-GraceCompanions M T = (s : State) (f : Fresh M s) (cs : List Call) → GraceListCompanions M T (f .arguments) s cs
+GraceCompanions M traits = (s : State) (f : Fresh M s) (cs : List Call) → GraceListCompanions M traits (f .arguments) s cs

@@ -85,16 +85,16 @@ pub all-tally : (g : Ghost) (es : List Event) → afterEvents g es .tally ≡ fo
 all-tally = all-part (λ g. g .tally) tally (λ g c a. refl)
 
 -- What a return shows.
-pub record Back (T : GraceTraits) (z : Given) (g : Ghost) (p looks waits : ℕ) : Type 0 where
+pub record Back (traits : GraceTraits) (z : Given) (g : Ghost) (p looks waits : ℕ) : Type 0 where
   pub none-pending : (r : ℕ) → g .pend p r ≡ false
   pub in-order : g .tally .phase p ≡ raised
-  pub looks-are : looks ≡ T .passes z + waits
+  pub looks-are : looks ≡ traits .passes z + waits
   pub waits-are : waits ≡ g .tally .waits p
 
 -- An invariant of a kind, which holds of every fresh state and is kept by every step, and what it gives.
-pub record KeptInvariant (M : Machine) (T : Traits) : Type 1 where
+pub record KeptInvariant (M : Machine) (traits : Traits) : Type 1 where
   pub Inv : Given → Ghost → State → Type 0
-  pub start : (s : State) (f : Fresh M s) → Inv (f .arguments) (ghost₀ (T .first (f .arguments))) s
+  pub start : (s : State) (f : Fresh M s) → Inv (f .arguments) (ghost₀ (traits .first (f .arguments))) s
   pub keep : (z : Given) (g : Ghost) (s : State) → Inv z g s → (c : Call) → Inv z (afterEvent g (c ⇒ M .step s c .reply)) (M .step s c .after)
   pub look : (z : Given) (g : Ghost) (s : State) → Inv z g s → (r k : ℕ)
       → accepted (M .step s (Look r k) .reply) ≡ true → (v : ℤ) × (M .step s (Look r k) .reply ≡ Pitch v) × (entry (g .model .note r) k ≡ some v)
@@ -103,19 +103,19 @@ pub record KeptInvariant (M : Machine) (T : Traits) : Type 1 where
   pub slots : (z : Given) (g : Ghost) (s : State) → Inv z g s → Slots (g .told) s
   pub picks : (z : Given) (g : Ghost) (s : State) → Inv z g s → Picks (g .told)
   pub table : (z : Given) (g : Ghost) (s : State) → Inv z g s → length (g .model .table) ≡ TABLE
-  pub state-companions : (z : Given) (g : Ghost) (s : State) → Inv z g s → StateCompanions M T z (g .model) (g .told) (g .tally) s
+  pub state-companions : (z : Given) (g : Ghost) (s : State) → Inv z g s → StateCompanions M traits z (g .model) (g .told) (g .tally) s
 
 -- What it gives besides of a kind with sections and grace periods.
-pub record GraceKeptInvariant (M : Machine) (T : GraceTraits) : Type 1 where
-  pub every : KeptInvariant M (T .every)
-  pub back : (z : Given) (g : Ghost) (s : State) → every .Inv z g s → (p b looks waits : ℕ) → M .step s (Walk p b) .reply ≡ Walked (Returned looks waits) → Back T z g p looks waits
+pub record GraceKeptInvariant (M : Machine) (traits : GraceTraits) : Type 1 where
+  pub every : KeptInvariant M (traits .every)
+  pub back : (z : Given) (g : Ghost) (s : State) → every .Inv z g s → (p b looks waits : ℕ) → M .step s (Walk p b) .reply ≡ Walked (Returned looks waits) → Back traits z g p looks waits
   pub release : (z : Given) (g : Ghost) (s : State) → every .Inv z g s → (p : ℕ) → accepted (M .step s (Release p) .reply) ≡ true → g .tally .phase p ≡ returned
-  pub state-companions : (z : Given) (g : Ghost) (s : State) → every .Inv z g s → GraceStateCompanions M T z (g .model) (g .told) (g .tally) s
+  pub state-companions : (z : Given) (g : Ghost) (s : State) → every .Inv z g s → GraceStateCompanions M traits z (g .model) (g .told) (g .tally) s
 
 no-cons : {A : Type 0} (x : A) (l : List A) → [] ≡ x ∷ l → ⊥
 no-cons x l e = let z : _≡_ {A = ℕ} 0 1 = cc in omega arith
 
-module _ (M : Machine) (T : Traits) (kept : KeptInvariant M T) (z : Given) where
+module _ (M : Machine) (traits : Traits) (kept : KeptInvariant M traits) (z : Given) where
   -- At a split of the events before a call: the state there, with the invariant.
   record Reach (g : Ghost) (pre : List Event) (c : Call) (a : Reply) (post : List Event) : Type 0 where
     at-state : State
@@ -210,31 +210,31 @@ still-synced : (g : Ghost) (p r : ℕ) (a : Reply) → accepted a ≡ true → g
 still-synced g p r a ok e = rw ok (record { awaited = rw (same p) e; opened = e })
 
 -- What an invariant gives after every list from fresh.
-module _ (M : Machine) (T : Traits) (kept : KeptInvariant M T) (s : State) (f : Fresh M s) (cs : List Call) where
-  to : (pre : List Event) (c : Call) (a : Reply) (post : List Event) → events M s cs ≡ pre ++ (c ⇒ a) ∷ post → Reach M T kept (f .arguments) (ghost₀ (T .first (f .arguments))) pre c a post
-  to pre c a post e = reach M T kept (f .arguments) (ghost₀ (T .first (f .arguments))) s (kept .start s f) cs pre c a post e
+module _ (M : Machine) (traits : Traits) (kept : KeptInvariant M traits) (s : State) (f : Fresh M s) (cs : List Call) where
+  to : (pre : List Event) (c : Call) (a : Reply) (post : List Event) → events M s cs ≡ pre ++ (c ⇒ a) ∷ post → Reach M traits kept (f .arguments) (ghost₀ (traits .first (f .arguments))) pre c a post
+  to pre c a post e = reach M traits kept (f .arguments) (ghost₀ (traits .first (f .arguments))) s (kept .start s f) cs pre c a post e
 
-  ending : kept .Inv (f .arguments) (afterEvents (ghost₀ (T .first (f .arguments))) (events M s cs)) (afterAll M s cs)
-  ending = kept-after M T kept (f .arguments) (ghost₀ (T .first (f .arguments))) s (kept .start s f) cs
+  ending : kept .Inv (f .arguments) (afterEvents (ghost₀ (traits .first (f .arguments))) (events M s cs)) (afterAll M s cs)
+  ending = kept-after M traits kept (f .arguments) (ghost₀ (traits .first (f .arguments))) s (kept .start s f) cs
 
-  due : Returns M s cs → Due M (T .first (f .arguments)) s cs
+  due : Returns M s cs → Due M (traits .first (f .arguments)) s cs
   due returns = record {
     looks = λ pre post r k a e ok.
         let there = to pre (Look r k) a post e in
         let found = kept .look _ _ (there .at-state) (there .inv) r k (rw (there .reply-is) at ok) in
-        (found .0, there .reply-is ∙ found .1, rw (← all-model (ghost₀ (T .first (f .arguments))) pre) (found .2));
+        (found .0, there .reply-is ∙ found .1, rw (← all-model (ghost₀ (traits .first (f .arguments))) pre) (found .2));
     returns = returns;
-    slots = rw (← all-told (ghost₀ (T .first (f .arguments))) (events M s cs)) (kept .slots _ _ _ ending);
-    picks = rw (← all-told (ghost₀ (T .first (f .arguments))) (events M s cs)) (kept .picks _ _ _ ending);
+    slots = rw (← all-told (ghost₀ (traits .first (f .arguments))) (events M s cs)) (kept .slots _ _ _ ending);
+    picks = rw (← all-told (ghost₀ (traits .first (f .arguments))) (events M s cs)) (kept .picks _ _ _ ending);
     claims = λ pre post p slot r a e ok picked.
         let there = to pre (Claim p slot) a post e in
-        kept .claim _ _ (there .at-state) (there .inv) p slot r (rw (there .reply-is) at ok) (rw (all-told (ghost₀ (T .first (f .arguments))) pre) picked);
+        kept .claim _ _ (there .at-state) (there .inv) p slot r (rw (there .reply-is) at ok) (rw (all-told (ghost₀ (traits .first (f .arguments))) pre) picked);
   }
 
-  list-companions : ListCompanions M T (f .arguments) s cs
+  list-companions : ListCompanions M traits (f .arguments) s cs
   list-companions = record {
-    state-companions = rw (← all-model (ghost₀ (T .first (f .arguments))) (events M s cs), ← all-told (ghost₀ (T .first (f .arguments))) (events M s cs), ← all-tally (ghost₀ (T .first (f .arguments))) (events M s cs)) (kept .state-companions _ _ _ ending);
-    tables = rw (← all-model (ghost₀ (T .first (f .arguments))) (events M s cs)) (kept .table _ _ _ ending);
+    state-companions = rw (← all-model (ghost₀ (traits .first (f .arguments))) (events M s cs), ← all-told (ghost₀ (traits .first (f .arguments))) (events M s cs), ← all-tally (ghost₀ (traits .first (f .arguments))) (events M s cs)) (kept .state-companions _ _ _ ending);
+    tables = rw (← all-model (ghost₀ (traits .first (f .arguments))) (events M s cs)) (kept .table _ _ _ ending);
   }
 
   -- Returns, where a return shows that nobody is waited for any more; and of a machine that accepts no SYNC.
@@ -242,9 +242,9 @@ module _ (M : Machine) (T : Traits) (kept : KeptInvariant M T) (s : State) (f : 
   returns-waited none-pending pre mid post p b looks waits r a e ok inside =
       let there = to pre (Sync p) a (mid ++ (Walk p b ⇒ Walked (Returned looks waits)) ∷ post) e in
       let reply = M .step (there .at-state) (Sync p) .reply in
-      let later = reach M T kept (f .arguments) _ (M .step (there .at-state) (Sync p) .after) (kept .keep _ _ (there .at-state) (there .inv) (Sync p)) (there .rest) mid (Walk p b) (Walked (Returned looks waits)) post (there .post-is) in
+      let later = reach M traits kept (f .arguments) _ (M .step (there .at-state) (Sync p) .after) (kept .keep _ _ (there .at-state) (there .inv) (Sync p)) (there .rest) mid (Walk p b) (Walked (Returned looks waits)) post (there .post-is) in
       or-left (LeftIn r mid) _
-      (still _ p r (still-synced (afterEvents (ghost₀ (T .first (f .arguments))) pre) p r reply (rw (there .reply-is) at ok) (rw (all-told (ghost₀ (T .first (f .arguments))) pre) inside)) mid)
+      (still _ p r (still-synced (afterEvents (ghost₀ (traits .first (f .arguments))) pre) p r reply (rw (there .reply-is) at ok) (rw (all-told (ghost₀ (traits .first (f .arguments))) pre) inside)) mid)
       (none-pending _ _ (later .at-state) (later .inv) p b looks waits (sym (later .reply-is)) r)
 
   pub returns-never : ((s : State) (p : ℕ) → accepted (M .step s (Sync p) .reply) ≡ false) → Returns M s cs
@@ -253,33 +253,33 @@ module _ (M : Machine) (T : Traits) (kept : KeptInvariant M T) (s : State) (f : 
       absurd (not-both _ (rw (there .reply-is) at ok) (no-sync (there .at-state) p))
 
 -- The theorems. Demand 3 asks, beside what every kind keeps, for its returns.
-pub demand3 : (M : Machine) (T : Traits) → KeptInvariant M T → ((s : State) → Fresh M s → (cs : List Call) → Returns M s cs) → Demand3 M (T .first)
-demand3 M T kept returns s f cs = due M T kept s f cs (returns s f cs)
+pub demand3 : (M : Machine) (traits : Traits) → KeptInvariant M traits → ((s : State) → Fresh M s → (cs : List Call) → Returns M s cs) → Demand3 M (traits .first)
+demand3 M traits kept returns s f cs = due M traits kept s f cs (returns s f cs)
 
-pub companions : (M : Machine) (T : Traits) → KeptInvariant M T → Companions M T
-companions M T kept s f cs = list-companions M T kept s f cs
+pub companions : (M : Machine) (traits : Traits) → KeptInvariant M traits → Companions M traits
+companions M traits kept s f cs = list-companions M traits kept s f cs
 
 -- .. and of a kind with sections and grace periods.
-module _ (M : Machine) (T : GraceTraits) (kept : GraceKeptInvariant M T) (s : State) (f : Fresh M s) (cs : List Call) where
+module _ (M : Machine) (traits : GraceTraits) (kept : GraceKeptInvariant M traits) (s : State) (f : Fresh M s) (cs : List Call) where
   waited : Returns M s cs
-  waited = returns-waited M (T .every) (kept .every) s f cs (λ z g s i p b looks waits e. kept .back z g s i p b looks waits e .none-pending)
+  waited = returns-waited M (traits .every) (kept .every) s f cs (λ z g s i p b looks waits e. kept .back z g s i p b looks waits e .none-pending)
 
-  grace-list-companions : GraceListCompanions M T (f .arguments) s cs
+  grace-list-companions : GraceListCompanions M traits (f .arguments) s cs
   grace-list-companions = record {
-    every = companions M (T .every) (kept .every) s f cs;
-    state-companions = rw (← all-model (ghost₀ (T .every .first (f .arguments))) (events M s cs), ← all-told (ghost₀ (T .every .first (f .arguments))) (events M s cs), ← all-tally (ghost₀ (T .every .first (f .arguments))) (events M s cs)) (kept .state-companions _ _ _ (ending M (T .every) (kept .every) s f cs));
-    returns-after = λ pre post p b looks waits e. let there = to M (T .every) (kept .every) s f cs pre (Walk p b) (Walked (Returned looks waits)) post e in
-        rw (← all-tally (ghost₀ (T .every .first (f .arguments))) pre) (kept .back _ _ (there .at-state) (there .inv) p b looks waits (sym (there .reply-is)) .in-order);
-    releases-after = λ pre post p a e ok. let there = to M (T .every) (kept .every) s f cs pre (Release p) a post e in
-        rw (← all-tally (ghost₀ (T .every .first (f .arguments))) pre) (kept .release _ _ (there .at-state) (there .inv) p (rw (there .reply-is) at ok));
-    looks-are = λ pre post p b looks waits e. let there = to M (T .every) (kept .every) s f cs pre (Walk p b) (Walked (Returned looks waits)) post e in
+    every = companions M (traits .every) (kept .every) s f cs;
+    state-companions = rw (← all-model (ghost₀ (traits .every .first (f .arguments))) (events M s cs), ← all-told (ghost₀ (traits .every .first (f .arguments))) (events M s cs), ← all-tally (ghost₀ (traits .every .first (f .arguments))) (events M s cs)) (kept .state-companions _ _ _ (ending M (traits .every) (kept .every) s f cs));
+    returns-after = λ pre post p b looks waits e. let there = to M (traits .every) (kept .every) s f cs pre (Walk p b) (Walked (Returned looks waits)) post e in
+        rw (← all-tally (ghost₀ (traits .every .first (f .arguments))) pre) (kept .back _ _ (there .at-state) (there .inv) p b looks waits (sym (there .reply-is)) .in-order);
+    releases-after = λ pre post p a e ok. let there = to M (traits .every) (kept .every) s f cs pre (Release p) a post e in
+        rw (← all-tally (ghost₀ (traits .every .first (f .arguments))) pre) (kept .release _ _ (there .at-state) (there .inv) p (rw (there .reply-is) at ok));
+    looks-are = λ pre post p b looks waits e. let there = to M (traits .every) (kept .every) s f cs pre (Walk p b) (Walked (Returned looks waits)) post e in
         kept .back _ _ (there .at-state) (there .inv) p b looks waits (sym (there .reply-is)) .looks-are;
-    waits-are = λ pre post p b looks waits e. let there = to M (T .every) (kept .every) s f cs pre (Walk p b) (Walked (Returned looks waits)) post e in
-        rw (← all-tally (ghost₀ (T .every .first (f .arguments))) pre) (kept .back _ _ (there .at-state) (there .inv) p b looks waits (sym (there .reply-is)) .waits-are);
+    waits-are = λ pre post p b looks waits e. let there = to M (traits .every) (kept .every) s f cs pre (Walk p b) (Walked (Returned looks waits)) post e in
+        rw (← all-tally (ghost₀ (traits .every .first (f .arguments))) pre) (kept .back _ _ (there .at-state) (there .inv) p b looks waits (sym (there .reply-is)) .waits-are);
   }
 
-pub grace-demand3 : (M : Machine) (T : GraceTraits) → GraceKeptInvariant M T → Demand3 M (T .every .first)
-grace-demand3 M T kept = demand3 M (T .every) (kept .every) (waited M T kept)
+pub grace-demand3 : (M : Machine) (traits : GraceTraits) → GraceKeptInvariant M traits → Demand3 M (traits .every .first)
+grace-demand3 M traits kept = demand3 M (traits .every) (kept .every) (waited M traits kept)
 
-pub grace-companions : (M : Machine) (T : GraceTraits) → GraceKeptInvariant M T → GraceCompanions M T
-grace-companions M T kept s f cs = grace-list-companions M T kept s f cs
+pub grace-companions : (M : Machine) (traits : GraceTraits) → GraceKeptInvariant M traits → GraceCompanions M traits
+grace-companions M traits kept s f cs = grace-list-companions M traits kept s f cs
