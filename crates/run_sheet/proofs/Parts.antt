@@ -1,7 +1,8 @@
 -- What is fed of a read: the part from a place on. Some of it is taken, no more than there is, and what was fed before and then is what was fed in all, which is what is kept. Assumes nothing.
 use Prim.Native.Nat.{ℕ, _+_, _-_, _≤_, _<_}
 use native.Mathlib.Omega.{arith}
-use Rattle.sheet_law.specs.Reads.{fed-append}
+use Rattle.lines_law.specs.Lines.{fed}
+use Rattle.lines_law.specs.LineLaws.{fed-append}
 use Rattle.sheet_law.specs.Widths.{tail}
 use mathlib.Core.Path.{refl, sym, _≡_, ap, _∙_}
 use mathlib.Core.List.{List, _++_}
@@ -9,7 +10,7 @@ use mathlib.Core.Bool.{true, false}
 use lib.ListN.{length, take, drop, length-drop}
 use lib.Seq.{take-all, take-add}
 use Rattle.sheet_law.specs.Printing.{PRINTED-MAX}
-use Rattle.sheet_law.specs.Sheet.{SheetState, fed}
+use Rattle.sheet_law.specs.Sheet.{SheetState, sheetReader}
 use Rattle.base.specs.RowLaws.{clash}
 use Rattle.sheet.specs.Feeds.{Feeds, within, moves}
 use Rattle.run_sheet.specs.ReadFed.{ReadFed}
@@ -25,21 +26,21 @@ module _ {d : SheetState} (l : List ℕ) (from : ℕ) {used : ℕ} {e : SheetSta
   taken-some fits = moves f fits (omega (arith, tail-length from l))
 
 -- Fed so far, and then some of what is left: fed so much further.
-pub fed-further : (d e g : SheetState) (l : List ℕ) (from used : ℕ) → e ≡ fed d (take from l) → g ≡ fed e (take used (take (length l - from) (drop from l))) → g ≡ fed d (take (from + used) l)
+pub fed-further : (d e g : SheetState) (l : List ℕ) (from used : ℕ) → e ≡ fed sheetReader d (take from l) → g ≡ fed sheetReader e (take used (take (length l - from) (drop from l))) → g ≡ fed sheetReader d (take (from + used) l)
 fed-further d e g l from used p q =
     q
-    ∙ ap (λ (x : SheetState). fed x (take used (take (length l - from) (drop from l)))) p
-    ∙ sym (fed-append d (take from l) (take used (take (length l - from) (drop from l))))
-    ∙ ap (λ (k : List ℕ). fed d (take from l ++ take used k)) (tail from l)
-    ∙ ap (λ (k : List ℕ). fed d k) (sym (take-add from used l))
+    ∙ ap (λ (x : SheetState). fed sheetReader x (take used (take (length l - from) (drop from l)))) p
+    ∙ sym (fed-append sheetReader d (take from l) (take used (take (length l - from) (drop from l))))
+    ∙ ap (λ (k : List ℕ). fed sheetReader d (take from l ++ take used k)) (tail from l)
+    ∙ ap (λ (k : List ℕ). fed sheetReader d k) (sym (take-add from used l))
 
-pub fed-none : (d : SheetState) (l : List ℕ) → d ≡ fed d (take 0 l)
+pub fed-none : (d : SheetState) (l : List ℕ) → d ≡ fed sheetReader d (take 0 l)
 unfolding fed
 fed-none d l = refl
 
 -- What is kept where a write failed after a step, and at the end of the read.
-pub stopped : {d e g : SheetState} (l : List ℕ) (from : ℕ) {used : ℕ} {before out : List ℕ} {made : ℕ} → e ≡ fed d (take from l) → from < length l → Feeds e (take (length l - from) (drop from l)) used g before out made → ReadFed d l g false
+pub stopped : {d e g : SheetState} (l : List ℕ) (from : ℕ) {used : ℕ} {before out : List ℕ} {made : ℕ} → e ≡ fed sheetReader d (take from l) → from < length l → Feeds e (take (length l - from) (drop from l)) used g before out made → ReadFed d l g false
 stopped {d} {e} {g} l from {used} p h f = record { bytes = from + used; within = taken-within l from f h; after = fed-further d e g l from used p (f .after); whole = λ w. clash (sym w) }
 
-pub ended : {d e : SheetState} (l : List ℕ) (from : ℕ) → e ≡ fed d (take from l) → from ≤ length l → length l ≤ from → ReadFed d l e true
+pub ended : {d e : SheetState} (l : List ℕ) (from : ℕ) → e ≡ fed sheetReader d (take from l) → from ≤ length l → length l ≤ from → ReadFed d l e true
 ended l from p h k = record { bytes = from; within = h; after = p; whole = λ w. omega arith }

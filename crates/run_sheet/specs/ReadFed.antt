@@ -4,11 +4,12 @@ use mathlib.Core.Path.{_≡_}
 use mathlib.Core.Bool.{Bool, true}
 use mathlib.Core.List.{List}
 use lib.ListN.{length, take}
-use Rattle.sheet_law.specs.Sheet.{SheetState, fed}
+use Rattle.lines_law.specs.Lines.{fed}
+use Rattle.sheet_law.specs.Sheet.{SheetState, sheetReader}
 
 -- From the state d, some first bytes of the read were fed, and e is what they make of it; if all could be written, they are all of its bytes.
 pub record ReadFed (d : SheetState) (input : List ℕ) (e : SheetState) (written : Bool) : Type 0 where
   pub bytes : ℕ
   pub within : bytes ≤ length input
-  pub after : e ≡ fed d (take bytes input)
+  pub after : e ≡ fed sheetReader d (take bytes input)
   pub whole : written ≡ true → bytes ≡ length input

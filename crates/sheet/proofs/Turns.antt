@@ -13,14 +13,16 @@ use borrow.Author.Tests.{eq-eqb, ne-eqb, lt-ltb, le-ltb, leb-true, leb-false}
 use Rattle.base.specs.RowLaws.{clash}
 use Rattle.calls.specs.declared.Reply.{Reply}
 use Rattle.statement.specs.Machine.{State, Outcome, outcome}
+use Rattle.lines_law.specs.Lines.{NEWLINE, byte, ending, fed, joined, printed, saidAt}
+use Rattle.lines_law.specs.LineLaws.{fed-append, printed-append}
 use Rattle.sheet_law.specs.declared.Command.{Command}
 use Rattle.sheet_law.specs.declared.Line.the-variants.{Read, Unread}
-use Rattle.sheet_law.specs.Text.{text, NEWLINE}
+use Rattle.sheet_law.specs.Text.{text}
 use Rattle.sheet_law.specs.Reading.{LINE-MAX, lineOf}
 use Rattle.sheet_law.specs.Printing.{replyText, printedLine, PRINTED-MAX}
-use Rattle.sheet_law.specs.Sheet.{played, nextLine, SheetState, sheetState, joined, byte, saidAt, fed, printed, ending}
+use Rattle.sheet_law.specs.Sheet.{played, nextLine, SheetState, sheetState, sheetReader}
 use Rattle.sheet_law.specs.SheetLaws.{known-all}
-use Rattle.sheet_law.specs.Reads.{fed-append, printed-append, over-80}
+use Rattle.sheet_law.specs.Reads.{over-80}
 use Rattle.sheet_printing.specs.Buffer.{Added, behind}
 use Rattle.sheet.specs.Feeds.{stopsAt, taken, Feeds}
 use Rattle.sheet_law.specs.Reads.{KEPT}
@@ -28,19 +30,19 @@ use Rattle.sheet_law.specs.Reads.{KEPT}
 more : (t : List ℕ) (u : ℕ) → u < length t → take (u + 1) t ≡ take u t ++ (getD t u 0 ∷ [])
 more t u h = ap (λ (n : ℕ). take n t) (add-one u) ∙ take-suc t u 0 h
 
-fed-next : (d : SheetState) (t : List ℕ) (u : ℕ) → u < length t → fed d (take (u + 1) t) ≡ byte (fed d (take u t)) (getD t u 0)
+fed-next : (d : SheetState) (t : List ℕ) (u : ℕ) → u < length t → fed sheetReader d (take (u + 1) t) ≡ byte sheetReader (fed sheetReader d (take u t)) (getD t u 0)
 unfolding fed
-fed-next d t u h = ap (λ (k : List ℕ). fed d k) (more t u h) ∙ fed-append d (take u t) (getD t u 0 ∷ [])
+fed-next d t u h = ap (λ (k : List ℕ). fed sheetReader d k) (more t u h) ∙ fed-append sheetReader d (take u t) (getD t u 0 ∷ [])
 
-printed-next : (d : SheetState) (t : List ℕ) (u : ℕ) → u < length t → printed d (take (u + 1) t) ≡ printed d (take u t) ++ saidAt (fed d (take u t)) (getD t u 0)
+printed-next : (d : SheetState) (t : List ℕ) (u : ℕ) → u < length t → printed sheetReader d (take (u + 1) t) ≡ printed sheetReader d (take u t) ++ saidAt sheetReader (fed sheetReader d (take u t)) (getD t u 0)
 unfolding printed
 printed-next d t u h =
-    ap (λ (k : List ℕ). printed d k) (more t u h)
-    ∙ printed-append d (take u t) (getD t u 0 ∷ [])
-    ∙ ap (λ (k : List ℕ). printed d (take u t) ++ k) (append-nil (saidAt (fed d (take u t)) (getD t u 0)))
+    ap (λ (k : List ℕ). printed sheetReader d k) (more t u h)
+    ∙ printed-append sheetReader d (take u t) (getD t u 0 ∷ [])
+    ∙ ap (λ (k : List ℕ). printed sheetReader d (take u t) ++ k) (append-nil (saidAt sheetReader (fed sheetReader d (take u t)) (getD t u 0)))
 
 -- The input from a byte on: it is taken, or feeding stops there.
-taken-one : (room : ℕ) (e : SheetState) (b : ℕ) (t : List ℕ) → stopsAt room b ≡ false → taken room e (b ∷ t) ≡ suc (taken (room - length (saidAt e b)) (byte e b) t)
+taken-one : (room : ℕ) (e : SheetState) (b : ℕ) (t : List ℕ) → stopsAt room b ≡ false → taken room e (b ∷ t) ≡ suc (taken (room - length (saidAt sheetReader e b)) (byte sheetReader e b) t)
 unfolding taken
 taken-one room e b t g = rw g refl
 
@@ -49,7 +51,7 @@ unfolding taken
 taken-none room e b t g = rw g refl
 
 taken-next : (room : ℕ) (e : SheetState) (t : List ℕ) (u : ℕ) → u < length t → stopsAt room (getD t u 0) ≡ false
-    → taken room e (drop u t) ≡ suc (taken (room - length (saidAt e (getD t u 0))) (byte e (getD t u 0)) (drop (u + 1) t))
+    → taken room e (drop u t) ≡ suc (taken (room - length (saidAt sheetReader e (getD t u 0))) (byte sheetReader e (getD t u 0)) (drop (u + 1) t))
 taken-next room e t u h g =
     ap (λ (k : List ℕ). taken room e k) (drop-cons t u 0 h ∙ ap (λ (n : ℕ). getD t u 0 ∷ drop n t) (sym (add-one u)))
     ∙ taken-one room e (getD t u 0) (drop (u + 1) t) g
@@ -57,9 +59,9 @@ taken-next room e t u h g =
 -- So far u bytes are taken and m bytes printed. What is taken in all is these and, from the state e on and into the room that is left, what is taken of the rest.
 pub record Going (d : SheetState) (t : List ℕ) (u : ℕ) (e : SheetState) (before out : List ℕ) (m : ℕ) : Type 0 where
   pub total : taken (length before) d t ≡ u + taken (length before - m) e (drop u t)
-  pub after : e ≡ fed d (take u t)
-  pub prints : m ≡ length (printed d (take u t))
-  pub bytes : take m out ≡ printed d (take u t)
+  pub after : e ≡ fed sheetReader d (take u t)
+  pub prints : m ≡ length (printed sheetReader d (take u t))
+  pub bytes : take m out ≡ printed sheetReader d (take u t)
   pub rest : drop m out ≡ drop m before
 
 pub begins : (d : SheetState) (t out : List ℕ) → Going d t 0 d out out 0
@@ -70,24 +72,24 @@ begins d t out = let z : length out - 0 ≡ length out = omega arith in
 -- What goes on by one byte: the state by `byte`, the output by what is said at it.
 module _ (d : SheetState) (t : List ℕ) (u : ℕ) (e f : SheetState) (before out new : List ℕ) (m l : ℕ) (x : List ℕ) where
   went-on : Going d t u e before out m → u < length t → stopsAt (length before - m) (getD t u 0) ≡ false
-      → f ≡ byte e (getD t u 0) → saidAt e (getD t u 0) ≡ x → l ≡ m + length x → take l new ≡ take m out ++ x → drop l new ≡ drop l out → Going d t (u + 1) f before new l
+      → f ≡ byte sheetReader e (getD t u 0) → saidAt sheetReader e (getD t u 0) ≡ x → l ≡ m + length x → take l new ≡ take m out ++ x → drop l new ≡ drop l out → Going d t (u + 1) f before new l
   went-on w h goes moved said long put rest =
-      let left : length before - m - length (saidAt e (getD t u 0)) ≡ length before - l = omega (arith, ap length said) in
-      let same : taken (length before - m - length (saidAt e (getD t u 0))) (byte e (getD t u 0)) (drop (u + 1) t) ≡ taken (length before - l) f (drop (u + 1) t) =
-      ap (λ (r : ℕ). taken r (byte e (getD t u 0)) (drop (u + 1) t)) left ∙ ap (λ (y : SheetState). taken (length before - l) y (drop (u + 1) t)) (sym moved) in
-      let all : printed d (take (u + 1) t) ≡ printed d (take u t) ++ x =
-      printed-next d t u h ∙ ap (λ (y : SheetState). printed d (take u t) ++ saidAt y (getD t u 0)) (sym (w .after)) ∙ ap (λ (k : List ℕ). printed d (take u t) ++ k) said in
+      let left : length before - m - length (saidAt sheetReader e (getD t u 0)) ≡ length before - l = omega (arith, ap length said) in
+      let same : taken (length before - m - length (saidAt sheetReader e (getD t u 0))) (byte sheetReader e (getD t u 0)) (drop (u + 1) t) ≡ taken (length before - l) f (drop (u + 1) t) =
+      ap (λ (r : ℕ). taken r (byte sheetReader e (getD t u 0)) (drop (u + 1) t)) left ∙ ap (λ (y : SheetState). taken (length before - l) y (drop (u + 1) t)) (sym moved) in
+      let all : printed sheetReader d (take (u + 1) t) ≡ printed sheetReader d (take u t) ++ x =
+      printed-next d t u h ∙ ap (λ (y : SheetState). printed sheetReader d (take u t) ++ saidAt sheetReader y (getD t u 0)) (sym (w .after)) ∙ ap (λ (k : List ℕ). printed sheetReader d (take u t) ++ k) said in
       record {
         total = omega (arith, w .total, taken-next (length before - m) e t u h goes, same);
-        after = moved ∙ ap (λ (y : SheetState). byte y (getD t u 0)) (w .after) ∙ sym (fed-next d t u h);
-        prints = omega (arith, long, w .prints, ap length all, length-append (printed d (take u t)) x);
+        after = moved ∙ ap (λ (y : SheetState). byte sheetReader y (getD t u 0)) (w .after) ∙ sym (fed-next d t u h);
+        prints = omega (arith, long, w .prints, ap length all, length-append (printed sheetReader d (take u t)) x);
         bytes = put ∙ ap (λ (k : List ℕ). k ++ x) (w .bytes) ∙ sym all;
         rest = rest ∙ behind before out m l (omega arith) (w .rest);
       }
 
 module _ (d : SheetState) (t : List ℕ) (u n : ℕ) (k : List ℕ) (s : State) (before out : List ℕ) (m : ℕ) (w : Going d t u (sheetState n k s) before out m) (h : u < length t) where
   -- Every byte but a newline joins the line.
-  pub joins : (getD t u 0 ≡ NEWLINE → ⊥) → (j : List ℕ) → j ≡ joined k (getD t u 0) → Going d t (u + 1) (sheetState n j s) before out m
+  pub joins : (getD t u 0 ≡ NEWLINE → ⊥) → (j : List ℕ) → j ≡ joined sheetReader k (getD t u 0) → Going d t (u + 1) (sheetState n j s) before out m
   joins ne j e =
       went-on d t u (sheetState n k s) (sheetState n j s) before out out m m [] w h
       (rw (ne-eqb (getD t u 0) NEWLINE ne) refl)
@@ -128,7 +130,7 @@ module _ {d : SheetState} {t : List ℕ} {u : ℕ} {e : SheetState} {before out 
     takes = omega (arith, w .total, none);
     after = w .after;
     prints = w .prints;
-    says = sym (take-append-drop m out) ∙ ap (λ (k : List ℕ). k ++ drop m out) (w .bytes) ∙ ap (λ (k : List ℕ). printed d (take u t) ++ k) (w .rest);
+    says = sym (take-append-drop m out) ∙ ap (λ (k : List ℕ). k ++ drop m out) (w .bytes) ∙ ap (λ (k : List ℕ). printed sheetReader d (take u t) ++ k) (w .rest);
   }
 
   pub at-the-end : length t ≤ u → Feeds d t u e before out m
@@ -143,10 +145,10 @@ module _ {d : SheetState} {t : List ℕ} {u : ℕ} {e : SheetState} {before out 
 
 -- Keeping a byte of a line: it joins the bytes that are kept, or the line has over 80 bytes already.
 module _ (kept : List ℕ) (count b : ℕ) (whole : length kept ≡ KEPT) where
-  pub joined-full : 80 < count → joined (take count kept) b ≡ take count kept
+  pub joined-full : 80 < count → joined sheetReader (take count kept) b ≡ take count kept
   joined-full h = let e : take count kept ≡ kept = take-all count kept (omega arith) in rw (e, lt-ltb LINE-MAX (length kept) (omega arith)) refl
 
-  pub joined-set : count ≤ 80 → take (count + 1) (set kept count b) ≡ joined (take count kept) b
+  pub joined-set : count ≤ 80 → take (count + 1) (set kept count b) ≡ joined sheetReader (take count kept) b
   joined-set h =
       ap (λ (n : ℕ). take n (set kept count b)) (add-one count)
       ∙ take-suc-set kept count b (omega arith)

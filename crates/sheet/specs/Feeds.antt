@@ -12,10 +12,11 @@ use borrow.Author.Tests.{le-ltb}
 use Rattle.base.specs.Base.{pick}
 use Rattle.base.specs.RowLaws.{pick-split}
 use Rattle.sheet.specs.declared.Fed.{Fed}
-use Rattle.sheet_law.specs.Text.{NEWLINE}
+use Rattle.lines_law.specs.Lines.{NEWLINE, byte, ending, fed, printed, saidAt}
+use Rattle.lines_law.specs.LineLaws.{fed-append, printed-append}
 use Rattle.sheet_law.specs.Printing.{PRINTED-MAX}
-use Rattle.sheet_law.specs.Sheet.{sheet, SheetState, start, byte, saidAt, fed, printed, ending}
-use Rattle.sheet_law.specs.Reads.{KEPT, fed-append, printed-append, whole}
+use Rattle.sheet_law.specs.Sheet.{sheet, SheetState, start, sheetReader}
+use Rattle.sheet_law.specs.Reads.{KEPT, whole}
 
 -- What feeding answers: the numbers of the state after, and how far it went.
 abbrev pub fedAt : ℕ → ℕ → ℕ → ℕ → Fed
@@ -28,15 +29,15 @@ stopsAt room b = eqb b NEWLINE && ltb room PRINTED-MAX
 -- How many bytes of an input are taken, with so much room in the output; what is printed for a byte takes its length of it.
 unfoldable pub taken : ℕ → SheetState → List ℕ → ℕ
 taken room d [] = 0
-taken room d (b ∷ t) = pick (stopsAt room b) 0 (suc (taken (room - length (saidAt d b)) (byte d b) t))
+taken room d (b ∷ t) = pick (stopsAt room b) 0 (suc (taken (room - length (saidAt sheetReader d b)) (byte sheetReader d b) t))
 
 -- From the state d, `used` bytes of the input are taken; e is the state after them, and `made` bytes are printed for them, at the start of the output. Behind
 -- those the output is as before. Left open are the kept bytes beyond the line's, and how far a count goes above them all.
 pub record Feeds (d : SheetState) (input : List ℕ) (used : ℕ) (e : SheetState) (before out : List ℕ) (made : ℕ) : Type 0 where
   pub takes : used ≡ taken (length before) d input
-  pub after : e ≡ fed d (take used input)
-  pub prints : made ≡ length (printed d (take used input))
-  pub says : out ≡ printed d (take used input) ++ drop made before
+  pub after : e ≡ fed sheetReader d (take used input)
+  pub prints : made ≡ length (printed sheetReader d (take used input))
+  pub says : out ≡ printed sheetReader d (take used input) ++ drop made before
 
 -- A state whose line is kept in so many bytes is fed; with any other number of bytes for it nothing is done.
 pub record FeedsIn (size : ℕ) (d : SheetState) (input : List ℕ) (used : ℕ) (e : SheetState) (before out : List ℕ) (made : ℕ) : Type 0 where
@@ -47,7 +48,7 @@ pub record FeedsIn (size : ℕ) (d : SheetState) (input : List ℕ) (used : ℕ)
 taken-most : (room : ℕ) (d : SheetState) (t : List ℕ) → taken room d t ≤ length t
 unfolding taken
 taken-most room d [] = omega arith
-taken-most room d (b ∷ t) = pick-split (λ (n : ℕ). n ≤ suc (length t)) (stopsAt room b) (λ e. omega arith) (λ e. omega (arith, taken-most (room - length (saidAt d b)) (byte d b) t))
+taken-most room d (b ∷ t) = pick-split (λ (n : ℕ). n ≤ suc (length t)) (stopsAt room b) (λ e. omega arith) (λ e. omega (arith, taken-most (room - length (saidAt sheetReader d b)) (byte sheetReader d b) t))
 
 and-with-false : (x : Bool) → (x && false) ≡ false
 and-with-false true = refl
@@ -67,14 +68,14 @@ module _ {d : SheetState} {input : List ℕ} {used : ℕ} {e : SheetState} {befo
   moves fits some = omega (arith, f .takes, taken-some (length before) d input fits some)
 
   pub filled : made ≤ length out
-  filled = omega (arith, f .prints, ap length (f .says), length-append (printed d (take used input)) (drop made before))
+  filled = omega (arith, f .prints, ap length (f .says), length-append (printed sheetReader d (take used input)) (drop made before))
 
-  pub begins-with : take made out ≡ printed d (take used input)
-  begins-with = ap (λ (l : List ℕ). take made l) (f .says) ∙ take-at (printed d (take used input)) (drop made before) made (sym (f .prints))
+  pub begins-with : take made out ≡ printed sheetReader d (take used input)
+  begins-with = ap (λ (l : List ℕ). take made l) (f .says) ∙ take-at (printed sheetReader d (take used input)) (drop made before) made (sym (f .prints))
 
   -- Where nothing was made the output is as before.
   pub nothing-made : made ≡ 0 → out ≡ before
-  nothing-made none = f .says ∙ ap (λ (l : List ℕ). l ++ drop made before) (empty (printed d (take used input)) (omega (arith, f .prints))) ∙ ap (λ (n : ℕ). drop n before) none
+  nothing-made none = f .says ∙ ap (λ (l : List ℕ). l ++ drop made before) (empty (printed sheetReader d (take used input)) (omega (arith, f .prints))) ∙ ap (λ (n : ℕ). drop n before) none
     where
       empty : (l : List ℕ) → length l ≡ 0 → l ≡ []
       empty [] h = refl
@@ -107,28 +108,28 @@ abbrev pub allPrinted : List Step → List ℕ
 allPrinted [] = []
 allPrinted (s ∷ ss) = take (s .made) (s .out) ++ allPrinted ss
 
-chain-after : (d : SheetState) (ss : List Step) → Chain d ss → stateAfter d ss ≡ fed d (allTaken ss)
+chain-after : (d : SheetState) (ss : List Step) → Chain d ss → stateAfter d ss ≡ fed sheetReader d (allTaken ss)
 unfolding fed
 chain-after d [] c = refl
 chain-after d (s ∷ ss) (f, c) =
     chain-after (s .after) ss c
-    ∙ ap (λ (e : SheetState). fed e (allTaken ss)) (f .after)
-    ∙ sym (fed-append d (take (s .used) (s .input)) (allTaken ss))
+    ∙ ap (λ (e : SheetState). fed sheetReader e (allTaken ss)) (f .after)
+    ∙ sym (fed-append sheetReader d (take (s .used) (s .input)) (allTaken ss))
 
-chain-printed : (d : SheetState) (ss : List Step) → Chain d ss → allPrinted ss ≡ printed d (allTaken ss)
+chain-printed : (d : SheetState) (ss : List Step) → Chain d ss → allPrinted ss ≡ printed sheetReader d (allTaken ss)
 unfolding printed
 chain-printed d [] c = refl
 chain-printed d (s ∷ ss) (f, c) =
     ap (λ (k : List ℕ). k ++ allPrinted ss) (begins-with f)
-    ∙ ap (λ (k : List ℕ). printed d (take (s .used) (s .input)) ++ k) (chain-printed (s .after) ss c ∙ ap (λ (e : SheetState). printed e (allTaken ss)) (f .after))
-    ∙ sym (printed-append d (take (s .used) (s .input)) (allTaken ss))
+    ∙ ap (λ (k : List ℕ). printed sheetReader d (take (s .used) (s .input)) ++ k) (chain-printed (s .after) ss c ∙ ap (λ (e : SheetState). printed sheetReader e (allTaken ss)) (f .after))
+    ∙ sym (printed-append sheetReader d (take (s .used) (s .input)) (allTaken ss))
 
 -- However the input is cut, and however often the output was full: what all steps printed from the start, and the step that takes the whole ending, is the sheet of all that was taken.
 pub fed-sheet : (ss : List Step) → Chain start ss → (l : Step) → Feeds (stateAfter start ss) (l .input) (l .used) (l .after) (l .before) (l .out) (l .made) → l .input ≡ ending (stateAfter start ss .begun) → l .used ≡ length (l .input)
     → allPrinted ss ++ take (l .made) (l .out) ≡ sheet (allTaken ss)
 fed-sheet ss c l f e all =
-    ap (λ (k : List ℕ). allPrinted ss ++ k) (begins-with f ∙ ap (λ (n : ℕ). printed (stateAfter start ss) (take n (l .input))) all ∙ ap (λ (k : List ℕ). printed (stateAfter start ss) k) (take-length (l .input) ∙ e))
-    ∙ ap (λ (k : List ℕ). k ++ printed (stateAfter start ss) (ending (stateAfter start ss .begun))) (chain-printed start ss c)
-    ∙ ap (λ (x : SheetState). printed start (allTaken ss) ++ printed x (ending (x .begun))) (chain-after start ss c)
-    ∙ sym (printed-append start (allTaken ss) (ending (fed start (allTaken ss) .begun)))
+    ap (λ (k : List ℕ). allPrinted ss ++ k) (begins-with f ∙ ap (λ (n : ℕ). printed sheetReader (stateAfter start ss) (take n (l .input))) all ∙ ap (λ (k : List ℕ). printed sheetReader (stateAfter start ss) k) (take-length (l .input) ∙ e))
+    ∙ ap (λ (k : List ℕ). k ++ printed sheetReader (stateAfter start ss) (ending (stateAfter start ss .begun))) (chain-printed start ss c)
+    ∙ ap (λ (x : SheetState). printed sheetReader start (allTaken ss) ++ printed sheetReader x (ending (x .begun))) (chain-after start ss c)
+    ∙ sym (printed-append sheetReader start (allTaken ss) (ending (fed sheetReader start (allTaken ss) .begun)))
     ∙ whole (allTaken ss)

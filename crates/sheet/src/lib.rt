@@ -5,8 +5,9 @@
 ghost use mathlib.Core.Path.{_≡_};
 ghost use lib.ListN.{length, take};
 ghost use Rattle.statement.specs.Machine.{state};
+ghost use Rattle.lines_law.specs.Lines.{ending, joined};
 ghost use Rattle.sheet_law.specs.Reading.{lineOf};
-ghost use Rattle.sheet_law.specs.Sheet.{joined, sheetState, ending};
+ghost use Rattle.sheet_law.specs.Sheet.{sheetState, sheetReader};
 ghost use Rattle.sheet_law.specs.Reads.{KEPT};
 ghost use Rattle.sheet.specs.Feeds.{FeedsIn, fedAt};
 use calls::Pitch;
@@ -54,7 +55,7 @@ fn feed_result(lines: u64, count: usize, used: usize, made: usize) -> Fed
 // A byte joins what is kept of its line.
 fn keep(kept: &mut [u8], count: usize, b: u8) -> usize
     requires { ⌜ length (now kept) ≡ KEPT ⌝ }
-    ensures { λ r. ⌜ take r (now (kept .exit)) ≡ joined (take count (now (kept .entry))) b ⌝ }
+    ensures { λ r. ⌜ take r (now (kept .exit)) ≡ joined sheetReader (take count (now (kept .entry))) b ⌝ }
 {
     if count > LINE_MAX {
         return count;

@@ -3,13 +3,14 @@ use Prim.Native.Nat.{ℕ}
 use mathlib.Core.Path.{_≡_, refl}
 use mathlib.Core.List.{List}
 use Rattle.base.specs.Rows.{anyBelow}
+use Rattle.lines_law.specs.Lines.{linesFrom, printedFor}
 use Rattle.layout.specs.Layout.{readerAt, publisherAt, withReader, withPublisher, withReaders, fresh}
 use Rattle.publication_law.specs.Table.{damaged, step, making}
 use Rattle.grace_version_law.specs.Steps.{onward}
 use Rattle.kinds_law.specs.Kinds.{kindOfNumber, anyStep, anyMaking}
 use Rattle.sheet_law.specs.Text.{text, digitsBefore, decimal}
 use Rattle.sheet_law.specs.Reading.{upToSpace, afterSpace, digits, plain, namedIn as wordNamed, lineOf}
-use Rattle.sheet_law.specs.Sheet.{played, linesFrom, printedFor, sheet}
+use Rattle.sheet_law.specs.Sheet.{played, sheet}
 
 abbrev pub P1 : List ℕ
 P1 = text "(store new 1 1 2 0)\n(enter 0)\n(enter 0)\n(enter 0)\n(enter 0)\n(enter 0)\n(look 0 31)\n(claim 0 0)\n(claim 0 1)\n(leave 0)\n"

@@ -1,20 +1,19 @@
--- The whole sheet, bytes in to bytes out; and the same byte by byte, as it is read.
+-- The whole sheet, bytes in to bytes out, as a reader of lines.
 use Prim.Native.Nat.{ℕ, _+_, _*_, _%_}
-use mathlib.Core.Bool.{Bool, true, false}
 use mathlib.Core.List.{List, [], _∷_, _++_}
-use lib.Dec.{eqb, ltb}
 use lib.IntN.{ℤ, pos}
 use lib.ListN.{length, take, drop, replicate}
 use Rattle.base.specs.Base.{pick}
 use Rattle.calls.specs.Numbers.{MODULUS, TABLE, SLOTS-MAX}
 use Rattle.layout.specs.Layout.{WORDS, kindWord, slots}
 use Rattle.statement.specs.Machine.{State, state, Outcome, outcome, given}
+use Rattle.lines_law.specs.Lines.{linesOf, LineReader, printedFor, Midway, midway}
 use Rattle.kinds_law.specs.Kinds.{kindOfNumber, anyStep, lackedBy, anyMaking}
 use Rattle.sheet_law.specs.declared.Command.{Command}
 use Rattle.sheet_law.specs.declared.Command.the-variants.{Make, Run}
 use Rattle.sheet_law.specs.declared.Line.{Line}
 use Rattle.sheet_law.specs.declared.Line.the-variants.{Read, Unread}
-use Rattle.sheet_law.specs.Text.{text, NEWLINE}
+use Rattle.sheet_law.specs.Text.{text}
 use Rattle.sheet_law.specs.Reading.{LINE-MAX, lineOf}
 use Rattle.sheet_law.specs.Printing.{replyText, printedLine}
 
@@ -60,58 +59,33 @@ afterLine s (Read c) = played s c .after
 abbrev pub nextLine : ℕ → ℕ
 nextLine n = (n + 1) % MODULUS
 
-abbrev pub isEmpty : List ℕ → Bool
-isEmpty [] = true
-isEmpty (b ∷ l) = false
+-- What is kept from line to line: how many lines were read, and the store.
+pub record LinesPlayed : Type 0 where
+  pub lines : ℕ
+  pub store : State
 
--- The lines of a text, of whose first some bytes are read already. The last line may lack its newline.
-unfoldable pub linesFrom : List ℕ → List ℕ → List (List ℕ)
-linesFrom begun [] = pick (isEmpty begun) [] (begun ∷ [])
-linesFrom begun (b ∷ t) = pick (eqb b NEWLINE) (begun ∷ linesFrom [] t) (linesFrom (begun ++ (b ∷ [])) t)
+abbrev pub linesPlayed : ℕ → State → LinesPlayed
+linesPlayed n s = record { lines = n; store = s }
 
-abbrev pub linesOf : List ℕ → List (List ℕ)
-linesOf t = linesFrom [] t
-
--- One line is printed for each line, after n lines.
-unfoldable pub printedFor : ℕ → State → List (List ℕ) → List ℕ
-printedFor n s [] = []
-printedFor n s (l ∷ ls) = printedLine (nextLine n) (saidTo s (lineFor s l)) ++ printedFor (nextLine n) (afterLine s (lineFor s l)) ls
+-- One line is printed for each line.
+abbrev pub sheetReader : LineReader
+sheetReader = record {
+  Kept = LinesPlayed;
+  after = λ kept l. linesPlayed (nextLine (kept .lines)) (afterLine (kept .store) (lineFor (kept .store) l));
+  says = λ kept l. printedLine (nextLine (kept .lines)) (saidTo (kept .store) (lineFor (kept .store) l));
+  longest = LINE-MAX;
+}
 
 -- The whole sheet.
 unfoldable pub sheet : List ℕ → List ℕ
-sheet t = printedFor 0 unmade (linesOf t)
+sheet t = printedFor sheetReader (linesPlayed 0 unmade) (linesOf t)
 
--- What is kept from one read to the next: how many lines were read, the bytes of the next one so far, and the store.
-pub record SheetState : Type 0 where
-  pub lines : ℕ
-  pub begun : List ℕ
-  pub store : State
+-- Between two bytes: how many lines were read, the bytes of the next one so far, and the store.
+abbrev pub SheetState : Type 0
+SheetState = Midway LinesPlayed
 
 abbrev pub sheetState : ℕ → List ℕ → State → SheetState
-sheetState n begun s = record { lines = n; begun = begun; store = s }
+sheetState n begun s = midway begun (linesPlayed n s)
 
 abbrev pub start : SheetState
 start = sheetState 0 [] unmade
-
--- Of a line over 80 bytes, 81 are kept: they tell that it is one.
-abbrev pub joined : List ℕ → ℕ → List ℕ
-joined begun b = pick (ltb LINE-MAX (length begun)) begun (begun ++ (b ∷ []))
-
--- A newline ends the line and every other byte joins it.
-abbrev pub byte : SheetState → ℕ → SheetState
-byte d b = pick (eqb b NEWLINE) (sheetState (nextLine (d .lines)) [] (afterLine (d .store) (lineFor (d .store) (d .begun)))) (sheetState (d .lines) (joined (d .begun) b) (d .store))
-
-abbrev pub saidAt : SheetState → ℕ → List ℕ
-saidAt d b = pick (eqb b NEWLINE) (printedLine (nextLine (d .lines)) (saidTo (d .store) (lineFor (d .store) (d .begun)))) []
-
-unfoldable pub fed : SheetState → List ℕ → SheetState
-fed d [] = d
-fed d (b ∷ t) = fed (byte d b) t
-
-unfoldable pub printed : SheetState → List ℕ → List ℕ
-printed d [] = []
-printed d (b ∷ t) = saidAt d b ++ printed (byte d b) t
-
--- At the end of the input a line that was begun is the last line.
-abbrev pub ending : List ℕ → List ℕ
-ending begun = pick (isEmpty begun) [] (NEWLINE ∷ [])

@@ -13,9 +13,6 @@ text none = []
 text (c before rest) = code c ∷ text rest
 
 -- Bytes with a name.
-abbrev pub NEWLINE : ℕ
-NEWLINE = 10
-
 abbrev pub SPACE : ℕ
 SPACE = 32
 

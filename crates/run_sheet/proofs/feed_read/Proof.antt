@@ -5,17 +5,18 @@ use lib.ListN.{length, take}
 use Prim.Native.Nat.{_+_, _-_, _≤_, _<_}
 use mathlib.Core.Path.{_≡_, refl, sym, _∙_}
 use lib.Seq.{length-take-le}
+use Rattle.lines_law.specs.Lines.{fed}
 use Rattle.sheet_law.specs.Printing.{PRINTED-MAX}
 use Rattle.sheet_law.specs.Reads.{KEPT}
 use Rattle.run_sheet.proofs.Parts.{taken-within, taken-some, fed-none, fed-further, stopped, ended}
 use Rattle.sheet.specs.Feeds.{filled}
 use Rattle.statement.specs.Machine.{state}
-use Rattle.sheet_law.specs.Sheet.{sheetState, fed}
+use Rattle.sheet_law.specs.Sheet.{sheetState, sheetReader}
 use Rattle.run_sheet.proofs.feed_read.Statement.{statement}
 use Rattle.run_sheet.proofs.feed_read.Tie as tie
 
 abbrev Inv-loop : tie.InvT-loop
-Inv-loop words₀ room₀ kept₀ lines count input out₀ read₀ held₀ from₀ words room kept out read held from = (length words ≡ length words₀) × (length room ≡ length room₀) × (length kept ≡ length kept₀) × (length out ≡ length out₀) × (from ≤ length input) × (length kept₀ ≡ KEPT) × (PRINTED-MAX ≤ length out₀) × (sheetState read (take held kept) (state words room) ≡ fed (sheetState lines (take count kept₀) (state words₀ room₀)) (take from input))
+Inv-loop words₀ room₀ kept₀ lines count input out₀ read₀ held₀ from₀ words room kept out read held from = (length words ≡ length words₀) × (length room ≡ length room₀) × (length kept ≡ length kept₀) × (length out ≡ length out₀) × (from ≤ length input) × (length kept₀ ≡ KEPT) × (PRINTED-MAX ≤ length out₀) × (sheetState read (take held kept) (state words room) ≡ fed sheetReader (sheetState lines (take count kept₀) (state words₀ room₀)) (take from input))
 
 abbrev μ-loop : tie.MeasureT-loop
 μ-loop words₀ room₀ kept₀ lines count input out₀ read₀ held₀ from₀ words room kept out read held from = length input - from
