@@ -117,7 +117,7 @@ unfolding angle
 angle-signed [] = refl
 angle-signed (byte ∷ l) = refl
 
-angle-back : (v : ℤ) → FitsAngle v → angle (angleText v) ≡ Hundredths v
+pub angle-back : (v : ℤ) → FitsAngle v → angle (angleText v) ≡ Hundredths v
 unfolding angle
 angle-back (pos n) fits = angle-signed (decimal n) ∙ (signed-decimal (within PITCH-HALF) (within (PITCH-HALF - 1)) n ∙ rw (le-ltb (PITCH-HALF - 1) n (omega arith)) refl)
 angle-back (negsuc n) fits = rw (plain-decimal (suc n), le-ltb PITCH-HALF (suc n) (omega arith)) refl
@@ -179,7 +179,7 @@ wide-length : (n : ℕ) → FitsWide n → length (decimal n) ≤ 20
 wide-length n fits = decimal-length 20 n (omega arith) (omega arith)
 
 -- A pitch has at most 64 bits.
-angle-length : (v : ℤ) → FitsAngle v → length (angleText v) ≤ 21
+pub angle-length : (v : ℤ) → FitsAngle v → length (angleText v) ≤ 21
 angle-length (pos n) fits = let d = wide-length n (omega arith) in omega arith
 angle-length (negsuc n) fits = let d = wide-length (suc n) (omega arith) in omega arith
 

@@ -17,6 +17,8 @@ use Rattle.calls.specs.declared.Call.the-variants as call
 use Rattle.calls.specs.Numbers.{PITCH-HALF, NUMBER-MAX, KIND-NEW, KIND-OLD}
 use Rattle.sheet_law.specs.declared.Number.{Number}
 use Rattle.sheet_law.specs.declared.Number.the-variants.{Decimal, NoNumber}
+use Rattle.sheet_law.specs.declared.Angle.{Angle}
+use Rattle.sheet_law.specs.declared.Angle.the-variants.{Hundredths, NoAngle}
 use Rattle.sheet_law.specs.declared.Keyword.{Keyword}
 use Rattle.sheet_law.specs.declared.Keyword.the-variants.{Unknown}
 use Rattle.sheet_law.specs.declared.Command.{Command}
@@ -55,6 +57,38 @@ named-only Q none word ((name names x) ∷ rows) h = pick-split Q (same word (te
 within-only : (most : ℕ) (l : List ℕ) (n : ℕ) → within most (plain l) ≡ Decimal n → (decimal n ≡ l) × (n ≤ most)
 within-only most l n e = (plain-only l n (within-is most (plain l) n e), within-most most (plain l) n e)
 
+-- What a pitch that is read tells of its text.
+angle-same : (v a : ℤ) → Hundredths v ≡ Hundredths a → v ≡ a
+angle-same v a e = cc
+
+no-angle : (v : ℤ) → NoAngle ≡ Hundredths v → ⊥
+no-angle v e = let z : _≡_ {A = ℕ} 0 1 = cc in omega arith
+
+negative-text : (l : List ℕ) (v : ℤ) → negative (within PITCH-HALF (plain l)) ≡ Hundredths v → (angleText v ≡ MINUS ∷ l) × FitsAngle v
+negative-text l v = go (within PITCH-HALF (plain l)) refl
+  where
+    go : (x : Number) → within PITCH-HALF (plain l) ≡ x → negative x ≡ Hundredths v → (angleText v ≡ MINUS ∷ l) × FitsAngle v
+    go NoNumber e z = absurd (no-angle v z)
+    go (Decimal zero) e z = absurd (no-angle v z)
+    go (Decimal (suc n)) e z = let q = within-only PITCH-HALF l (suc n) e in
+        subst (λ (a : ℤ). (angleText a ≡ MINUS ∷ l) × FitsAngle a) (angle-same (negsuc n) v z) (ap (λ (k : List ℕ). MINUS ∷ k) (q .0), omega arith)
+
+positive-text : (l : List ℕ) (v : ℤ) → positive (within (PITCH-HALF - 1) (plain l)) ≡ Hundredths v → (angleText v ≡ l) × FitsAngle v
+positive-text l v = go (within (PITCH-HALF - 1) (plain l)) refl
+  where
+    go : (x : Number) → within (PITCH-HALF - 1) (plain l) ≡ x → positive x ≡ Hundredths v → (angleText v ≡ l) × FitsAngle v
+    go NoNumber e z = absurd (no-angle v z)
+    go (Decimal n) e z = let q = within-only (PITCH-HALF - 1) l n e in
+        subst (λ (a : ℤ). (angleText a ≡ l) × FitsAngle a) (angle-same (pos n) v z) (q .0, omega arith)
+
+pub angle-text : (l : List ℕ) (v : ℤ) → angle l ≡ Hundredths v → (angleText v ≡ l) × FitsAngle v
+unfolding angle
+angle-text [] v e = absurd (no-angle v e)
+angle-text (b ∷ l) v e = pick-split (λ (x : Angle). x ≡ Hundredths v → (angleText v ≡ b ∷ l) × FitsAngle v) (eqb b MINUS)
+    (λ t z. let q = negative-text l v z in (q .0 ∙ ap (λ (c : ℕ). c ∷ l) (sym (eqb-true b MINUS t)), q .1))
+    (λ _ z. positive-text (b ∷ l) v z)
+    e
+
 -- What is read of an argument: nothing, or one whose text it is.
 module _ (Q : Line → Type 0) (bad : Q Unread) where
   given-only : (x : Number) (f : ℕ → Line) → ((n : ℕ) → x ≡ Decimal n → Q (f n)) → Q (ifNumber x f)
@@ -70,21 +104,12 @@ module _ (Q : Line → Type 0) (bad : Q Unread) where
   kind-only : (l : List ℕ) (f : ℕ → Line) → ((kind : ℕ) → kindText kind ≡ l → (kind ≡ KIND-NEW) ⊎ (kind ≡ KIND-OLD) → Q (f kind)) → Q (ifNumber (kindNamed l) f)
   kind-only l f h = named-only (λ x. Q (ifNumber x f)) NoNumber l kinds ((λ e. h KIND-NEW e (inl refl)) else (λ e. h KIND-OLD e (inr refl)) else bad)
 
-  negative-only : (x : Number) (f : ℤ → Line) → ((n : ℕ) → x ≡ Decimal (suc n) → Q (f (negsuc n))) → Q (ifAngle (negative x) f)
-  negative-only NoNumber f h = bad
-  negative-only (Decimal zero) f h = bad
-  negative-only (Decimal (suc n)) f h = h n refl
-
-  positive-only : (x : Number) (f : ℤ → Line) → ((n : ℕ) → x ≡ Decimal n → Q (f (pos n))) → Q (ifAngle (positive x) f)
-  positive-only NoNumber f h = bad
-  positive-only (Decimal n) f h = h n refl
-
   angle-only : (l : List ℕ) (f : ℤ → Line) → ((v : ℤ) → angleText v ≡ l → FitsAngle v → Q (f v)) → Q (ifAngle (angle l) f)
-  unfolding angle
-  angle-only [] f h = bad
-  angle-only (b ∷ l) f h = pick-split (λ x. Q (ifAngle x f)) (eqb b MINUS)
-      (λ t. negative-only (within PITCH-HALF (plain l)) f (λ n e. let q = within-only PITCH-HALF l (suc n) e in h (negsuc n) (ap₂ _∷_ (sym (eqb-true b MINUS t)) (q .0)) (omega arith)))
-      (λ _. positive-only (within (PITCH-HALF - 1) (plain (b ∷ l))) f (λ n e. let q = within-only (PITCH-HALF - 1) (b ∷ l) n e in h (pos n) (q .0) (omega arith)))
+  angle-only l f h = go (angle l) refl
+    where
+      go : (x : Angle) → angle l ≡ x → Q (ifAngle x f)
+      go NoAngle e = bad
+      go (Hundredths v) e = let q = angle-text l v e in h v (q .0) (q .1)
 
 -- A text with something after its first space is what stands before it, the space, and what stands after it.
 space-or-none : (l : List ℕ) → (afterSpace l ≡ []) ⊎ (upToSpace l ++ (SPACE ∷ afterSpace l) ≡ l)

@@ -1,0 +1,46 @@
+-- A card's bytes to its entries: one decimal a line, in the sheet's shape of a pitch. A card that has a misshapen or too wide line counts as no entries.
+use Prim.Native.Nat.{ℕ}
+use mathlib.Core.List.{List, [], _∷_, _++_}
+use mathlib.Core.Option.{Option, none, some}
+use lib.Dec.{eqb}
+use lib.IntN.{ℤ}
+use lib.ListN.{length}
+use Rattle.base.specs.Base.{pick}
+use Rattle.calls.specs.Numbers.{TABLE}
+use Rattle.lines_law.specs.Lines.{NEWLINE, linesOf, LineReader, afterLines}
+use Rattle.sheet_law.specs.declared.Angle.{Angle}
+use Rattle.sheet_law.specs.declared.Angle.the-variants.{Hundredths, NoAngle}
+use Rattle.sheet_law.specs.Reading.{LINE-MAX, angle}
+use Rattle.sheet_law.specs.Canonical.{angleText}
+
+-- The entries of the lines so far, none after a line that is no pitch.
+abbrev pub entered : Option (List ℤ) → Angle → Option (List ℤ)
+entered none a = none
+entered (some vs) NoAngle = none
+entered (some vs) (Hundredths v) = some (vs ++ (v ∷ []))
+
+abbrev pub cardReader : LineReader
+cardReader = record { Kept = Option (List ℤ); after = λ x l. entered x (angle l); says = λ x l. []; longest = LINE-MAX }
+
+abbrev pub cardLines : List ℕ → Option (List ℤ)
+cardLines t = afterLines cardReader (some []) (linesOf t)
+
+abbrev pub orNoEntries : Option (List ℤ) → List ℤ
+orNoEntries none = []
+orNoEntries (some vs) = vs
+
+unfoldable pub cardOf : List ℕ → List ℤ
+cardOf t = orNoEntries (cardLines t)
+
+-- The card that has these entries: a line for each.
+unfoldable pub cardText : List ℤ → List ℕ
+cardText [] = []
+cardText (v ∷ vs) = angleText v ++ (NEWLINE ∷ cardText vs)
+
+-- A first table has 32 entries: which ones stand on a card, if so many do.
+abbrev pub tableOn : List ℕ → Option (List ℤ)
+tableOn t = pick (eqb (length (cardOf t)) TABLE) (some (cardOf t)) none
+
+-- A program reads so many bytes of the file.
+abbrev pub CARD-READ : ℕ
+CARD-READ = 4096
