@@ -1,5 +1,5 @@
 -- A card's bytes to its entries: one decimal a line, in the sheet's shape of a pitch. A card that has a misshapen or too wide line counts as no entries.
-use Prim.Native.Nat.{ℕ}
+use Prim.Native.Nat.{ℕ, _+_}
 use mathlib.Core.List.{List, [], _∷_, _++_}
 use mathlib.Core.Option.{Option, none, some}
 use lib.Dec.{eqb}
@@ -31,6 +31,15 @@ orNoEntries (some vs) = vs
 
 unfoldable pub cardOf : List ℕ → List ℤ
 cardOf t = orNoEntries (cardLines t)
+
+-- The number of the first line that is no pitch, after n lines; 0 if there is none.
+abbrev pub orLine : Angle → ℕ → ℕ → ℕ
+orLine NoAngle n rest = n
+orLine (Hundredths v) n rest = rest
+
+unfoldable pub badLine : ℕ → List (List ℕ) → ℕ
+badLine n [] = 0
+badLine n (l ∷ ls) = orLine (angle l) (n + 1) (badLine (n + 1) ls)
 
 -- The card that has these entries: a line for each.
 unfoldable pub cardText : List ℤ → List ℕ

@@ -54,7 +54,7 @@ texts-one-line [] = tt
 texts-one-line (v ∷ vs) = (angle-one-line v, texts-one-line vs)
 
 -- After a line that is no pitch there are no entries, whatever follows.
-none-stays : (ls : List (List ℕ)) → afterLines cardReader none ls ≡ none
+pub none-stays : (ls : List (List ℕ)) → afterLines cardReader none ls ≡ none
 unfolding afterLines
 none-stays [] = refl
 none-stays (l ∷ ls) = none-stays ls

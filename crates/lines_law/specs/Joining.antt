@@ -26,29 +26,29 @@ OneLineEach (l ∷ ls) = OneLine l × OneLineEach ls
 abbrev pub IsJoined : List ℕ → List ℕ → Type 0
 IsJoined t j = (t ≡ j) ⊎ (t ++ (NEWLINE ∷ []) ≡ j)
 
-begun-joined : (k t : List ℕ) → IsJoined (k ++ t) (joinedLines (linesFrom k t))
+begun-joined : (begun t : List ℕ) → IsJoined (begun ++ t) (joinedLines (linesFrom begun t))
 unfolding linesFrom joinedLines
 begun-joined [] [] = inl refl
-begun-joined (b ∷ k) [] = inr (ap (λ (l : List ℕ). l ++ (NEWLINE ∷ [])) (append-nil (b ∷ k)))
-begun-joined k (b ∷ t) = go (eqb b NEWLINE) refl (begun-joined [] t) (begun-joined (k ++ (b ∷ [])) t)
+begun-joined (b ∷ begun) [] = inr (ap (λ (l : List ℕ). l ++ (NEWLINE ∷ [])) (append-nil (b ∷ begun)))
+begun-joined begun (b ∷ t) = go (eqb b NEWLINE) refl (begun-joined [] t) (begun-joined (begun ++ (b ∷ [])) t)
   where
-    ends : b ≡ NEWLINE → IsJoined t (joinedLines (linesFrom [] t)) → IsJoined (k ++ (b ∷ t)) (k ++ (NEWLINE ∷ joinedLines (linesFrom [] t)))
-    ends e (inl j) = inl (ap (λ (c : ℕ). k ++ (c ∷ t)) e ∙ ap (λ (u : List ℕ). k ++ (NEWLINE ∷ u)) j)
-    ends e (inr j) = inr (append-assoc k (b ∷ t) (NEWLINE ∷ []) ∙ ap (λ (c : ℕ). k ++ (c ∷ (t ++ (NEWLINE ∷ [])))) e ∙ ap (λ (u : List ℕ). k ++ (NEWLINE ∷ u)) j)
+    ends : b ≡ NEWLINE → IsJoined t (joinedLines (linesFrom [] t)) → IsJoined (begun ++ (b ∷ t)) (begun ++ (NEWLINE ∷ joinedLines (linesFrom [] t)))
+    ends e (inl j) = inl (ap (λ (c : ℕ). begun ++ (c ∷ t)) e ∙ ap (λ (u : List ℕ). begun ++ (NEWLINE ∷ u)) j)
+    ends e (inr j) = inr (append-assoc begun (b ∷ t) (NEWLINE ∷ []) ∙ ap (λ (c : ℕ). begun ++ (c ∷ (t ++ (NEWLINE ∷ [])))) e ∙ ap (λ (u : List ℕ). begun ++ (NEWLINE ∷ u)) j)
 
-    go : (n : Bool) → eqb b NEWLINE ≡ n → IsJoined t (joinedLines (linesFrom [] t)) → IsJoined ((k ++ (b ∷ [])) ++ t) (joinedLines (linesFrom (k ++ (b ∷ [])) t))
-        → IsJoined (k ++ (b ∷ t)) (joinedLines (linesFrom k (b ∷ t)))
+    go : (n : Bool) → eqb b NEWLINE ≡ n → IsJoined t (joinedLines (linesFrom [] t)) → IsJoined ((begun ++ (b ∷ [])) ++ t) (joinedLines (linesFrom (begun ++ (b ∷ [])) t))
+        → IsJoined (begun ++ (b ∷ t)) (joinedLines (linesFrom begun (b ∷ t)))
     go true e after joins = rw e (ends (eqb-true b NEWLINE e) after)
-    go false e after joins = rw (e, sym (append-assoc k (b ∷ []) t)) joins
+    go false e after joins = rw (e, sym (append-assoc begun (b ∷ []) t)) joins
 
 pub is-joined : (t : List ℕ) → IsJoined t (joinedLines (linesOf t))
 is-joined t = begun-joined [] t
 
 -- Joined lines are those lines again.
-first-line : (k l t : List ℕ) → OneLine l → linesFrom k (l ++ (NEWLINE ∷ t)) ≡ (k ++ l) ∷ linesOf t
+first-line : (begun l t : List ℕ) → OneLine l → linesFrom begun (l ++ (NEWLINE ∷ t)) ≡ (begun ++ l) ∷ linesOf t
 unfolding linesFrom
-first-line k [] t o = ap (λ (x : List ℕ). x ∷ linesOf t) (sym (append-nil k))
-first-line k (b ∷ l) t o = rw (ne-eqb b NEWLINE (o .0)) (first-line (k ++ (b ∷ [])) l t (o .1) ∙ ap (λ (x : List ℕ). x ∷ linesOf t) (append-assoc k (b ∷ []) l))
+first-line begun [] t o = ap (λ (x : List ℕ). x ∷ linesOf t) (sym (append-nil begun))
+first-line begun (b ∷ l) t o = rw (ne-eqb b NEWLINE (o .0)) (first-line (begun ++ (b ∷ [])) l t (o .1) ∙ ap (λ (x : List ℕ). x ∷ linesOf t) (append-assoc begun (b ∷ []) l))
 
 pub lines-joined : (ls : List (List ℕ)) → OneLineEach ls → linesOf (joinedLines ls) ≡ ls
 unfolding linesFrom joinedLines
@@ -57,17 +57,17 @@ lines-joined (l ∷ ls) o = first-line [] l (joinedLines ls) (o .0) ∙ ap (λ (
 
 -- One newline more at the end: the same lines, or an empty one behind them.
 abbrev Ended : List ℕ → List ℕ → Type 0
-Ended k t = (linesFrom k (t ++ (NEWLINE ∷ [])) ≡ linesFrom k t) ⊎ (linesFrom k (t ++ (NEWLINE ∷ [])) ≡ linesFrom k t ++ ([] ∷ []))
+Ended begun t = (linesFrom begun (t ++ (NEWLINE ∷ [])) ≡ linesFrom begun t) ⊎ (linesFrom begun (t ++ (NEWLINE ∷ [])) ≡ linesFrom begun t ++ ([] ∷ []))
 
-begun-ended : (k t : List ℕ) → Ended k t
+begun-ended : (begun t : List ℕ) → Ended begun t
 unfolding linesFrom
 begun-ended [] [] = inr refl
-begun-ended (b ∷ k) [] = inl refl
-begun-ended k (b ∷ t) = go (eqb b NEWLINE) refl (begun-ended [] t) (begun-ended (k ++ (b ∷ [])) t)
+begun-ended (b ∷ begun) [] = inl refl
+begun-ended begun (b ∷ t) = go (eqb b NEWLINE) refl (begun-ended [] t) (begun-ended (begun ++ (b ∷ [])) t)
   where
-    go : (n : Bool) → eqb b NEWLINE ≡ n → Ended [] t → Ended (k ++ (b ∷ [])) t → Ended k (b ∷ t)
-    go true e (inl j) joins = rw e (inl (ap (λ (ls : List (List ℕ)). k ∷ ls) j))
-    go true e (inr j) joins = rw e (inr (ap (λ (ls : List (List ℕ)). k ∷ ls) j))
+    go : (n : Bool) → eqb b NEWLINE ≡ n → Ended [] t → Ended (begun ++ (b ∷ [])) t → Ended begun (b ∷ t)
+    go true e (inl j) joins = rw e (inl (ap (λ (ls : List (List ℕ)). begun ∷ ls) j))
+    go true e (inr j) joins = rw e (inr (ap (λ (ls : List (List ℕ)). begun ∷ ls) j))
     go false e after joins = rw e joins
 
 pub lines-ended : (t : List ℕ) → (linesOf (t ++ (NEWLINE ∷ [])) ≡ linesOf t) ⊎ (linesOf (t ++ (NEWLINE ∷ [])) ≡ linesOf t ++ ([] ∷ []))

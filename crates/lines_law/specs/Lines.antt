@@ -13,7 +13,7 @@ abbrev pub isEmpty : List ℕ → Bool
 isEmpty [] = true
 isEmpty (b ∷ l) = false
 
--- The lines of a text, of whose first the bytes begun are read already. The last line may lack its newline.
+-- The lines of a text, of whose first some bytes are read already. The last line may lack its newline.
 unfoldable pub linesFrom : List ℕ → List ℕ → List (List ℕ)
 linesFrom begun [] = pick (isEmpty begun) [] (begun ∷ [])
 linesFrom begun (b ∷ t) = pick (eqb b NEWLINE) (begun ∷ linesFrom [] t) (linesFrom (begun ++ (b ∷ [])) t)
