@@ -5,13 +5,13 @@ use mathlib.Core.Option.{Option, none, some}
 use lib.Dec.{eqb}
 
 -- a where the test holds, else b
-abbrev pub pick : {A : Type 0} → Bool → A → A → A
-pick true a b = a
-pick false a b = b
+abbrev pub choose : {A : Type 0} → Bool → A → A → A
+choose true a b = a
+choose false a b = b
 
 -- f, but a at i
 abbrev pub upd : {A : Type 0} → (ℕ → A) → ℕ → A → ℕ → A
-upd f i a j = pick (eqb j i) a (f j)
+upd f i a j = choose (eqb j i) a (f j)
 
 -- whether there is a number, and it is n
 abbrev pub is : Option ℕ → ℕ → Bool

@@ -8,7 +8,7 @@ use mathlib.Core.Bool.{Bool, true, false, not, _&&_, _||_}
 use mathlib.Core.List.{List, [], _∷_}
 use lib.Dec.{ltb, eqb}
 use borrow.Author.Tests.{eqb-true, eqb-false, eq-eqb, ne-eqb, ltb-true, ltb-false, lt-ltb, le-ltb}
-use Rattle.base.specs.Base.{pick, upd}
+use Rattle.base.specs.Base.{choose, upd}
 use Rattle.base.specs.Rows.{Test, firstOf, anyTrue, anyBelow, countBelow, outside}
 use Rattle.base.specs.Rows.Test.{_gives_}
 
@@ -64,9 +64,9 @@ negated true e = refl
 negated false e = clash (sym e)
 
 -- Choices.
-pub pick-split : {A : Type 0} (Q : A → Type 0) (b : Bool) {x y : A} → (b ≡ true → Q x) → (b ≡ false → Q y) → Q (pick b x y)
-pick-split Q true one other = one refl
-pick-split Q false one other = other refl
+pub choose-split : {A : Type 0} (Q : A → Type 0) (b : Bool) {x y : A} → (b ≡ true → Q x) → (b ≡ false → Q y) → Q (choose b x y)
+choose-split Q true one other = one refl
+choose-split Q false one other = other refl
 
 pub same : (r : ℕ) → eqb r r ≡ true
 same r = eq-eqb r r refl
@@ -202,7 +202,7 @@ count-none f (suc n) h = rw (h n (omega arith)) (count-none f n (λ i lt. h i (o
 
 -- A count follows one changed number.
 pub count-upd : (f g : ℕ → Bool) (n r : ℕ) → r < n → ((j : ℕ) → eqb j r ≡ false → g j ≡ f j)
-    → countBelow g n + pick (f r) 1 0 ≡ countBelow f n + pick (g r) 1 0
+    → countBelow g n + choose (f r) 1 0 ≡ countBelow f n + choose (g r) 1 0
 unfolding countBelow
 count-upd f g zero r lt h = absurd (omega arith)
 count-upd f g (suc n) r lt h = go (eqb n r) refl (λ less. count-upd f g n r less h)
@@ -214,12 +214,12 @@ count-upd f g (suc n) r lt h = go (eqb n r) refl (λ less. count-upd f g n r les
         go-ne : (m : ℕ) → m < r → eqb m r ≡ false
         go-ne m lt = by-test (eqb m r) (λ e. omega (arith, eqb-true m r e))
 
-    one : (b : Bool) (k : ℕ) → pick b (suc k) k ≡ k + pick b 1 0
+    one : (b : Bool) (k : ℕ) → choose b (suc k) k ≡ k + choose b 1 0
     one true k = omega arith
     one false k = omega arith
 
-    go : (b : Bool) → eqb n r ≡ b → (r < n → countBelow g n + pick (f r) 1 0 ≡ countBelow f n + pick (g r) 1 0)
-        → pick (g n) (suc (countBelow g n)) (countBelow g n) + pick (f r) 1 0 ≡ pick (f n) (suc (countBelow f n)) (countBelow f n) + pick (g r) 1 0
+    go : (b : Bool) → eqb n r ≡ b → (r < n → countBelow g n + choose (f r) 1 0 ≡ countBelow f n + choose (g r) 1 0)
+        → choose (g n) (suc (countBelow g n)) (countBelow g n) + choose (f r) 1 0 ≡ choose (f n) (suc (countBelow f n)) (countBelow f n) + choose (g r) 1 0
     go true d rec = let e = eqb-true n r d in
         rw (one (g n) (countBelow g n), one (f n) (countBelow f n), e, alike r (omega arith)) (omega arith)
     go false d rec = let q = eqb-false n r d in let z = rec (omega arith) in
@@ -232,7 +232,7 @@ count-or f g zero = omega arith
 count-or f g (suc n) = go (f n) (g n) (count-or f g n)
   where
     go : (a b : Bool) → countBelow (λ i. f i || g i) n ≤ countBelow f n + countBelow g n
-        → pick (a || b) (suc (countBelow (λ i. f i || g i) n)) (countBelow (λ i. f i || g i) n) ≤ pick a (suc (countBelow f n)) (countBelow f n) + pick b (suc (countBelow g n)) (countBelow g n)
+        → choose (a || b) (suc (countBelow (λ i. f i || g i) n)) (countBelow (λ i. f i || g i) n) ≤ choose a (suc (countBelow f n)) (countBelow f n) + choose b (suc (countBelow g n)) (countBelow g n)
     go true true le = omega arith
     go true false le = omega arith
     go false true le = omega arith
@@ -244,7 +244,7 @@ unfolding countBelow
 count-one a zero = omega arith
 count-one a (suc n) = go (eqb a n) refl (count-one a n)
   where
-    go : (b : Bool) → eqb a n ≡ b → countBelow (λ i. eqb a i) n ≤ 1 → pick b (suc (countBelow (λ i. eqb a i) n)) (countBelow (λ i. eqb a i) n) ≤ 1
+    go : (b : Bool) → eqb a n ≡ b → countBelow (λ i. eqb a i) n ≤ 1 → choose b (suc (countBelow (λ i. eqb a i) n)) (countBelow (λ i. eqb a i) n) ≤ 1
     go true d le = omega (arith, count-none (λ i. eqb a i) n (λ i lt. by-test (eqb a i) (λ e. omega (arith, eqb-true a n d, eqb-true a i e))))
     go false d le = le
 

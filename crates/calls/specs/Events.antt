@@ -3,7 +3,7 @@ use Prim.Native.Nat.{ℕ}
 use mathlib.Core.Bool.{Bool, true, false}
 use mathlib.Core.List.{List, [], _∷_}
 use mathlib.Core.Option.{Option, none, some}
-use Rattle.base.specs.Base.{pick}
+use Rattle.base.specs.Base.{choose}
 use Rattle.calls.specs.declared.Call.{Call}
 use Rattle.calls.specs.declared.Reply.{Reply}
 use Rattle.calls.specs.declared.Reply.the-variants.{Made, At, Pitch, Left, Claimed, Written, Swapped, Synced, Raised, Shared, Walked, Freed, Refused}
@@ -62,9 +62,9 @@ walkOf (Freed slot n) = none
 walkOf (Refused n) = none
 
 -- A fold over events, of which only the accepted ones move it.
-abbrev pub moved : {A : Type 0} → (A → Call → Reply → A) → A → Event → A
-moved f now (c ⇒ a) = pick (accepted a) (f now c a) now
+abbrev pub movedBy : {A : Type 0} → (A → Call → Reply → A) → A → Event → A
+movedBy f now (c ⇒ a) = choose (accepted a) (f now c a) now
 
 abbrev pub foldEvents : {A : Type 0} → (A → Call → Reply → A) → A → List Event → A
 foldEvents f now [] = now
-foldEvents f now (e ∷ es) = foldEvents f (moved f now e) es
+foldEvents f now (e ∷ es) = foldEvents f (movedBy f now e) es

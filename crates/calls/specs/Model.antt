@@ -4,7 +4,7 @@ use mathlib.Core.List.{List, [], _∷_, _++_}
 use mathlib.Core.Option.{Option, none, some}
 use lib.IntN.{ℤ}
 use lib.ListN.{replicate}
-use Rattle.base.specs.Base.{pick, upd, is}
+use Rattle.base.specs.Base.{choose, upd, is}
 use Rattle.calls.specs.declared.Call.{Call}
 use Rattle.calls.specs.declared.Call.the-variants.{Enter, Look, Leave, Claim, Write, Swap, Sync, Raise, Walk, Release}
 use Rattle.calls.specs.declared.Reply.{Reply}
@@ -36,7 +36,7 @@ withTable h table = record { table = table; note = h .note; draft = h .draft }
 
 -- CLAIM empties p's draft; WRITE appends v; SWAP makes the draft the table; an ENTER that replies place 5 copies the table into r's note.
 abbrev pub modelStep : Model → Call → Reply → Model
-modelStep h (Enter r) a = pick (is (placeOf a) PLACE-PICKED) (withNote h r (h .table)) h
+modelStep h (Enter r) a = choose (is (placeOf a) PLACE-PICKED) (withNote h r (h .table)) h
 modelStep h (Look r k) a = h
 modelStep h (Leave r) a = h
 modelStep h (Claim p slot) a = withDraft h p []

@@ -5,7 +5,7 @@ use mathlib.Core.Path.{_≡_, refl, sym, ap, _∙_}
 use lib.IntN.{ℤ, pos, negsuc}
 use lib.Dec.{eqb, ltb}
 use borrow.Author.Tests.{ne-eqb, lt-ltb, le-ltb}
-use Rattle.base.specs.Base.{pick}
+use Rattle.base.specs.Base.{choose}
 use Rattle.calls.specs.declared.ReplyNumbers.{ReplyNumbers}
 use Rattle.calls.specs.declared.Reply.{Reply}
 use Rattle.calls.specs.declared.Reply.the-variants.{Made, At, Pitch, Left, Claimed, Written, Swapped, Synced, Raised, Shared, Walked, Freed, Refused}
@@ -19,37 +19,37 @@ abbrev HALF : ℕ
 HALF = 9223372036854775808
 
 abbrev pub pitchOf : ℕ → ℤ
-pitchOf n = pick (ltb n HALF) (pos n) (negsuc (NUMBER-MAX - n))
+pitchOf n = choose (ltb n HALF) (pos n) (negsuc (NUMBER-MAX - n))
 
 -- The reply that three numbers stand for.
 abbrev pub replyOf : ReplyNumbers → Reply
 replyOf numbers =
-    pick (eqb (numbers .code) 100) Made
-    (pick (eqb (numbers .code) 101) (At (numbers .first))
-    (pick (eqb (numbers .code) 102) (Pitch (pitchOf (numbers .first)))
-    (pick (eqb (numbers .code) 103) Left
-    (pick (eqb (numbers .code) 104) (Claimed (numbers .first))
-    (pick (eqb (numbers .code) 105) (Written (numbers .first))
-    (pick (eqb (numbers .code) 106) (Swapped (numbers .first))
-    (pick (eqb (numbers .code) 107) (Synced (numbers .first))
-    (pick (eqb (numbers .code) 108) Raised
-    (pick (eqb (numbers .code) 109) Shared
-    (pick (eqb (numbers .code) 110) (Walked (Waiting (numbers .first)))
-    (pick (eqb (numbers .code) 111) (Walked Spent)
-    (pick (eqb (numbers .code) 112) (Walked Quiet)
-    (pick (eqb (numbers .code) 113) (Walked (Returned (numbers .first) (numbers .second)))
-    (pick (eqb (numbers .code) 114) (Freed (numbers .first) (numbers .second))
+    choose (eqb (numbers .code) 100) Made
+    (choose (eqb (numbers .code) 101) (At (numbers .first))
+    (choose (eqb (numbers .code) 102) (Pitch (pitchOf (numbers .first)))
+    (choose (eqb (numbers .code) 103) Left
+    (choose (eqb (numbers .code) 104) (Claimed (numbers .first))
+    (choose (eqb (numbers .code) 105) (Written (numbers .first))
+    (choose (eqb (numbers .code) 106) (Swapped (numbers .first))
+    (choose (eqb (numbers .code) 107) (Synced (numbers .first))
+    (choose (eqb (numbers .code) 108) Raised
+    (choose (eqb (numbers .code) 109) Shared
+    (choose (eqb (numbers .code) 110) (Walked (Waiting (numbers .first)))
+    (choose (eqb (numbers .code) 111) (Walked Spent)
+    (choose (eqb (numbers .code) 112) (Walked Quiet)
+    (choose (eqb (numbers .code) 113) (Walked (Returned (numbers .first) (numbers .second)))
+    (choose (eqb (numbers .code) 114) (Freed (numbers .first) (numbers .second))
     (Refused (numbers .code))))))))))))))))
 
 -- A pitch of 64 bits, and a refusal below 100: what the code's types and document 01's table give.
-abbrev pub NarrowPitch : ℤ → Type 0
-NarrowPitch (pos n) = n < HALF
-NarrowPitch (negsuc n) = n < HALF
+abbrev pub PitchFitsWord : ℤ → Type 0
+PitchFitsWord (pos n) = n < HALF
+PitchFitsWord (negsuc n) = n < HALF
 
 abbrev pub Representable : Reply → Type 0
 Representable Made = Unit {0}
 Representable (At place) = Unit {0}
-Representable (Pitch v) = NarrowPitch v
+Representable (Pitch v) = PitchFitsWord v
 Representable Left = Unit {0}
 Representable (Claimed slot) = Unit {0}
 Representable (Written n) = Unit {0}
@@ -61,7 +61,7 @@ Representable (Walked walked) = Unit {0}
 Representable (Freed slot n) = Unit {0}
 Representable (Refused n) = n < 100
 
-pitch-back : (v : ℤ) → NarrowPitch v → pitchOf (pitchNumber v) ≡ v
+pitch-back : (v : ℤ) → PitchFitsWord v → pitchOf (pitchNumber v) ≡ v
 pitch-back (pos n) l = rw (lt-ltb n HALF l) refl
 pitch-back (negsuc n) l =
     let e : NUMBER-MAX - (NUMBER-MAX - n) ≡ n = omega arith in

@@ -58,8 +58,8 @@ withPhase u p phase = record { place = u .place; phase = upd (u .phase) p phase;
 abbrev pub withWaits : Tally → ℕ → ℕ → Tally
 withWaits u p n = record { place = u .place; phase = u .phase; waits = upd (u .waits) p n; releases = u .releases }
 
-abbrev pub withReleases : Tally → ℕ → Tally
-withReleases u n = record { place = u .place; phase = u .phase; waits = u .waits; releases = n }
+abbrev pub withReleaseCount : Tally → ℕ → Tally
+withReleaseCount u n = record { place = u .place; phase = u .phase; waits = u .waits; releases = n }
 
 abbrev pub withWalk : Tally → ℕ → Option WalkReply → Tally
 withWalk u p none = u
@@ -78,7 +78,7 @@ tally u (Swap p) a = withPhase u p swapped
 tally u (Sync p) a = withWaits (withPhase u p synchronising) p 0
 tally u (Raise p) a = withPhase u p raised
 tally u (Walk p b) a = withWalk u p (walkOf a)
-tally u (Release p) a = withReleases (withPhase u p idle) (suc (u .releases))
+tally u (Release p) a = withReleaseCount (withPhase u p idle) (suc (u .releases))
 
 abbrev pub tallyOf : List Event → Tally
 tallyOf es = foldEvents tally tally₀ es

@@ -5,7 +5,7 @@ use mathlib.Core.List.{List}
 use mathlib.Core.Option.{Option, none, some}
 use mathlib.Core.Path.{_≡_}
 use lib.Dec.{eqb}
-use Rattle.base.specs.Base.{pick, upd, is}
+use Rattle.base.specs.Base.{choose, upd, is}
 use Rattle.calls.specs.declared.Call.{Call}
 use Rattle.calls.specs.declared.Call.the-variants.{Enter, Look, Leave, Claim, Write, Swap, Sync, Raise, Walk, Release}
 use Rattle.calls.specs.declared.Reply.{Reply}
@@ -20,14 +20,14 @@ pub record Told : Type 0 where
   -- the current slot
   pub current : Option ℕ
   -- the slot of a publisher's last accepted CLAIM, and the slots of its CLAIMs since its last SWAP
-  pub claim : ℕ → Option ℕ
-  pub writing : ℕ → ℕ → Bool
+  pub lastClaim : ℕ → Option ℕ
+  pub claimed : ℕ → ℕ → Bool
   -- the slots that were current just before an accepted SWAP of a publisher's own, until its RELEASE
   pub former : ℕ → ℕ → Bool
 
 -- Slot 0 is current at first.
 abbrev pub told₀ : Told
-told₀ = record { inside = λ r. false; picked = λ r. none; current = some 0; claim = λ p. none; writing = λ p slot. false; former = λ p slot. false }
+told₀ = record { inside = λ r. false; picked = λ r. none; current = some 0; lastClaim = λ p. none; claimed = λ p slot. false; former = λ p slot. false }
 
 -- A reader's section, and what it picked in it.
 abbrev pub withSection : Told → ℕ → Bool → Option ℕ → Told
@@ -35,67 +35,67 @@ withSection t r inside picked = record {
   inside = upd (t .inside) r inside;
   picked = upd (t .picked) r picked;
   current = t .current;
-  claim = t .claim;
-  writing = t .writing;
+  lastClaim = t .lastClaim;
+  claimed = t .claimed;
   former = t .former;
 }
 
 -- A section is open from the ENTER that replies place 4. Its pick is the ENTER that replies place 5, and takes the slot then current.
-abbrev pub entered : Told → ℕ → Option ℕ → Told
-entered t r place = pick (is place PLACE-OPEN) (withSection t r true none) (pick (is place PLACE-PICKED) (withSection t r (t .inside r) (t .current)) t)
+abbrev pub afterEnter : Told → ℕ → Option ℕ → Told
+afterEnter t r place = choose (is place PLACE-OPEN) (withSection t r true none) (choose (is place PLACE-PICKED) (withSection t r (t .inside r) (t .current)) t)
 
 -- A publisher holds a slot from its accepted CLAIM ..
-abbrev pub claimed : Told → ℕ → ℕ → Told
-claimed t p slot = record {
+abbrev pub afterClaim : Told → ℕ → ℕ → Told
+afterClaim t p slot = record {
   inside = t .inside;
   picked = t .picked;
   current = t .current;
-  claim = upd (t .claim) p (some slot);
-  writing = upd (t .writing) p (λ x. eqb slot x || t .writing p x);
+  lastClaim = upd (t .lastClaim) p (some slot);
+  claimed = upd (t .claimed) p (λ x. eqb slot x || t .claimed p x);
   former = t .former;
 }
 
 -- .. until its next accepted SWAP, which makes current the slot of that publisher's last accepted CLAIM;
 -- and the slot current just before an accepted SWAP of its own from then ..
-abbrev pub swapped : Told → ℕ → Told
-swapped t p = record {
+abbrev pub afterSwap : Told → ℕ → Told
+afterSwap t p = record {
   inside = t .inside;
   picked = t .picked;
-  current = t .claim p;
-  claim = t .claim;
-  writing = upd (t .writing) p (λ slot. false);
+  current = t .lastClaim p;
+  lastClaim = t .lastClaim;
+  claimed = upd (t .claimed) p (λ slot. false);
   former = upd (t .former) p (λ slot. is (t .current) slot || t .former p slot);
 }
 
 -- .. until its next accepted RELEASE.
-abbrev pub released : Told → ℕ → Told
-released t p = record {
+abbrev pub afterRelease : Told → ℕ → Told
+afterRelease t p = record {
   inside = t .inside;
   picked = t .picked;
   current = t .current;
-  claim = t .claim;
-  writing = t .writing;
+  lastClaim = t .lastClaim;
+  claimed = t .claimed;
   former = upd (t .former) p (λ slot. false);
 }
 
 abbrev pub tell : Told → Call → Reply → Told
-tell t (Enter r) a = entered t r (placeOf a)
+tell t (Enter r) a = afterEnter t r (placeOf a)
 tell t (Look r k) a = t
 tell t (Leave r) a = withSection t r false none
-tell t (Claim p slot) a = claimed t p slot
+tell t (Claim p slot) a = afterClaim t p slot
 tell t (Write p v) a = t
-tell t (Swap p) a = swapped t p
+tell t (Swap p) a = afterSwap t p
 tell t (Sync p) a = t
 tell t (Raise p) a = t
 tell t (Walk p b) a = t
-tell t (Release p) a = released t p
+tell t (Release p) a = afterRelease t p
 
 -- What the events tell.
 abbrev pub toldBy : List Event → Told
 toldBy es = foldEvents tell told₀ es
 
 abbrev pub holds : Told → ℕ → ℕ → Bool
-holds t p slot = t .writing p slot || t .former p slot
+holds t p slot = t .claimed p slot || t .former p slot
 
 -- A slot's role: current, held by a publisher, or free. Every slot that is neither of the first two is free.
 pub data Role : Type 0 where

@@ -5,7 +5,7 @@ use mathlib.Core.Option.{Option, none, some}
 use lib.Dec.{eqb}
 use lib.IntN.{ℤ}
 use lib.ListN.{length}
-use Rattle.base.specs.Base.{pick}
+use Rattle.base.specs.Base.{choose}
 use Rattle.calls.specs.Numbers.{TABLE}
 use Rattle.lines_law.specs.Lines.{NEWLINE, linesOf, LineReader, afterLines}
 use Rattle.sheet_law.specs.declared.Angle.{Angle}
@@ -48,7 +48,7 @@ cardText (v ∷ vs) = angleText v ++ (NEWLINE ∷ cardText vs)
 
 -- A first table has 32 entries: which ones stand on a card, if so many do.
 abbrev pub tableOn : List ℕ → Option (List ℤ)
-tableOn t = pick (eqb (length (cardOf t)) TABLE) (some (cardOf t)) none
+tableOn t = choose (eqb (length (cardOf t)) TABLE) (some (cardOf t)) none
 
 -- A program reads so many bytes of the file.
 abbrev pub CARD-READ : ℕ

@@ -5,7 +5,7 @@ use Rattle.base.specs.Rows.{anyBelow}
 use Rattle.calls.specs.declared.Call.the-variants.{Enter, Claim}
 use Rattle.calls.specs.declared.Reply.the-variants.{At, Refused}
 use Rattle.calls.specs.Numbers.{KIND-NEW}
-use Rattle.layout.specs.Layout.{readerAt, publisherAt, withReader, withPublisher, withReaders, fresh}
+use Rattle.layout.specs.Layout.{readerAt, publisherAt, withReader, withPublisher, withReaders, freshWords}
 use Rattle.statement.specs.Machine.{State}
 use Rattle.statement.specs.Examples.{AllHold}
 use Rattle.statement.specs.Precedence.{freshOf, small}
@@ -17,8 +17,8 @@ use Rattle.grace_version_law.specs.Steps.{GraceVersion, onward, looksFrom}
 
 -- A place that the kind does not have: 36. At 35 or 37 next not below readers; at 38 it is not tested.
 -- At 2 or 3 a published version unlike the first loaded.
-abbrev pub ownCases : List Case
-ownCases =
+abbrev pub kindCases : List Case
+kindCases =
     on (publisherTo 0 (publisherAs 36 1 1 0 0 0) ∷ []) (Enter 0) (Refused 1)
     ∷ on (publisherTo 0 (publisherAs 35 1 1 1 0 0) ∷ []) (Enter 0) (Refused 1)
     ∷ on (publisherTo 0 (publisherAs 37 1 1 1 0 0) ∷ []) (Enter 0) (Refused 1)
@@ -28,14 +28,14 @@ ownCases =
     ∷ []
 
 unfoldable pub clauses : List Case
-clauses = ownCases ++ sharedCases 18446744073709551614
+clauses = kindCases ++ sharedCases 18446744073709551614
 
 pub fresh-spelled : freshOf GraceVersion small ≡ spelled KIND-NEW
-unfolding withReader withReaders fresh making
+unfolding withReader withReaders freshWords making
 fresh-spelled = refl
 
 on-spelled : AllHold (casesOn GraceVersion (spelled KIND-NEW) clauses)
-unfolding clauses readerAt publisherAt withReader withPublisher withReaders fresh anyBelow damaged onward looksFrom step making
+unfolding clauses readerAt publisherAt withReader withPublisher withReaders freshWords anyBelow damaged onward looksFrom step making
 on-spelled = (refl, (refl, (refl, (refl, (refl, (refl, (refl, (refl, (refl, (refl, (refl, (refl, (refl, (refl, (refl, (refl, (refl, (refl, (refl, (refl, (refl, (refl, (refl, (refl, (refl, (refl, (refl, (refl, (refl, (refl, (refl, (refl, (refl, (refl, (refl, (refl, (refl, (refl, (refl, (refl, (refl, (refl, tt))))))))))))))))))))))))))))))))))))))))))
 
 pub damage-cases : AllHold (cases GraceVersion clauses)

@@ -7,7 +7,7 @@ use Rattle.calls.specs.declared.Call.{Call}
 use Rattle.calls.specs.declared.Call.the-variants.{Enter, Look, Leave, Claim, Swap, Sync, Raise, Walk, Release}
 use Rattle.calls.specs.declared.Reply.the-variants.{Made, At, Pitch, Left, Claimed, Swapped, Synced, Raised, Shared, Walked, Freed, Refused}
 use Rattle.calls.specs.declared.WalkReply.the-variants.{Waiting, Spent, Returned}
-use Rattle.layout.specs.Layout.{readerAt, publisherAt, withReader, withPublisher, withReaders, fresh}
+use Rattle.layout.specs.Layout.{readerAt, publisherAt, withReader, withPublisher, withReaders, freshWords}
 use Rattle.statement.specs.Machine.{given}
 use Rattle.statement.specs.Examples.{Example, AllHold, leadTo, enters, publication, tableFrom, P9, P10}
 use Rattle.statement.specs.Examples.Example.{shows, unchanged}
@@ -95,7 +95,7 @@ examples = P1 ∷ P2 ∷ P3 ∷ P4 ∷ P6 ∷ P7 ∷ P8 ∷ P8-below ∷ P9 Grac
 
 -- The reply of P6's call, at the state that it starts from.
 p6-spent : step rules (leadTo GraceVersion (given 1 1 2 0) to37) (Walk 0 0) .reply ≡ Walked Spent
-unfolding readerAt publisherAt withReader withPublisher withReaders fresh anyBelow damaged onward looksFrom step making
+unfolding readerAt publisherAt withReader withPublisher withReaders freshWords anyBelow damaged onward looksFrom step making
 p6-spent = refl
 
 p6-same : step rules (leadTo GraceVersion (given 1 1 2 0) to37) (Walk 0 0) .after ≡ leadTo GraceVersion (given 1 1 2 0) to37
@@ -103,5 +103,5 @@ p6-same = new-walk-zero _ 0 p6-spent
 
 -- Each by computation, and that P6's call changes nothing by what is promised of every such call.
 pub bench : AllHold examples
-unfolding examples readerAt publisherAt withReader withPublisher withReaders fresh anyBelow damaged onward looksFrom step making
+unfolding examples readerAt publisherAt withReader withPublisher withReaders freshWords anyBelow damaged onward looksFrom step making
 bench = (refl, (refl, (refl, (refl, ((refl, p6-same), (refl, (refl, (refl, (refl, (refl, (refl, (refl, (refl, (refl, (refl, tt)))))))))))))))

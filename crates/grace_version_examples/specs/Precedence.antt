@@ -4,7 +4,7 @@ use mathlib.Core.List.{List, [], _∷_, _++_}
 use Rattle.base.specs.Rows.{anyBelow}
 use Rattle.calls.specs.declared.Call.the-variants.{Claim}
 use Rattle.calls.specs.declared.Reply.the-variants.{Made, Claimed, Refused}
-use Rattle.layout.specs.Layout.{readerAt, publisherAt, withReader, withPublisher, withReaders, fresh}
+use Rattle.layout.specs.Layout.{readerAt, publisherAt, withReader, withPublisher, withReaders, freshWords}
 use Rattle.statement.specs.Machine.{given}
 use Rattle.statement.specs.Examples.{Example, AllHold}
 use Rattle.statement.specs.Examples.Example.{shows}
@@ -20,5 +20,5 @@ unfoldable pub inOrder : List Example
 inOrder = freeRows ∷ sharedRows GraceVersion 18446744073709551614 5
 
 pub precedence : AllHold inOrder
-unfolding inOrder readerAt publisherAt withReader withPublisher withReaders fresh anyBelow damaged onward looksFrom step making
+unfolding inOrder readerAt publisherAt withReader withPublisher withReaders freshWords anyBelow damaged onward looksFrom step making
 precedence = (refl, (refl, (refl, (refl, (refl, (refl, (refl, (refl, (refl, (refl, (refl, (refl, (refl, (refl, (refl, (refl, (refl, (refl, (refl, (refl, (refl, (refl, (refl, (refl, tt))))))))))))))))))))))))

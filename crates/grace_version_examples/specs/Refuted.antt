@@ -14,14 +14,14 @@ use Rattle.calls.specs.Numbers.{PLACE-PUBLISHED, PLACE-OPEN}
 use Rattle.calls.specs.Events.{Event}
 use Rattle.calls.specs.Events.Event.{_⇒_}
 use Rattle.calls.specs.Model.{firstTable}
-use Rattle.layout.specs.Layout.{readers, readerAt, publisherAt, withReader, withPublisher, withReaders, fresh}
+use Rattle.layout.specs.Layout.{readers, readerAt, publisherAt, withReader, withPublisher, withReaders, freshWords}
 use Rattle.statement.specs.Machine.{State, outcome, Given, given, Machine, events}
 use Rattle.statement.specs.Demand3.{Demand3}
 use Rattle.statement.specs.Examples.{lentFor, enters, publication}
 use Rattle.statement.specs.Refute.{someLeave, not-left, ReturnsFrom, returns-from-4}
 use Rattle.publication_law.specs.Steps.{publisher, made}
 use Rattle.publication_law.specs.Table.{damaged, step, making, machine}
-use Rattle.publication_law.specs.Rules.{Rules, tableBy}
+use Rattle.publication_law.specs.SectionRules.{SectionRules, tableBy}
 use Rattle.publication_law.specs.Varied.{varied}
 use Rattle.grace_version_law.specs.Steps.{onward, walkResult, looksFrom, fixed, rules, GraceVersion}
 use Rattle.grace_version_law.specs.Promises.{new-demand3}
@@ -58,14 +58,14 @@ other-pitch : (v : ℤ) → Pitch (pos 9000) ≡ Pitch v → some (pos 100) ≡ 
 other-pitch v e q = let same : _≡_ {A = ℕ} 9000 100 = cc in omega arith
 
 pub always-9000-refuted : Demand3 AlwaysFeathered (λ z. firstTable) → ⊥
-unfolding AlwaysFeathered start small readerAt publisherAt withReader withPublisher withReaders fresh anyBelow damaged onward looksFrom step making
+unfolding AlwaysFeathered start small readerAt publisherAt withReader withPublisher withReaders freshWords anyBelow damaged onward looksFrom step making
 always-9000-refuted promise =
     let cs : List Call = publication 0 1 (pos 100) ++ enters 5 0 in
     let shown = promise start (record { arguments = small; lent = lentFor small; made = refl }) (cs ++ (Look 0 7 ∷ [])) .looks (events AlwaysFeathered start cs) [] 0 7 (Pitch (pos 9000)) refl refl in
     other-pitch (shown .0) (shown .1) (shown .2)
 
 -- A walk that passes every reader: it tests against 0 in place of its mark.
-passesAllRules : Rules
+passesAllRules : SectionRules
 passesAllRules = varied fixed (fixed .exclusive) (λ s p b.
     let walk = publisher s p .walk in
     let result = looksFrom (s .words) (readers (s .words)) 0 (walk .waits) b (walk .next) (walk .looks) in
@@ -76,7 +76,7 @@ unfolding passesAllRules
 PassesAll = machine (tableBy passesAllRules)
 
 pub passes-all-refuted : Demand3 PassesAll (λ z. firstTable) → ⊥
-unfolding PassesAll passesAllRules start small someLeave readerAt publisherAt withReader withPublisher withReaders fresh anyBelow damaged onward looksFrom step making
+unfolding PassesAll passesAllRules start small someLeave readerAt publisherAt withReader withPublisher withReaders freshWords anyBelow damaged onward looksFrom step making
 passes-all-refuted promise =
     let cs : List Call = enters 5 0 ++ publication 0 1 (pos 100) in
     let mid : List Event = (Raise 0 ⇒ Raised) ∷ [] in
@@ -85,7 +85,7 @@ passes-all-refuted promise =
 
 -- Counting a section as open from its first publishing, the ENTER that replies 2: P4's run breaks it for the new store.
 pub early-sections-refuted : ReturnsFrom PLACE-PUBLISHED GraceVersion → ⊥
-unfolding start small someLeave readerAt publisherAt withReader withPublisher withReaders fresh anyBelow damaged onward looksFrom step making
+unfolding start small someLeave readerAt publisherAt withReader withPublisher withReaders freshWords anyBelow damaged onward looksFrom step making
 early-sections-refuted promise =
     let cs : List Call = enters 2 0 ++ publication 0 1 (pos 100) in
     let mid : List Event = (Raise 0 ⇒ Raised) ∷ (Enter 0 ⇒ At 3) ∷ (Enter 0 ⇒ At 4) ∷ [] in

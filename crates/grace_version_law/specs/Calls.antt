@@ -8,7 +8,7 @@ use mathlib.Core.Bool.{Bool, true, false, not, _&&_, _||_}
 use mathlib.Core.List.{List}
 use lib.Dec.{leb, ltb, eqb}
 use borrow.Author.Tests.{ne-eqb, eqb-true, eqb-false, ltb-false, lt-leb, le-leb, le-ltb, lt-ltb, not-false}
-use Rattle.base.specs.Base.{pick}
+use Rattle.base.specs.Base.{choose}
 use Rattle.base.specs.Rows.{anyTrue}
 use Rattle.base.specs.RowLaws.{clash, and-false, or-false, or-none, all-false}
 use Rattle.calls.specs.declared.Call.the-variants.{Enter, Leave}
@@ -18,7 +18,7 @@ use Rattle.calls.specs.Numbers.{PLACE-OUT, PLACE-LOADED, PLACE-PUBLISHED, PLACE
 use Rattle.layout.specs.declared.Reader.{Reader}
 use Rattle.layout.specs.declared.Publisher.{Publisher}
 use Rattle.layout.specs.declared.WalkRecord.{WalkRecord}
-use Rattle.layout.specs.declared.Progress.{Progress}
+use Rattle.layout.specs.declared.WalkResult.{WalkResult}
 use Rattle.layout.specs.Layout.{readers, publishers, slots, current, version, readerAt, withReader}
 use Rattle.layout.specs.Records.{_place≔_, _first≔_, _second≔_, _published≔_, _picked≔_}
 use Rattle.statement.specs.Machine.{State, state, outcome}
@@ -54,11 +54,11 @@ module _ (rs : ℕ) (y : Publisher) where
       go false true rest d = refl
       go false false rest d = clash (sym d)
 
-  pub own-returned : y .place ≡ PLACE-RETURNED → anyTrue (extraRows rs y) ≡ false
-  own-returned e = rw e refl
+  pub extra-returned : y .place ≡ PLACE-RETURNED → anyTrue (extraRows rs y) ≡ false
+  extra-returned e = rw e refl
 
-  pub own-walking : PLACE-SYNCHRONISING ≤ y .place → (ltb PLACE-RETURNED (y .place) || eqb (y .place) PLACE-QUIET) ≡ false → y .place ≢ PLACE-RETURNED → anyTrue (extraRows rs y) ≡ leb rs (y .walk .next)
-  own-walking late place ne =
+  pub extra-walking : PLACE-SYNCHRONISING ≤ y .place → (ltb PLACE-RETURNED (y .place) || eqb (y .place) PLACE-QUIET) ≡ false → y .place ≢ PLACE-RETURNED → anyTrue (extraRows rs y) ≡ leb rs (y .walk .next)
+  extra-walking late place ne =
       let parts = or-false (ltb PLACE-RETURNED (y .place)) (eqb (y .place) PLACE-QUIET) place in
       let high = ltb-false 38 (y .place) (parts .0) in
       let other = eqb-false (y .place) 36 (parts .1) in
@@ -78,16 +78,16 @@ published-of s e r named turn =
 pub next-low : (s : State) → damaged rules s ≡ false → (p : ℕ) → p < publishers (s .words) → (eqb (publisher s p .place) PLACE-SYNCHRONISING || eqb (publisher s p .place) PLACE-RAISED) ≡ true → publisher s p .walk .next < readers (s .words)
 next-low s e p named turn = next-below (readers (s .words)) (slots (s .words)) (publisher s p) (undamaged-facts rules s e .publishers-undamaged p named) turn
 
-module _ (s : State) (clean : damaged rules s ≡ false) where
+module _ (s : State) (no-damage : damaged rules s ≡ false) where
   pub enter-is : (w′ : List ℕ) (r : ℕ) (x x′ : Reader) → r < readers (s .words) → x ≡ reader s r → x .place < PLACE-PICKED → x′ ≡ onward (version (s .words)) (current (s .words)) x → w′ ≡ withReader (s .words) r x′
       → outcome (At (x′ .place)) (state w′ (s .entries)) ≡ step rules s (Enter r)
   enter-is w′ r x x′ named is turn moved put =
-      rw (put, moved, is) (enter-accepted fixed s clean r x named is turn)
+      rw (put, moved, is) (enter-accepted fixed s no-damage r x named is turn)
 
   pub leave-is : (w′ : List ℕ) (r : ℕ) (x : Reader) → r < readers (s .words) → x ≡ reader s r → PLACE-OPEN ≤ x .place → w′ ≡ withReader (s .words) r (leaving x)
       → outcome Left (state w′ (s .entries)) ≡ step rules s (Leave r)
   leave-is w′ r x named is turn put =
-      rw (put, is) (leave-accepted fixed s clean r x named is turn)
+      rw (put, is) (leave-accepted fixed s no-damage r x named is turn)
 
 -- No place of ENTER's: 5 or beyond.
 pub past-enter : (pl : ℕ) → pl ≢ PLACE-OUT → pl ≢ PLACE-LOADED → pl ≢ PLACE-PUBLISHED → pl ≢ PLACE-LOADED-AGAIN → pl ≢ PLACE-OPEN → PLACE-PICKED ≤ pl
@@ -118,7 +118,7 @@ module _ (ver cur : ℕ) (x : Reader) where
   onward-publishes-second e f = rw (e, f) (go (eqb (x .first) (x .second)) refl)
     where
       go : (test : Bool) → eqb (x .first) (x .second) ≡ test
-          → (x place≔ PLACE-OPEN published≔ x .second) ≡ (x place≔ PLACE-OPEN published≔ pick test (x .first) (x .second))
+          → (x place≔ PLACE-OPEN published≔ x .second) ≡ (x place≔ PLACE-OPEN published≔ choose test (x .first) (x .second))
       go true d = rw (eqb-true (x .first) (x .second) d) refl
       go false d = refl
 
@@ -128,7 +128,7 @@ module _ (ver cur : ℕ) (x : Reader) where
 
 -- How the looks of a walk go on, by the first: none left, not passed, the last reader passed, another passed. A look leaves the walk moved.
 module _ (w : List ℕ) (n : ℕ) (walk : WalkRecord) where
-  abbrev looksOn : WalkRecord → ℕ → Progress
+  abbrev looksOn : WalkRecord → ℕ → WalkResult
   looksOn walk′ b = looksFrom w n (walk′ .mark) (walk′ .waits) b (walk′ .next) (walk′ .looks)
 
   pub looks-spent : (b : ℕ) → b ≡ 0 → looksOn walk b ≡ record { walk = walk; reply = Spent }

@@ -19,7 +19,7 @@ use Rattle.calls.specs.Numbers.{PLACE-PUBLISHED, PLACE-IDLE, PLACE-RAISED, NO-S
 use Rattle.calls.specs.Events.{accepted}
 use Rattle.calls.specs.Tally.{tallyOf}
 use Rattle.calls.specs.Model.{firstTable}
-use Rattle.layout.specs.declared.Progress.{Progress}
+use Rattle.layout.specs.declared.WalkResult.{WalkResult}
 use Rattle.layout.specs.Layout.{readers, publishers, slots, current, readerAt}
 use Rattle.statement.specs.Machine.{State, Given, Fresh, events, afterAll, heldSlot}
 use Rattle.statement.specs.Demand3.{Demand3}
@@ -31,7 +31,7 @@ use Rattle.publication_law.specs.DamageLaws.{Undamaged}
 use Rattle.publication_law.specs.KindLaw.{undamaged-publisher}
 use Rattle.publication_law.specs.Decide.{decide-why}
 use Rattle.publication_law.specs.KindShows.{WholeInvariant}
-use Rattle.publication_law.specs.Detector.{OwnOf}
+use Rattle.publication_law.specs.Detector.{invariantOf}
 use Rattle.publication_law.specs.Promises.{Promises, promises-of, WalkFacts, walk-facts}
 use Rattle.publication_law.specs.FreeSlot.{finds-free-slot-of}
 use Rattle.grace_version_law.specs.Steps.{LAST, damageRules, lookedAt, looksOf, fixed, rules, GraceVersion}
@@ -49,13 +49,13 @@ pub new-walk-zero : (s : State) (p : ℕ) → step rules s (Walk p 0) .reply ≡
 new-walk-zero = new-promises .walk-zero
 
 -- What an accepted WALK says of its looks: waiting, spent and returned are said of the looks made, and spent exactly if b looks all passed and readers are left.
-pub record WalkLooks (s : State) (p b : ℕ) (progress : Progress) : Type 0 where
-  pub looks-are : LooksFacts (s .words) (readers (s .words)) (publisher s p .walk .mark) b (publisher s p .walk .next) (publisher s p .walk .looks) (publisher s p .walk .waits) progress
+pub record WalkLooks (s : State) (p b : ℕ) (result : WalkResult) : Type 0 where
+  pub looks-are : LooksFacts (s .words) (readers (s .words)) (publisher s p .walk .mark) b (publisher s p .walk .next) (publisher s p .walk .looks) (publisher s p .walk .waits) result
   pub spent-exactly : publisher s p .walk .next + b < readers (s .words)
-      → ((i : ℕ) → publisher s p .walk .next ≤ i → i < publisher s p .walk .next + b → publisher s p .walk .mark ≤ reader s (lookedAt (readers (s .words)) i) .published) → progress .reply ≡ Spent
+      → ((i : ℕ) → publisher s p .walk .next ≤ i → i < publisher s p .walk .next + b → publisher s p .walk .mark ≤ reader s (lookedAt (readers (s .words)) i) .published) → result .reply ≡ Spent
 
 pub new-walk-facts : (s : State) (p b : ℕ) → accepted (step rules s (Walk p b) .reply) ≡ true
-    → let progress = looksOf s (publisher s p .walk) b in WalkFacts s p progress (WalkLooks s p b progress) (step rules s (Walk p b))
+    → let result = looksOf s (publisher s p .walk) b in WalkFacts s p result (WalkLooks s p b result) (step rules s (Walk p b))
 new-walk-facts s p b = walk-facts fixed s p b (WalkLooks s p b (looksOf s (publisher s p .walk) b)) (λ no-damage lt turn.
     let low = next-below _ _ (publisher s p) (no-damage .publishers-undamaged p lt) (rw (eqb-true (publisher s p .place) 37 turn) refl) in record {
       looks-are = looks-facts (s .words) (readers (s .words)) (publisher s p .walk .mark) (publisher s p .walk .waits) b (publisher s p .walk .next) (publisher s p .walk .looks) low;
@@ -105,19 +105,19 @@ waiting-below w n mark start b nx lk wt r Spent e d = absurd (let no : _≡_ {A 
 waiting-below w n mark start b nx lk wt r Quiet e d = absurd e
 waiting-below w n mark start b nx lk wt r (Returned looks waits) e d = absurd (let no : _≡_ {A = ℕ} 0 1 = cc in omega arith)
 
-waits-published : (z : Given) (g : Ghost) (s : State) → WholeInvariant damageRules (OwnOf detector) z g s → (p b r : ℕ) → step rules s (Walk p b) .reply ≡ Walked (Waiting r) → PLACE-PUBLISHED ≤ g .tally .place r
+waits-published : (z : Given) (g : Ghost) (s : State) → WholeInvariant damageRules (invariantOf detector) z g s → (p b r : ℕ) → step rules s (Walk p b) .reply ≡ Walked (Waiting r) → PLACE-PUBLISHED ≤ g .tally .place r
 waits-published z g s i p b r e =
-    let progress = looksOf s (publisher s p .walk) b in
-    let facts = walk-facts fixed s p b (progress .reply ≡ Waiting r → PLACE-PUBLISHED ≤ g .tally .place r) looks (rw e refl) in
-    facts .looks-are (let e′ : Walked (progress .reply) ≡ Walked (Waiting r) = sym (facts .reply-is) ∙ e in cc)
+    let result = looksOf s (publisher s p .walk) b in
+    let facts = walk-facts fixed s p b (result .reply ≡ Waiting r → PLACE-PUBLISHED ≤ g .tally .place r) looks (rw e refl) in
+    facts .looks-are (let e′ : Walked (result .reply) ≡ Walked (Waiting r) = sym (facts .reply-is) ∙ e in cc)
   where
     looks : Undamaged damageRules s → p < publishers (s .words) → eqb (publisher s p .place) PLACE-RAISED ≡ true → looksOf s (publisher s p .walk) b .reply ≡ Waiting r → PLACE-PUBLISHED ≤ g .tally .place r
     looks no-damage lt turn e =
         let at37 = eqb-true (publisher s p .place) 37 turn in
-        let progress = looksOf s (publisher s p .walk) b in
+        let result = looksOf s (publisher s p .walk) b in
         let low = next-below _ _ (publisher s p) (no-damage .publishers-undamaged p lt) (rw at37 refl) in
         let facts = looks-facts (s .words) (readers (s .words)) (publisher s p .walk .mark) (publisher s p .walk .waits) b (publisher s p .walk .next) (publisher s p .walk .looks) low in
-        let seen = waiting-below (s .words) (readers (s .words)) (publisher s p .walk .mark) (publisher s p .walk .next) b _ _ _ r (progress .reply) (facts .ends) e in
+        let seen = waiting-below (s .words) (readers (s .words)) (publisher s p .walk .mark) (publisher s p .walk .next) b _ _ _ r (result .reply) (facts .ends) e in
         let fits = undamaged-publisher law (readers (s .words)) (slots (s .words)) (publisher s p) (no-damage .publishers-undamaged p lt) .mark-fits (omega arith) in
         let high = ltb-false LAST (publisher s p .walk .mark) (or-false (eqb (publisher s p .walk .mark) 0) (ltb LAST (publisher s p .walk .mark)) fits .1) in
         go (leb PLACE-PUBLISHED (reader s r .place)) refl (seen .2) high (omega (arith, seen .0, seen .1))

@@ -10,7 +10,7 @@ use lib.Dec.{leb, ltb, eqb}
 use borrow.Author.Tests.{eqb-true, ne-eqb, leb-false, lt-leb, ltb-true, ltb-false, le-ltb}
 use Rattle.base.specs.Base.{upd}
 use Rattle.base.specs.Rows.{anyTrue}
-use Rattle.base.specs.RowLaws.{clash, by-test, or-none, and-false, and-not, or-false, all-false, none-true, pick-split, same, at-or, AllClear, AllFalse}
+use Rattle.base.specs.RowLaws.{clash, by-test, or-none, and-false, and-not, or-false, all-false, none-true, choose-split, same, at-or, AllClear, AllFalse}
 use Rattle.calls.specs.declared.Call.{Call}
 use Rattle.calls.specs.declared.Call.the-variants.{Enter, Leave, Sync, Raise, Walk}
 use Rattle.calls.specs.declared.Reply.the-variants.{At, Left, Synced, Walked}
@@ -35,7 +35,7 @@ use Rattle.publication_law.specs.Moves.{reader-moves}
 use Rattle.publication_law.specs.KindLaw.{KindLaw, up-to-law}
 use Rattle.publication_law.specs.Frames.{place-and-one}
 use Rattle.publication_law.specs.KindShows.{WholeInvariant, KindShows, reached}
-use Rattle.publication_law.specs.Detector.{Detector, OwnOf, start-own, early-own, enter-invariant, leave-invariant, sync-invariant, raise-invariant, walk-invariant, return-from-invariant}
+use Rattle.publication_law.specs.Detector.{Detector, invariantOf, start-own, early-own, enter-invariant, leave-invariant, sync-invariant, raise-invariant, walk-invariant, return-from-invariant}
 use Rattle.grace_version_law.specs.Steps.{LAST, versions, damageRules, readerRows, extraRows, onward, entered, leaving, lookedAt, looksOf, looksFrom, freshReader, fixed, GraceVersion}
 use Rattle.grace_version_law.specs.Traits.{traits}
 use Rattle.grace_version_law.specs.Walks.{lookedAt-all, Ends, LooksFacts, looks-mark, looks-facts}
@@ -105,7 +105,7 @@ module _ (ver cur : ℕ) where
   onward-shown n r x (suc (suc (suc zero))) l was = record {
     first-low = was .first-low;
     second-low = was .second-low;
-    shown = λ l′. pick-split (λ (m : ℕ). m ≤ ver) (eqb (x .first) (x .second)) (λ _. was .shown (omega arith)) (λ _. was .second-low);
+    shown = λ l′. choose-split (λ (m : ℕ). m ≤ ver) (eqb (x .first) (x .second)) (λ _. was .shown (omega arith)) (λ _. was .second-low);
     out = λ rn l′. absurd (omega arith);
   }
   onward-shown n r x (suc (suc (suc (suc zero)))) l was = record { first-low = was .first-low; second-low = was .second-low; shown = λ l′. was .shown (omega arith); out = λ rn l′. absurd (omega arith) }
@@ -154,12 +154,12 @@ unfolding onward
 onward-published ver cur x l = rw (ne-eqb (x .place) 0 (λ eq. omega arith), ne-eqb (x .place) 1 (λ eq. omega arith), ne-eqb (x .place) 2 (λ eq. omega arith), ne-eqb (x .place) 3 (λ eq. omega arith)) refl
 
 -- Each of the kind's own steps keeps the invariant.
-module _ (z : Given) (g : Ghost) (s : State) (i : WholeInvariant damageRules (OwnOf detector) z g s) where
+module _ (z : Given) (g : Ghost) (s : State) (i : WholeInvariant damageRules (invariantOf detector) z g s) where
   -- What is shown of reader r as it is then and of the others.
   shown-anew : (r : ℕ) (x : Reader) → Shown (version (s .words)) (readers (s .words)) r x → (r′ : ℕ) → Shown (version (s .words)) (readers (s .words)) r′ (upd (readerAt (s .words)) r x r′)
   shown-anew r x was = at-or r (rw (same r) was) (λ r′ d. rw d (i .own .readers-are r′))
 
-  enter-kept : (r : ℕ) → AllClear (enterTests s r) → WholeInvariant damageRules (OwnOf detector) z (kept.advance g (Enter r) (At (entered s r .place))) (state (withReader (s .words) r (entered s r)) (s .entries))
+  enter-kept : (r : ℕ) → AllClear (enterTests s r) → WholeInvariant damageRules (invariantOf detector) z (kept.ghostStep g (Enter r) (At (entered s r .place))) (state (withReader (s .words) r (entered s r)) (s .entries))
   enter-kept r f =
       let lt : r < readers (s .words) = leb-false _ _ (f .0) in
       let l : reader s r .place ≤ PLACE-OPEN = let less = leb-false 5 (reader s r .place) (f .1 .0) in omega arith in
@@ -168,16 +168,16 @@ module _ (z : Given) (g : Ghost) (s : State) (i : WholeInvariant damageRules (Ow
       (shown-anew r _ (onward-shown _ _ _ _ (reader s r) _ l (i .own .readers-are r))) lt (onward-goes _ _ (reader s r) _ l)
       (λ four y behind. record { below = rw (onward-published (version (s .words)) (current (s .words)) (reader s r) four) (behind .below); unpassed = behind .unpassed })
 
-  leave-kept : (r : ℕ) → AllClear (leaveTests s r) → WholeInvariant damageRules (OwnOf detector) z (kept.advance g (Leave r) Left) (state (withReader (s .words) r (leaving (reader s r))) (s .entries))
+  leave-kept : (r : ℕ) → AllClear (leaveTests s r) → WholeInvariant damageRules (invariantOf detector) z (kept.ghostStep g (Leave r) Left) (state (withReader (s .words) r (leaving (reader s r))) (s .entries))
   leave-kept r f = leave-invariant detector damageRules law z g s i _ r (leaving (reader s r)) (reader-moves (i .shared .every .no-damage) r (leaving (reader s r)) (leb-false _ _ (f .0))) refl
       (shown-anew r _ (let was = i .own .readers-are r in record { first-low = was .first-low; second-low = was .second-low; shown = λ l′. absurd (omega arith); out = λ rn l′. refl })) refl
 
-  sync-kept : (p : ℕ) → AllClear (syncTests versions s p) → WholeInvariant damageRules (OwnOf detector) z (kept.advance g (Sync p) (Synced (version (s .words) + 1))) (sync versions s p .after)
+  sync-kept : (p : ℕ) → AllClear (syncTests versions s p) → WholeInvariant damageRules (invariantOf detector) z (kept.ghostStep g (Sync p) (Synced (version (s .words) + 1))) (sync versions s p .after)
   sync-kept p f = sync-invariant detector damageRules law z g s i p f
       (extra-clear (readers (s .words)) (publisher s p atPlace PLACE-SYNCHRONISING walk≔ newWalk (publisher s p .walk) (version (s .words) + 1)) (omega arith) (λ e. omega arith) (λ l l′. omega (arith, i .shared .every .no-damage .head .readers-low)))
       refl (λ r l. record { below = omega (arith, i .own .readers-are r .shown (omega arith)); unpassed = λ j l′. absurd (omega arith) })
 
-  raise-kept : (p : ℕ) → p < publishers (s .words) → eqb (publisher s p .place) PLACE-SYNCHRONISING ≡ true → WholeInvariant damageRules (OwnOf detector) z (kept.advance g (Raise p) (raise versions s p .reply)) (raise versions s p .after)
+  raise-kept : (p : ℕ) → p < publishers (s .words) → eqb (publisher s p .place) PLACE-SYNCHRONISING ≡ true → WholeInvariant damageRules (invariantOf detector) z (kept.ghostStep g (Raise p) (raise versions s p .reply)) (raise versions s p .after)
   raise-kept p lt turn =
       let at35 = eqb-true (publisher s p .place) 35 turn in
       raise-invariant detector damageRules law z g s i p lt (omega arith) (omega arith)
@@ -226,15 +226,15 @@ module _ (z : Given) (g : Ghost) (s : State) (i : WholeInvariant damageRules (Ow
     still-counted : looksOf s (publisher s p .walk) b .walk .looks ≡ looksOf s (publisher s p .walk) b .walk .next + looksOf s (publisher s p .walk) b .walk .waits
     still-counted = omega (arith, came .counted, i .own .counted p (omega arith))
 
-    walk-kept : WholeInvariant damageRules (OwnOf detector) z (kept.advance g (Walk p b) (Walked (looksOf s (publisher s p .walk) b .reply))) (walk s p (looksOf s (publisher s p .walk) b) .after)
+    walk-kept : WholeInvariant damageRules (invariantOf detector) z (kept.ghostStep g (Walk p b) (Walked (looksOf s (publisher s p .walk) b .reply))) (walk s p (looksOf s (publisher s p .walk) b) .after)
     walk-kept =
-        let progress = looksOf s (publisher s p .walk) b in
-        walk-invariant detector damageRules law z g s i p b lt (omega arith) (omega arith) progress (came .waits-are) still-counted
-        (λ e. none-pending (returned-all (progress .reply) _ _ _ (came .ends) (rw at37 at e))) (came .mark-same) (rw at37 (after-clear (progress .reply) (progress .walk) (came .ends))) still-behind
+        let result = looksOf s (publisher s p .walk) b in
+        walk-invariant detector damageRules law z g s i p b lt (omega arith) (omega arith) result (came .waits-are) still-counted
+        (λ e. none-pending (returned-all (result .reply) _ _ _ (came .ends) (rw at37 at e))) (came .mark-same) (rw at37 (after-clear (result .reply) (result .walk) (came .ends))) still-behind
 
 start-shown : (z : Given) (s : State) → z .readers ≤ READERS-MAX → (r : ℕ) → Shown (version (made KIND-NEW freshReader z s .words)) (readers (made KIND-NEW freshReader z s .words)) r (readerAt (made KIND-NEW freshReader z s .words) r)
 start-shown z s high r = rw (fresh-reader KIND-NEW (z .readers) (z .publishers) (z .slots) (z .version) freshReader r)
-    (pick-split (λ (x : Reader). Shown (version (made KIND-NEW freshReader z s .words)) (readers (made KIND-NEW freshReader z s .words)) r x) (ltb r READERS-MAX)
+    (choose-split (λ (x : Reader). Shown (version (made KIND-NEW freshReader z s .words)) (readers (made KIND-NEW freshReader z s .words)) r x) (ltb r READERS-MAX)
     (λ _. record { first-low = omega arith; second-low = omega arith; shown = λ l′. absurd (omega arith); out = λ rn l′. refl })
     (λ e. record {
       first-low = omega arith;
@@ -250,14 +250,14 @@ return-numbers w n mark start b looks waits nx lk wt Spent e e′ = absurd (let 
 return-numbers w n mark start b looks waits nx lk wt Quiet e e′ = absurd e
 return-numbers w n mark start b looks waits nx lk wt (Returned looks′ waits′) e e′ = let same-looks : looks′ ≡ looks = cc in let same-waits : waits′ ≡ waits = cc in (e .0, sym same-looks ∙ e .2, sym same-waits ∙ e .3)
 
-return-shown : (z : Given) (g : Ghost) (s : State) (i : WholeInvariant damageRules (OwnOf detector) z g s) (p b looks waits : ℕ) → p < publishers (s .words) → eqb (publisher s p .place) PLACE-RAISED ≡ true
+return-shown : (z : Given) (g : Ghost) (s : State) (i : WholeInvariant damageRules (invariantOf detector) z g s) (p b looks waits : ℕ) → p < publishers (s .words) → eqb (publisher s p .place) PLACE-RAISED ≡ true
     → looksOf s (publisher s p .walk) b .reply ≡ Returned looks waits → Back traits z g p looks waits
 return-shown z g s i p b looks waits lt turn e =
     let at37 = eqb-true (publisher s p .place) 37 turn in
-    let progress = looksOf s (publisher s p .walk) b in
+    let result = looksOf s (publisher s p .walk) b in
     let facts = came z g s i p b lt at37 in
-    let numbers = return-numbers (s .words) (readers (s .words)) (publisher s p .walk .mark) (publisher s p .walk .next) b looks waits (progress .walk .next) (progress .walk .looks) (progress .walk .waits) (progress .reply) (facts .ends) e in
-    return-from-invariant detector damageRules law z g s i p b lt (omega arith) (omega arith) progress (facts .waits-are) (still-counted z g s i p b lt at37) traits looks waits at37 e
+    let numbers = return-numbers (s .words) (readers (s .words)) (publisher s p .walk .mark) (publisher s p .walk .next) b looks waits (result .walk .next) (result .walk .looks) (result .walk .waits) (result .reply) (facts .ends) e in
+    return-from-invariant detector damageRules law z g s i p b lt (omega arith) (omega arith) result (facts .waits-are) (still-counted z g s i p b lt at37) traits looks waits at37 e
     (none-pending z g s i p b lt at37 (numbers .0)) (numbers .1) (numbers .2) (numbers .0 ∙ i .shared .every .sized .readers-are)
 
 no-looks : (s : State) (p : ℕ) → looksOf s (publisher s p .walk) 0 ≡ record { walk = publisher s p .walk; reply = Spent }
@@ -280,7 +280,7 @@ kind-shows = record {
   walks-late = λ pl l. ne-eqb pl 37 (λ e. omega arith);
   mark-stays = λ s p b. looks-mark (s .words) (readers (s .words)) (publisher s p .walk .mark) (publisher s p .walk .waits) b (publisher s p .walk .next) (publisher s p .walk .looks);
   no-looks = no-looks;
-  Own = OwnOf detector;
+  KindInvariant = invariantOf detector;
   start-own = λ z s f. start-own detector KIND-NEW freshReader z s (start-shown z s (f .readers-high));
   fresh-is = refl;
   fresh-reader-fits = λ rs ss. refl;
@@ -304,6 +304,6 @@ kind-shows = record {
 
 -- The invariant after every list from fresh.
 pub new-reached : (s : State) (f : Fresh GraceVersion s) (cs : List Call)
-    → WholeInvariant damageRules (OwnOf detector) (f .arguments) (kept.afterEvents (kept.ghost₀ (traits .every .first (f .arguments))) (events GraceVersion s cs)) (afterAll GraceVersion s cs)
+    → WholeInvariant damageRules (invariantOf detector) (f .arguments) (kept.afterEvents (kept.ghost₀ (traits .every .first (f .arguments))) (events GraceVersion s cs)) (afterAll GraceVersion s cs)
 unfolding kind-shows
 new-reached s f cs = reached fixed traits kind-shows s f cs

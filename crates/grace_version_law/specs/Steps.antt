@@ -4,7 +4,7 @@ use Prim.Native.Nat.{ℕ, zero, suc, _+_}
 use mathlib.Core.Bool.{Bool, false, not, _&&_, _||_}
 use mathlib.Core.List.{List, [], _∷_}
 use lib.Dec.{leb, ltb, eqb}
-use Rattle.base.specs.Base.{pick}
+use Rattle.base.specs.Base.{choose}
 use Rattle.base.specs.Rows.{anyTrue}
 use Rattle.calls.specs.declared.WalkReply.{WalkReply}
 use Rattle.calls.specs.declared.WalkReply.the-variants.{Waiting, Spent, Returned}
@@ -12,14 +12,14 @@ use Rattle.calls.specs.Numbers.{NOT-READING, KIND-NEW, PLACE-OUT, PLACE-LOADED,
 use Rattle.layout.specs.declared.Reader.{Reader}
 use Rattle.layout.specs.declared.Publisher.{Publisher}
 use Rattle.layout.specs.declared.WalkRecord.{WalkRecord}
-use Rattle.layout.specs.declared.Progress.{Progress}
+use Rattle.layout.specs.declared.WalkResult.{WalkResult}
 use Rattle.layout.specs.Layout.{readers, current, version, readerAt, withReader, blankReader, noWalk}
 use Rattle.layout.specs.Records.{_place≔_, _first≔_, _second≔_, _published≔_, _picked≔_, _mark≔_, _next≔_, _looks≔_, _waits≔_}
 use Rattle.statement.specs.Machine.{State, Machine}
 use Rattle.publication_law.specs.Steps.{Versions, upTo, reader, publisher}
 use Rattle.publication_law.specs.Damage.{DamageRules, wrongPick, publisherRows}
 use Rattle.publication_law.specs.Table.{Table, machine}
-use Rattle.publication_law.specs.Rules.{Rules, tableBy}
+use Rattle.publication_law.specs.SectionRules.{SectionRules, tableBy}
 
 -- The last version: 2^64 - 2.
 abbrev pub LAST : ℕ
@@ -56,10 +56,10 @@ damageRules = record {
 -- 3 to 4 publishes the second if the two differ; 4 to 5 picks the current slot.
 unfoldable pub onward : ℕ → ℕ → Reader → Reader
 onward version current x =
-    pick (eqb (x .place) PLACE-OUT) (x place≔ PLACE-LOADED first≔ version)
-    (pick (eqb (x .place) PLACE-LOADED) (x place≔ PLACE-PUBLISHED published≔ x .first)
-    (pick (eqb (x .place) PLACE-PUBLISHED) (x place≔ PLACE-LOADED-AGAIN second≔ version)
-    (pick (eqb (x .place) PLACE-LOADED-AGAIN) (x place≔ PLACE-OPEN published≔ pick (eqb (x .first) (x .second)) (x .published) (x .second))
+    choose (eqb (x .place) PLACE-OUT) (x place≔ PLACE-LOADED first≔ version)
+    (choose (eqb (x .place) PLACE-LOADED) (x place≔ PLACE-PUBLISHED published≔ x .first)
+    (choose (eqb (x .place) PLACE-PUBLISHED) (x place≔ PLACE-LOADED-AGAIN second≔ version)
+    (choose (eqb (x .place) PLACE-LOADED-AGAIN) (x place≔ PLACE-OPEN published≔ choose (eqb (x .first) (x .second)) (x .published) (x .second))
     (x place≔ PLACE-PICKED picked≔ current))))
 
 abbrev pub entered : State → ℕ → Reader
@@ -73,22 +73,22 @@ leaving x = x place≔ PLACE-OUT published≔ NOT-READING
 abbrev pub lookedAt : ℕ → ℕ → ℕ
 lookedAt n i = i
 
-abbrev pub walkResult : ℕ → ℕ → ℕ → ℕ → WalkReply → Progress
+abbrev pub walkResult : ℕ → ℕ → ℕ → ℕ → WalkReply → WalkResult
 walkResult mark next looks waits a = record { walk = noWalk mark≔ mark next≔ next looks≔ looks waits≔ waits; reply = a }
 
 -- Up to b looks of a walk that has passed `next` of n readers: a look at a reader passes if its published version is at least mark; next then rises.
 -- WALK stops at the first reader not passed, adds one to waits and replies waiting with that reader. When next reaches the reader count: returned.
 -- Spent is the reply exactly if b looks all passed and next is still below the count. Every look, passed or not, adds one to looks.
-unfoldable pub looksFrom : List ℕ → ℕ → ℕ → ℕ → ℕ → ℕ → ℕ → Progress
+unfoldable pub looksFrom : List ℕ → ℕ → ℕ → ℕ → ℕ → ℕ → ℕ → WalkResult
 looksFrom w n mark waits zero next looks = walkResult mark next looks waits Spent
 looksFrom w n mark waits (suc b) next looks =
-    pick (ltb (readerAt w (lookedAt n next) .published) mark)
+    choose (ltb (readerAt w (lookedAt n next) .published) mark)
     (walkResult mark next (looks + 1) (waits + 1) (Waiting (lookedAt n next)))
-    (pick (leb n (next + 1))
+    (choose (leb n (next + 1))
     (walkResult mark (next + 1) (looks + 1) waits (Returned (looks + 1) waits))
     (looksFrom w n mark waits b (next + 1) (looks + 1)))
 
-abbrev pub looksOf : State → WalkRecord → ℕ → Progress
+abbrev pub looksOf : State → WalkRecord → ℕ → WalkResult
 looksOf s walk b = looksFrom (s .words) (readers (s .words)) (walk .mark) (walk .waits) b (walk .next) (walk .looks)
 
 -- A fresh reader's published version is NOT_READING, in all 64 records.
@@ -96,7 +96,7 @@ abbrev pub freshReader : Reader
 freshReader = blankReader NOT-READING
 
 -- Nothing else damages it; no 31; RAISE p at 35; WALK p b at 37.
-abbrev pub fixed : Rules
+abbrev pub fixed : SectionRules
 fixed = record {
   damage = damageRules;
   further = λ s. false;

@@ -20,6 +20,6 @@ traits = record {
   };
   passes = λ z. z .readers;
   successor = λ ver. ver + 1;
-  onward = suc;
+  nextPlace = suc;
   publishes = true;
 }

@@ -6,11 +6,11 @@ use mathlib.Core.Bool.{Bool, true, false}
 use mathlib.Core.List.{List}
 use lib.Dec.{leb, ltb, eqb}
 use borrow.Author.Tests.{eqb-true, eqb-false, leb-true, leb-false, ltb-true, ltb-false}
-use Rattle.base.specs.Base.{pick}
-use Rattle.base.specs.RowLaws.{pick-split}
+use Rattle.base.specs.Base.{choose}
+use Rattle.base.specs.RowLaws.{choose-split}
 use Rattle.calls.specs.declared.WalkReply.{WalkReply}
 use Rattle.calls.specs.declared.WalkReply.the-variants.{Waiting, Spent, Quiet, Returned}
-use Rattle.layout.specs.declared.Progress.{Progress}
+use Rattle.layout.specs.declared.WalkResult.{WalkResult}
 use Rattle.layout.specs.Layout.{readerAt}
 use Rattle.publication_law.specs.GraceKeeps.{waitsAfter}
 use Rattle.grace_version_law.specs.Steps.{lookedAt, walkResult, looksFrom}
@@ -30,14 +30,14 @@ Ends w n mark start b next looks waits Spent = (next < n) × (next ≡ start + b
 Ends w n mark start b next looks waits Quiet = ⊥
 Ends w n mark start b next looks waits (Returned looks′ waits′) = (next ≡ n) × (next ≤ start + b) × (looks′ ≡ looks) × (waits′ ≡ waits)
 
-pub record LooksFacts (w : List ℕ) (n mark b next looks waits : ℕ) (progress : Progress) : Type 0 where
-  pub mark-same : progress .walk .mark ≡ mark
-  pub ahead : next ≤ progress .walk .next
-  pub passed : (i : ℕ) → next ≤ i → i < progress .walk .next → mark ≤ readerAt w (lookedAt n i) .published
-  pub ends : Ends w n mark next b (progress .walk .next) (progress .walk .looks) (progress .walk .waits) (progress .reply)
+pub record LooksFacts (w : List ℕ) (n mark b next looks waits : ℕ) (result : WalkResult) : Type 0 where
+  pub mark-same : result .walk .mark ≡ mark
+  pub ahead : next ≤ result .walk .next
+  pub passed : (i : ℕ) → next ≤ i → i < result .walk .next → mark ≤ readerAt w (lookedAt n i) .published
+  pub ends : Ends w n mark next b (result .walk .next) (result .walk .looks) (result .walk .waits) (result .reply)
   -- each look passed a reader or waited
-  pub counted : progress .walk .looks + next + waits ≡ looks + progress .walk .next + progress .walk .waits
-  pub waits-are : progress .walk .waits ≡ waitsAfter waits (progress .reply)
+  pub counted : result .walk .looks + next + waits ≡ looks + result .walk .next + result .walk .waits
+  pub waits-are : result .walk .waits ≡ waitsAfter waits (result .reply)
 
 module _ (w : List ℕ) (n mark waits : ℕ) where
   ends-later : (start b nx lk wt : ℕ) (a : WalkReply) → Ends w n mark (start + 1) b nx lk wt a → Ends w n mark start (suc b) nx lk wt a
@@ -46,25 +46,25 @@ module _ (w : List ℕ) (n mark waits : ℕ) where
   ends-later start b nx lk wt Quiet e = e
   ends-later start b nx lk wt (Returned looks′ waits′) e = (e .0, omega (arith, e .1), e .2, e .3)
 
-  passed-one : (b next looks : ℕ) (progress : Progress) → mark ≤ readerAt w (lookedAt n next) .published → LooksFacts w n mark b (next + 1) (looks + 1) waits progress → LooksFacts w n mark (suc b) next looks waits progress
-  passed-one b next looks progress e facts = record {
+  passed-one : (b next looks : ℕ) (result : WalkResult) → mark ≤ readerAt w (lookedAt n next) .published → LooksFacts w n mark b (next + 1) (looks + 1) waits result → LooksFacts w n mark (suc b) next looks waits result
+  passed-one b next looks result e facts = record {
     mark-same = facts .mark-same;
     ahead = omega (arith, facts .ahead);
     passed = λ i low high. go i high (eqb i next) refl low;
-    ends = ends-later next b (progress .walk .next) (progress .walk .looks) (progress .walk .waits) (progress .reply) (facts .ends);
+    ends = ends-later next b (result .walk .next) (result .walk .looks) (result .walk .waits) (result .reply) (facts .ends);
     counted = omega (arith, facts .counted);
     waits-are = facts .waits-are;
   }
     where
-      go : (i : ℕ) → i < progress .walk .next → (d : Bool) → eqb i next ≡ d → next ≤ i → mark ≤ readerAt w (lookedAt n i) .published
+      go : (i : ℕ) → i < result .walk .next → (d : Bool) → eqb i next ≡ d → next ≤ i → mark ≤ readerAt w (lookedAt n i) .published
       go i high true d low = rw (eqb-true i next d) e
       go i high false d low = facts .passed i (let ne = eqb-false i next d in omega arith) high
 
   -- A look that does not pass ends the walk's slice; one that passes goes on with progress.
-  one-look : (waiting : Bool) (b next looks : ℕ) (progress : Progress) → next < n → (waiting ≡ true → readerAt w (lookedAt n next) .published < mark) → (waiting ≡ false → mark ≤ readerAt w (lookedAt n next) .published)
-      → LooksFacts w n mark b (next + 1) (looks + 1) waits progress → LooksFacts w n mark (suc b) next looks waits (pick waiting (walkResult mark next (looks + 1) (waits + 1) (Waiting (lookedAt n next))) progress)
-  one-look true b next looks progress l d e facts = record { mark-same = refl; ahead = omega arith; passed = λ i low high. absurd (omega arith); ends = (l, omega arith, refl, d refl); counted = omega arith; waits-are = refl }
-  one-look false b next looks progress l d e facts = passed-one b next looks progress (e refl) facts
+  one-look : (waiting : Bool) (b next looks : ℕ) (result : WalkResult) → next < n → (waiting ≡ true → readerAt w (lookedAt n next) .published < mark) → (waiting ≡ false → mark ≤ readerAt w (lookedAt n next) .published)
+      → LooksFacts w n mark b (next + 1) (looks + 1) waits result → LooksFacts w n mark (suc b) next looks waits (choose waiting (walkResult mark next (looks + 1) (waits + 1) (Waiting (lookedAt n next))) result)
+  one-look true b next looks result l d e facts = record { mark-same = refl; ahead = omega arith; passed = λ i low high. absurd (omega arith); ends = (l, omega arith, refl, d refl); counted = omega arith; waits-are = refl }
+  one-look false b next looks result l d e facts = passed-one b next looks result (e refl) facts
 
   -- The last reader passed.
   last-passed : (b next looks : ℕ) → next < n → n ≤ next + 1 → LooksFacts w n mark b (next + 1) (looks + 1) waits (walkResult mark (next + 1) (looks + 1) waits (Returned (looks + 1) waits))
@@ -81,14 +81,14 @@ module _ (w : List ℕ) (n mark waits : ℕ) where
   pub looks-mark : (b next looks : ℕ) → looksFrom w n mark waits b next looks .walk .mark ≡ mark
   unfolding looksFrom
   looks-mark zero next looks = refl
-  looks-mark (suc b) next looks = pick-split (λ (progress : Progress). progress .walk .mark ≡ mark) (ltb (readerAt w (lookedAt n next) .published) mark) (λ _. refl)
-      (λ _. pick-split (λ (progress : Progress). progress .walk .mark ≡ mark) (leb n (next + 1)) (λ _. refl) (λ _. looks-mark b (next + 1) (looks + 1)))
+  looks-mark (suc b) next looks = choose-split (λ (result : WalkResult). result .walk .mark ≡ mark) (ltb (readerAt w (lookedAt n next) .published) mark) (λ _. refl)
+      (λ _. choose-split (λ (result : WalkResult). result .walk .mark ≡ mark) (leb n (next + 1)) (λ _. refl) (λ _. looks-mark b (next + 1) (looks + 1)))
 
   pub looks-facts : (b next looks : ℕ) → next < n → LooksFacts w n mark b next looks waits (looksFrom w n mark waits b next looks)
   unfolding looksFrom
   looks-facts zero next looks l = record { mark-same = refl; ahead = omega arith; passed = λ i low high. absurd (omega arith); ends = (l, omega arith); counted = refl; waits-are = refl }
   looks-facts (suc b) next looks l = one-look _ b next looks _ l (ltb-true _ _) (not-below _ _ mark (omega arith))
-      (pick-split (LooksFacts w n mark b (next + 1) (looks + 1) waits) (leb n (next + 1))
+      (choose-split (LooksFacts w n mark b (next + 1) (looks + 1) waits) (leb n (next + 1))
       (λ d. last-passed b next looks l (leb-true n (next + 1) d))
       (λ d. looks-facts b (next + 1) (looks + 1) (leb-false n (next + 1) d)))
 

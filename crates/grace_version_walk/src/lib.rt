@@ -19,8 +19,8 @@ use calls::WalkReply;
 use grace_version_damage::head_is_damaged;
 use grace_version_damage::publishers_are_damaged;
 use grace_version_damage::readers_are_damaged;
-use layout::Progress;
 use layout::WalkRecord;
+use layout::WalkResult;
 use layout::publisher_at;
 use layout::publishers_of;
 use layout::reader_at;
@@ -37,7 +37,7 @@ fn looked_at(n: u64, passed: u64) -> u64
 }
 
 // Up to b looks of a walk over n readers.
-fn looks(words: &[u64], n: u64, walk: WalkRecord, b: u16) -> Progress
+fn looks(words: &[u64], n: u64, walk: WalkRecord, b: u16) -> WalkResult
     requires { ⌜ (length (now words) ≡ WORDS) × (n ≤ READERS-MAX)
         × (walk .next < n) × (walk .looks + b ≤ NUMBER-MAX) × (walk .waits ≤ walk .looks) ⌝ }
     ensures { λ k. ⌜ k ≡ looksFrom (now (words .entry)) n (walk .mark) (walk .waits) b (walk .next) (walk .looks) ⌝ }
@@ -60,7 +60,7 @@ fn looks(words: &[u64], n: u64, walk: WalkRecord, b: u16) -> Progress
             break WalkReply::Returned(moved.looks, moved.waits);
         }
     };
-    Progress {
+    WalkResult {
         walk: moved,
         reply: reply,
     }

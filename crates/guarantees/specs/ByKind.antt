@@ -14,7 +14,7 @@ use Rattle.calls.specs.declared.Call.{Call}
 use Rattle.calls.specs.declared.Reply.the-variants.{Refused}
 use Rattle.calls.specs.Events.{accepted}
 use Rattle.calls.specs.Model.{firstTable}
-use Rattle.calls.specs.ReplyNumbersLaws.{NarrowPitch, Representable}
+use Rattle.calls.specs.ReplyNumbersLaws.{PitchFitsWord, Representable}
 use Rattle.calls.specs.Numbers.{KIND-NEW, KIND-OLD}
 use Rattle.statement.specs.Machine.{State, Outcome, Given, Machine, Fresh, afterAll}
 use Rattle.statement.specs.Demand3.{Demand3}
@@ -31,7 +31,7 @@ use Rattle.two_phase_law.specs.Traits as old-traits
 use Rattle.two_phase_law.specs.Promises as old-store
 use Rattle.kinds_law.specs.Kinds.{Kind, tableOf, kindNumber, stepOf, makingOf, store}
 use Rattle.kinds_law.specs.Kinds.Kind.{new, old}
-use Rattle.kinds_law.specs.Calls.{number-own, step-named, making-named, making-unknown}
+use Rattle.kinds_law.specs.Calls.{number-is, step-named, making-named, making-unknown}
 
 -- A kind by itself.
 abbrev pub storeOf : Kind → Machine
@@ -53,7 +53,7 @@ kind-demand3 old = old-store.old-demand3
 pub alike : (kind : Kind) → Alike (storeOf kind) (store (kindNumber kind))
 alike kind = record {
   makings = λ z s. making-named kind z s;
-  steps = λ s f cs c. step-named kind (afterAll (storeOf kind) s cs) c (undamaged-facts (tableOf kind) (afterAll (storeOf kind) s cs) (kind-promises kind .never-damaged s f cs) .head .kind-is ∙ number-own kind);
+  steps = λ s f cs c. step-named kind (afterAll (storeOf kind) s cs) c (undamaged-facts (tableOf kind) (afterAll (storeOf kind) s cs) (kind-promises kind .never-damaged s f cs) .head .kind-is ∙ number-is kind);
 }
 
 -- A number that names no kind has no fresh store.
@@ -86,7 +86,7 @@ pub chosen-frame : (chosen : Option Kind) → Frame (λ s. publishesOf chosen) (
 chosen-frame none = record { words = λ s c. same-framed false c (s .words); entries = λ s c ne. refl; writes = λ s p v. record { stored = λ ok. clash (sym ok); others = λ j ne. refl; long = refl } }
 chosen-frame (some kind) = kind-promises kind .frame
 
-pub chosen-representable : (chosen : Option Kind) (s : State) (c : Call) → ((j : ℕ) → NarrowPitch (getD (s .entries) j (pos 0))) → Representable (stepOf chosen s c .reply)
+pub chosen-representable : (chosen : Option Kind) (s : State) (c : Call) → ((j : ℕ) → PitchFitsWord (getD (s .entries) j (pos 0))) → Representable (stepOf chosen s c .reply)
 chosen-representable none s c h = omega arith
 chosen-representable (some kind) s c h = kind-promises kind .representable s c h
 

@@ -10,7 +10,7 @@ use Rattle.calls.specs.declared.Call.{Call}
 use Rattle.calls.specs.declared.Call.the-variants.{Enter, Leave, Claim, Sync, Raise, Walk}
 use Rattle.calls.specs.declared.Reply.the-variants.{Walked, Refused}
 use Rattle.calls.specs.declared.WalkReply.the-variants.{Waiting, Spent}
-use Rattle.calls.specs.ReplyNumbersLaws.{NarrowPitch, Representable}
+use Rattle.calls.specs.ReplyNumbersLaws.{PitchFitsWord, Representable}
 use Rattle.calls.specs.Numbers.{PLACE-PUBLISHED}
 use Rattle.calls.specs.Events.{accepted}
 use Rattle.calls.specs.Tally.{tallyOf}
@@ -83,7 +83,7 @@ frame n = record {
 }
 
 -- Every reply of a store whose entries are pitches of 64 bits has three numbers for C that no other representable reply has.
-pub representable : (s : State) (c : Call) → ((j : ℕ) → NarrowPitch (getD (s .entries) j (pos 0))) → Representable (anyStep s c .reply)
+pub representable : (s : State) (c : Call) → ((j : ℕ) → PitchFitsWord (getD (s .entries) j (pos 0))) → Representable (anyStep s c .reply)
 unfolding anyStep
 representable s = chosen-representable (kindOfNumber (kindWord (s .words))) s
 

@@ -25,9 +25,9 @@ unfolding kindOfNumber
 number-named new = refl
 number-named old = refl
 
-pub number-own : (kind : Kind) → tableOf kind .damage .number ≡ kindNumber kind
-number-own new = refl
-number-own old = refl
+pub number-is : (kind : Kind) → tableOf kind .damage .number ≡ kindNumber kind
+number-is new = refl
+number-is old = refl
 
 -- No other number names a kind.
 pub named-none : (n : ℕ) → n ≢ KIND-NEW → n ≢ KIND-OLD → kindOfNumber n ≡ none

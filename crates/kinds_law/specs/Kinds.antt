@@ -3,7 +3,7 @@ use Prim.Native.Nat.{ℕ}
 use mathlib.Core.Bool.{Bool, false}
 use mathlib.Core.Option.{Option, none, some}
 use lib.Dec.{eqb}
-use Rattle.base.specs.Base.{pick}
+use Rattle.base.specs.Base.{choose}
 use Rattle.calls.specs.declared.Call.{Call}
 use Rattle.calls.specs.declared.Reply.the-variants.{Refused}
 use Rattle.calls.specs.Numbers.{KIND-NEW, KIND-OLD, DAMAGED}
@@ -30,7 +30,7 @@ kindNumber old = KIND-OLD
 
 -- The kind that a number names: 1 new, 2 old, every other number none.
 unfoldable pub kindOfNumber : ℕ → Option Kind
-kindOfNumber n = pick (eqb n KIND-NEW) (some new) (pick (eqb n KIND-OLD) (some old) none)
+kindOfNumber n = choose (eqb n KIND-NEW) (some new) (choose (eqb n KIND-OLD) (some old) none)
 
 -- A call is its kind's own step; words of no kind are damaged, and every call on them gets 1.
 abbrev pub stepOf : Option Kind → State → Call → Outcome

@@ -11,12 +11,12 @@ use lib.ListN.{getD, set, length, length-set, replicate, length-replicate}
 use lib.Seq.{getD-set-same, getD-set-other, set-getD}
 use lib.Dec.{ltb, eqb}
 use borrow.Author.Tests.{eqb-true, eqb-false, ne-eqb, ltb-true, ltb-false, lt-ltb, le-ltb}
-use Rattle.base.specs.Base.{pick, upd}
+use Rattle.base.specs.Base.{choose, upd}
 use Rattle.layout.specs.declared.Reader.{Reader}
 use Rattle.layout.specs.declared.Publisher.{Publisher}
 use Rattle.calls.specs.Numbers.{READERS-MAX, PUBLISHERS-MAX}
 use Rattle.layout.specs.Records.{_place≔_, _first≔_, _second≔_, _published≔_, _picked≔_, _atPlace_, _held≔_, _walk≔_, _mark≔_, _next≔_, _looks≔_, _waits≔_}
-use Rattle.layout.specs.Layout.{INDICATORS-AT, INDICATORS, indicator, withIndicator, KIND-AT, READERS-AT, PUBLISHERS-AT, SLOTS-AT, VERSION-AT, HEAD, READER-WORDS, FIRST-PUBLISHER, WORDS, readerWords, publisherWords, blankReader, noReader, noPublisher, putWords, readerRegion, publisherRegion, readerAt, publisherAt, withReader, withPublisher, withReaders, fresh}
+use Rattle.layout.specs.Layout.{INDICATORS-AT, INDICATORS, indicator, withIndicator, KIND-AT, READERS-AT, PUBLISHERS-AT, SLOTS-AT, VERSION-AT, HEAD, READER-WORDS, FIRST-PUBLISHER, WORDS, readerWords, publisherWords, blankReader, noReader, noPublisher, putWords, readerRegion, publisherRegion, readerAt, publisherAt, withReader, withPublisher, withReaders, freshWords}
 use Rattle.layout.specs.Regions.{Exact, length-record, record-leaves, region-by, region-zero, region-set, record-put, record-back, regions-apart}
 
 -- Readers and publishers are read from their words, each from its own.
@@ -101,22 +101,22 @@ pub indicator-by : (w′ w : List ℕ) → ((j : ℕ) → INDICATORS-AT ≤ j �
 unfolding indicator
 indicator-by w′ w e = fun-ext (λ i. go i (ltb i INDICATORS) refl)
   where
-    go : (i : ℕ) (b : Bool) → ltb i INDICATORS ≡ b → pick b (getD w′ (INDICATORS-AT + i) 0) 0 ≡ pick b (getD w (INDICATORS-AT + i) 0) 0
+    go : (i : ℕ) (b : Bool) → ltb i INDICATORS ≡ b → choose b (getD w′ (INDICATORS-AT + i) 0) 0 ≡ choose b (getD w (INDICATORS-AT + i) 0) 0
     go i true d = let l = ltb-true i INDICATORS d in e (INDICATORS-AT + i) (omega arith) (omega arith)
     go i false d = refl
 
 pub indicator-reader : (w : List ℕ) (r : ℕ) (x : Reader) → indicator (withReader w r x) ≡ indicator w
 indicator-reader w r x = indicator-by (withReader w r x) w (λ j low high. head-reader w r x j high)
 
-pub indicator-put : (w : List ℕ) (i n : ℕ) → i < INDICATORS → HEAD ≤ length w → (i′ : ℕ) → indicator (withIndicator w i n) i′ ≡ pick (eqb i i′) n (indicator w i′)
+pub indicator-put : (w : List ℕ) (i n : ℕ) → i < INDICATORS → HEAD ≤ length w → (i′ : ℕ) → indicator (withIndicator w i n) i′ ≡ choose (eqb i i′) n (indicator w i′)
 unfolding indicator
 indicator-put w i n low len i′ = go (eqb i i′) refl
   where
-    other : (b : Bool) → eqb i i′ ≡ false → pick b (getD (set w (INDICATORS-AT + i) n) (INDICATORS-AT + i′) 0) 0 ≡ pick b (getD w (INDICATORS-AT + i′) 0) 0
+    other : (b : Bool) → eqb i i′ ≡ false → choose b (getD (set w (INDICATORS-AT + i) n) (INDICATORS-AT + i′) 0) 0 ≡ choose b (getD w (INDICATORS-AT + i′) 0) 0
     other true d = getD-set-other w (INDICATORS-AT + i) (INDICATORS-AT + i′) n 0 (λ e. eqb-false i i′ d (omega arith))
     other false d = refl
 
-    go : (b : Bool) → eqb i i′ ≡ b → pick (ltb i′ INDICATORS) (getD (set w (INDICATORS-AT + i) n) (INDICATORS-AT + i′) 0) 0 ≡ pick b n (pick (ltb i′ INDICATORS) (getD w (INDICATORS-AT + i′) 0) 0)
+    go : (b : Bool) → eqb i i′ ≡ b → choose (ltb i′ INDICATORS) (getD (set w (INDICATORS-AT + i) n) (INDICATORS-AT + i′) 0) 0 ≡ choose b n (choose (ltb i′ INDICATORS) (getD w (INDICATORS-AT + i′) 0) 0)
     go true d = rw (← eqb-true i i′ d, lt-ltb i INDICATORS low) (getD-set-same w (INDICATORS-AT + i) n 0 (omega arith))
     go false d = other (ltb i′ INDICATORS) d
 
@@ -151,15 +151,15 @@ unfolding withReaders withReader
 readers-behind zero w x j le = refl
 readers-behind (suc n) w x j le = record-leaves readers-exact (withReaders n w x) n x j (inr (omega arith)) ∙ readers-behind n w x j (omega arith)
 
-readers-put : (n : ℕ) (w : List ℕ) (x : Reader) → length w ≡ WORDS → n ≤ READERS-MAX → (r : ℕ) → readerAt (withReaders n w x) r ≡ pick (ltb r n) x (readerAt w r)
+readers-put : (n : ℕ) (w : List ℕ) (x : Reader) → length w ≡ WORDS → n ≤ READERS-MAX → (r : ℕ) → readerAt (withReaders n w x) r ≡ choose (ltb r n) x (readerAt w r)
 unfolding withReaders
 readers-put zero w x len le r = rw (le-ltb r 0 (omega arith)) refl
 readers-put (suc n) w x len le r = at r (readers-put n w x len (omega arith) r)
   where
-    at : (r : ℕ) → readerAt (withReaders n w x) r ≡ pick (ltb r n) x (readerAt w r) → readerAt (withReader (withReaders n w x) n x) r ≡ pick (ltb r (suc n)) x (readerAt w r)
+    at : (r : ℕ) → readerAt (withReaders n w x) r ≡ choose (ltb r n) x (readerAt w r) → readerAt (withReader (withReaders n w x) n x) r ≡ choose (ltb r (suc n)) x (readerAt w r)
     at r e = ap (λ (f : ℕ → Reader). f r) (reader-put (λ (x′ : Reader). x′) (withReaders n w x) n x (length-readers n w x ∙ len) (omega arith)) ∙ go (eqb r n) refl (ltb r n) refl e
       where
-        go : (a : Bool) → eqb r n ≡ a → (b : Bool) → ltb r n ≡ b → readerAt (withReaders n w x) r ≡ pick b x (readerAt w r) → pick a x (readerAt (withReaders n w x) r) ≡ pick (ltb r (suc n)) x (readerAt w r)
+        go : (a : Bool) → eqb r n ≡ a → (b : Bool) → ltb r n ≡ b → readerAt (withReaders n w x) r ≡ choose b x (readerAt w r) → choose a x (readerAt (withReaders n w x) r) ≡ choose (ltb r (suc n)) x (readerAt w r)
         go true d b f e = rw (lt-ltb r (suc n) (omega (arith, eqb-true r n d))) refl
         go false d true f e = rw (lt-ltb r (suc n) (omega (arith, ltb-true r n f))) e
         go false d false f e = rw (ltb-none r n d f) e
@@ -170,12 +170,12 @@ readers-put (suc n) w x len le r = at r (readers-put n w x len (omega arith) r)
 -- w′ is w with one word stored.
 record Stored (w w′ : List ℕ) (j n : ℕ) : Type 0 where
   long : length w′ ≡ WORDS
-  at : (j′ : ℕ) → getD w′ j′ 0 ≡ pick (eqb j′ j) n (getD w j′ 0)
+  at : (j′ : ℕ) → getD w′ j′ 0 ≡ choose (eqb j′ j) n (getD w j′ 0)
 
 stored : (w : List ℕ) (j n : ℕ) → j < WORDS → length w ≡ WORDS → Stored w (set w j n) j n
 stored w j n lt len = record { long = length-set w j n ∙ len; at = λ j′. go j′ (eqb j′ j) refl }
   where
-    go : (j′ : ℕ) (b : Bool) → eqb j′ j ≡ b → getD (set w j n) j′ 0 ≡ pick b n (getD w j′ 0)
+    go : (j′ : ℕ) (b : Bool) → eqb j′ j ≡ b → getD (set w j n) j′ 0 ≡ choose b n (getD w j′ 0)
     go j′ true e = rw (eqb-true j′ j e) (getD-set-same w j n 0 (omega arith))
     go j′ false e = getD-set-other w j j′ n 0 (eqb-false j′ j e)
 
@@ -196,8 +196,8 @@ module _ (number rs ps ss ver : ℕ) (x : Reader) where
   u4 : List ℕ
   u4 = set u3 SLOTS-AT ss
 
-  fresh-is : fresh number rs ps ss ver x ≡ set u4 VERSION-AT ver
-  unfolding fresh u0 u1 u2 u3 u4
+  fresh-is : freshWords number rs ps ss ver x ≡ set u4 VERSION-AT ver
+  unfolding freshWords u0 u1 u2 u3 u4
   fresh-is = refl
 
   u0-long : length u0 ≡ WORDS
@@ -208,7 +208,7 @@ module _ (number rs ps ss ver : ℕ) (x : Reader) where
   unfolding u0
   u0-head j lt = readers-head READERS-MAX (replicate WORDS 0) x j lt ∙ zero-at WORDS j
 
-  u0-reader : (r : ℕ) → readerAt u0 r ≡ pick (ltb r READERS-MAX) x noReader
+  u0-reader : (r : ℕ) → readerAt u0 r ≡ choose (ltb r READERS-MAX) x noReader
   unfolding u0
   u0-reader r = readers-put READERS-MAX (replicate WORDS 0) x (length-replicate {A = ℕ} WORDS 0) (omega arith) r ∙ rw (blank-reader r) refl
 
@@ -232,35 +232,35 @@ module _ (number rs ps ss ver : ℕ) (x : Reader) where
   unfolding u4
   u4-is = stored u3 SLOTS-AT ss (omega arith) (u3-is .long)
 
-  u5-is : Stored u4 (fresh number rs ps ss ver x) VERSION-AT ver
+  u5-is : Stored u4 (freshWords number rs ps ss ver x) VERSION-AT ver
   u5-is = rw fresh-is (stored u4 VERSION-AT ver (omega arith) (u4-is .long))
 
-  pub fresh-long : length (fresh number rs ps ss ver x) ≡ WORDS
+  pub fresh-long : length (freshWords number rs ps ss ver x) ≡ WORDS
   fresh-long = u5-is .long
 
   -- Any word of fresh words, one of the head, and one behind the numbers that are given.
-  fresh-at : (j : ℕ) → getD (fresh number rs ps ss ver x) j 0 ≡ pick (eqb j VERSION-AT) ver (pick (eqb j SLOTS-AT) ss (pick (eqb j PUBLISHERS-AT) ps (pick (eqb j READERS-AT) rs (pick (eqb j KIND-AT) number (getD u0 j 0)))))
+  fresh-at : (j : ℕ) → getD (freshWords number rs ps ss ver x) j 0 ≡ choose (eqb j VERSION-AT) ver (choose (eqb j SLOTS-AT) ss (choose (eqb j PUBLISHERS-AT) ps (choose (eqb j READERS-AT) rs (choose (eqb j KIND-AT) number (getD u0 j 0)))))
   fresh-at j = rw (u5-is .at j, u4-is .at j, u3-is .at j, u2-is .at j, u1-is .at j) refl
 
   pub fresh-head : (j : ℕ) → j < HEAD
-      → getD (fresh number rs ps ss ver x) j 0 ≡ pick (eqb j VERSION-AT) ver (pick (eqb j SLOTS-AT) ss (pick (eqb j PUBLISHERS-AT) ps (pick (eqb j READERS-AT) rs (pick (eqb j KIND-AT) number 0))))
+      → getD (freshWords number rs ps ss ver x) j 0 ≡ choose (eqb j VERSION-AT) ver (choose (eqb j SLOTS-AT) ss (choose (eqb j PUBLISHERS-AT) ps (choose (eqb j READERS-AT) rs (choose (eqb j KIND-AT) number 0))))
   fresh-head j lt = rw (fresh-at j, u0-head j lt) refl
 
-  fresh-behind : (j : ℕ) → VERSION-AT < j → getD (fresh number rs ps ss ver x) j 0 ≡ getD u0 j 0
+  fresh-behind : (j : ℕ) → VERSION-AT < j → getD (freshWords number rs ps ss ver x) j 0 ≡ getD u0 j 0
   fresh-behind j lt = rw (fresh-at j, ne-eqb j VERSION-AT (λ eq. omega arith), ne-eqb j SLOTS-AT (λ eq. omega arith), ne-eqb j PUBLISHERS-AT (λ eq. omega arith), ne-eqb j READERS-AT (λ eq. omega arith), ne-eqb j KIND-AT (λ eq. omega arith)) refl
 
-  pub fresh-reader : (r : ℕ) → readerAt (fresh number rs ps ss ver x) r ≡ pick (ltb r READERS-MAX) x noReader
-  fresh-reader r = ap (λ (f : ℕ → Reader). f r) (reader-by (fresh number rs ps ss ver x) u0 (λ j low high. fresh-behind j (omega arith))) ∙ u0-reader r
+  pub fresh-reader : (r : ℕ) → readerAt (freshWords number rs ps ss ver x) r ≡ choose (ltb r READERS-MAX) x noReader
+  fresh-reader r = ap (λ (f : ℕ → Reader). f r) (reader-by (freshWords number rs ps ss ver x) u0 (λ j low high. fresh-behind j (omega arith))) ∙ u0-reader r
 
-  pub fresh-publisher : (p : ℕ) → publisherAt (fresh number rs ps ss ver x) p ≡ noPublisher
+  pub fresh-publisher : (p : ℕ) → publisherAt (freshWords number rs ps ss ver x) p ≡ noPublisher
   unfolding publisherAt
-  fresh-publisher = region-zero publishers-exact (fresh number rs ps ss ver x) (λ j low high. fresh-behind j (omega arith) ∙ u0-behind j low)
+  fresh-publisher = region-zero publishers-exact (freshWords number rs ps ss ver x) (λ j low high. fresh-behind j (omega arith) ∙ u0-behind j low)
 
-  pub fresh-indicator : (i : ℕ) → indicator (fresh number rs ps ss ver x) i ≡ 0
+  pub fresh-indicator : (i : ℕ) → indicator (freshWords number rs ps ss ver x) i ≡ 0
   unfolding indicator
   fresh-indicator i = go (ltb i INDICATORS) refl
     where
-      go : (b : Bool) → ltb i INDICATORS ≡ b → _≡_ {A = ℕ} (pick b (getD (fresh number rs ps ss ver x) (INDICATORS-AT + i) 0) 0) 0
+      go : (b : Bool) → ltb i INDICATORS ≡ b → _≡_ {A = ℕ} (choose b (getD (freshWords number rs ps ss ver x) (INDICATORS-AT + i) 0) 0) 0
       go true d = let l = ltb-true i INDICATORS d in fresh-behind (INDICATORS-AT + i) (omega arith) ∙ u0-head (INDICATORS-AT + i) (omega arith)
       go false d = refl
 

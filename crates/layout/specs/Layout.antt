@@ -4,7 +4,7 @@ use mathlib.Core.List.{List, [], _∷_}
 use lib.IntN.{ℤ, pos}
 use lib.ListN.{getD, set, replicate}
 use lib.Dec.{ltb}
-use Rattle.base.specs.Base.{pick}
+use Rattle.base.specs.Base.{choose}
 use Rattle.layout.specs.declared.Reader.{Reader}
 use Rattle.layout.specs.declared.Publisher.{Publisher}
 use Rattle.layout.specs.declared.WalkRecord.{WalkRecord}
@@ -80,7 +80,7 @@ releases w = getD w RELEASES-AT 0
 
 -- Indicator i; a number beyond the two has none, and reads as 0.
 unfoldable pub indicator : List ℕ → ℕ → ℕ
-indicator w i = pick (ltb i INDICATORS) (getD w (INDICATORS-AT + i) 0) 0
+indicator w i = choose (ltb i INDICATORS) (getD w (INDICATORS-AT + i) 0) 0
 
 abbrev pub withCurrent : List ℕ → ℕ → List ℕ
 withCurrent w n = set w CURRENT-AT n
@@ -142,7 +142,7 @@ ends region = begins region (region .count)
 
 -- Record j of a region; a number beyond the records has none, and reads as 0. And the words with record j replaced.
 abbrev pub recordAt : {A : Type 0} → Region A → List ℕ → ℕ → A
-recordAt region w j = pick (ltb j (region .count)) (region .from (λ i. getD w (begins region j + i) 0)) (region .from (λ i. 0))
+recordAt region w j = choose (ltb j (region .count)) (region .from (λ i. getD w (begins region j + i) 0)) (region .from (λ i. 0))
 
 abbrev pub withRecord : {A : Type 0} → Region A → List ℕ → ℕ → A → List ℕ
 withRecord region w j value = putWords w (begins region j) 0 (region .words value)
@@ -173,8 +173,8 @@ withReaders zero w x = w
 withReaders (suc n) w x = withReader (withReaders n w x) n x
 
 -- Words that are all 0, but for a head and the readers.
-unfoldable pub fresh : ℕ → ℕ → ℕ → ℕ → ℕ → Reader → List ℕ
-fresh number rs ps ss ver x = set (set (set (set (set (withReaders READERS-MAX (replicate WORDS 0) x) KIND-AT number) READERS-AT rs) PUBLISHERS-AT ps) SLOTS-AT ss) VERSION-AT ver
+unfoldable pub freshWords : ℕ → ℕ → ℕ → ℕ → ℕ → Reader → List ℕ
+freshWords number rs ps ss ver x = set (set (set (set (set (withReaders READERS-MAX (replicate WORDS 0) x) KIND-AT number) READERS-AT rs) PUBLISHERS-AT ps) SLOTS-AT ss) VERSION-AT ver
 
 -- Entry k of slot s is at s × 32 + k.
 abbrev pub entryAt : ℕ → ℕ → ℕ
@@ -182,4 +182,4 @@ entryAt slot k = slot * TABLE + k
 
 -- Entry k of a slot, and 0 where there is none.
 abbrev pub slotEntry : List ℤ → ℕ → ℕ → ℤ
-slotEntry es slot k = pick (ltb k TABLE) (getD es (entryAt slot k) (pos 0)) (pos 0)
+slotEntry es slot k = choose (ltb k TABLE) (getD es (entryAt slot k) (pos 0)) (pos 0)

@@ -11,7 +11,7 @@ use lib.ListN.{getD, set, length, length-set}
 use lib.Seq.{getD-set-same, getD-set-other, set-getD}
 use lib.Dec.{ltb, eqb}
 use borrow.Author.Tests.{eqb-true, eqb-false, ltb-true, ltb-false, lt-ltb}
-use Rattle.base.specs.Base.{pick, upd}
+use Rattle.base.specs.Base.{choose, upd}
 use Rattle.layout.specs.Layout.{Region, begins, ends, putWords, recordAt, withRecord}
 
 -- Words put in a row: how many there are, what stands elsewhere, what stands there; and words put where they stand already.
@@ -88,7 +88,7 @@ module _ {A : Type 0} {region : Region A} (exact : Exact region) where
   record-by : (w′ w : List ℕ) (j : ℕ) → (j < region .count → (i : ℕ) → i < region .stride → getD w′ (begins region j + i) 0 ≡ getD w (begins region j + i) 0) → recordAt region w′ j ≡ recordAt region w j
   record-by w′ w j e = go (ltb j (region .count)) refl
     where
-      go : (b : Bool) → ltb j (region .count) ≡ b → pick b (region .from (λ i. getD w′ (begins region j + i) 0)) (region .from (λ i. 0)) ≡ pick b (region .from (λ i. getD w (begins region j + i) 0)) (region .from (λ i. 0))
+      go : (b : Bool) → ltb j (region .count) ≡ b → choose b (region .from (λ i. getD w′ (begins region j + i) 0)) (region .from (λ i. 0)) ≡ choose b (region .from (λ i. getD w (begins region j + i) 0)) (region .from (λ i. 0))
       go true d = agree _ _ (e (ltb-true j (region .count) d))
       go false d = refl
 
@@ -98,7 +98,7 @@ module _ {A : Type 0} {region : Region A} (exact : Exact region) where
   pub region-zero : (w : List ℕ) → ((m : ℕ) → region .start ≤ m → m < ends region → getD w m 0 ≡ 0) → (j : ℕ) → recordAt region w j ≡ region .from (λ i. 0)
   region-zero w e j = go (ltb j (region .count)) refl
     where
-      go : (b : Bool) → ltb j (region .count) ≡ b → pick b (region .from (λ i. getD w (begins region j + i) 0)) (region .from (λ i. 0)) ≡ region .from (λ i. 0)
+      go : (b : Bool) → ltb j (region .count) ≡ b → choose b (region .from (λ i. getD w (begins region j + i) 0)) (region .from (λ i. 0)) ≡ region .from (λ i. 0)
       go true d = agree _ _ (λ i l. e (begins region j + i) (omega arith) (omega (arith, spaced region j (region .count) (ltb-true j (region .count) d))))
       go false d = refl
 

@@ -6,7 +6,7 @@ ghost use mathlib.Core.Path.{_≡_};
 ghost use Prim.Native.Nat.{_<_};
 ghost use lib.ListN.{length, replicate};
 ghost use Rattle.calls.specs.Numbers.{READERS-MAX, PUBLISHERS-MAX};
-ghost use Rattle.layout.specs.Layout.{WORDS, INDICATORS, kindWord, readers, publishers, slots, current, version, releases, indicator, withCurrent, withVersion, withReleases, withIndicator, readerAt, publisherAt, withReader, withPublisher, withReaders, blankReader, fresh};
+ghost use Rattle.layout.specs.Layout.{WORDS, INDICATORS, kindWord, readers, publishers, slots, current, version, releases, indicator, withCurrent, withVersion, withReleases, withIndicator, readerAt, publisherAt, withReader, withPublisher, withReaders, blankReader, freshWords};
 use calls::PUBLISHERS_MAX;
 use calls::WalkReply;
 
@@ -84,7 +84,7 @@ pub struct Publisher {
 }
 
 // What a walk came to: its numbers after its looks, and its answer.
-pub struct Progress {
+pub struct WalkResult {
     pub walk: WalkRecord,
     pub reply: WalkReply,
 }
@@ -280,7 +280,7 @@ pub fn put_fresh(
     published: u64,
 )
     requires { ⌜ length (now words) ≡ WORDS ⌝ }
-    ensures { λ _. ⌜ now (words .exit) ≡ fresh kind readers publishers slots version (blankReader published) ⌝ }
+    ensures { λ _. ⌜ now (words .exit) ≡ freshWords kind readers publishers slots version (blankReader published) ⌝ }
 {
     clear(words);
     publish_all(words, published);

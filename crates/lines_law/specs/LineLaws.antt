@@ -8,7 +8,7 @@ use lib.Dec.{eqb, ltb}
 use lib.ListN.{length, take, length-append, length-take}
 use lib.Seq.{take-all, take-append-le}
 use borrow.Author.Tests.{ltb-true, ltb-false}
-use Rattle.base.specs.RowLaws.{pick-split}
+use Rattle.base.specs.RowLaws.{choose-split}
 use Rattle.lines_law.specs.Lines.{NEWLINE, linesFrom, linesOf, LineReader, printedFor, Midway, midway, joined, byte, saidAt, fed, printed, ending}
 
 module _ (L : LineReader) where
@@ -35,7 +35,7 @@ module _ (L : LineReader) where
     pub says-told : (kept : L .Kept) (l : List ℕ) → L .says kept (first l) ≡ L .says kept l
 
   first-joined : (begun : List ℕ) (b : ℕ) → joined L (first begun) b ≡ first (begun ++ (b ∷ []))
-  first-joined begun b = pick-split (λ (l : List ℕ). l ≡ first (begun ++ (b ∷ []))) (ltb (L .longest) (length (first begun)))
+  first-joined begun b = choose-split (λ (l : List ℕ). l ≡ first (begun ++ (b ∷ []))) (ltb (L .longest) (length (first begun)))
       (λ e. sym (take-append-le (suc (L .longest)) begun (b ∷ []) (omega (arith, ltb-true (L .longest) (length (first begun)) e, length-take (suc (L .longest)) begun))))
       (λ e. let short : length begun ≤ L .longest = omega (arith, ltb-false (L .longest) (length (first begun)) e, length-take (suc (L .longest)) begun) in
       ap (λ (l : List ℕ). l ++ (b ∷ [])) (take-all (suc (L .longest)) begun (omega arith)) ∙ sym (take-all (suc (L .longest)) (begun ++ (b ∷ [])) (omega (arith, length-append begun (b ∷ [])))))

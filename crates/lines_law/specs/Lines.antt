@@ -4,7 +4,7 @@ use mathlib.Core.Bool.{Bool, true, false}
 use mathlib.Core.List.{List, [], _∷_, _++_}
 use lib.Dec.{eqb, ltb}
 use lib.ListN.{length}
-use Rattle.base.specs.Base.{pick}
+use Rattle.base.specs.Base.{choose}
 
 abbrev pub NEWLINE : ℕ
 NEWLINE = 10
@@ -15,8 +15,8 @@ isEmpty (b ∷ l) = false
 
 -- The lines of a text, of whose first some bytes are read already. The last line may lack its newline.
 unfoldable pub linesFrom : List ℕ → List ℕ → List (List ℕ)
-linesFrom begun [] = pick (isEmpty begun) [] (begun ∷ [])
-linesFrom begun (b ∷ t) = pick (eqb b NEWLINE) (begun ∷ linesFrom [] t) (linesFrom (begun ++ (b ∷ [])) t)
+linesFrom begun [] = choose (isEmpty begun) [] (begun ∷ [])
+linesFrom begun (b ∷ t) = choose (eqb b NEWLINE) (begun ∷ linesFrom [] t) (linesFrom (begun ++ (b ∷ [])) t)
 
 abbrev pub linesOf : List ℕ → List (List ℕ)
 linesOf t = linesFrom [] t
@@ -49,14 +49,14 @@ module _ (L : LineReader) where
 
   -- Of a longer line, one byte more than the longest is kept: it tells that it is one.
   abbrev pub joined : List ℕ → ℕ → List ℕ
-  joined begun b = pick (ltb (L .longest) (length begun)) begun (begun ++ (b ∷ []))
+  joined begun b = choose (ltb (L .longest) (length begun)) begun (begun ++ (b ∷ []))
 
   -- A newline ends the line and every other byte joins it.
   abbrev pub byte : Midway (L .Kept) → ℕ → Midway (L .Kept)
-  byte d b = pick (eqb b NEWLINE) (midway [] (L .after (d .kept) (d .begun))) (midway (joined (d .begun) b) (d .kept))
+  byte d b = choose (eqb b NEWLINE) (midway [] (L .after (d .kept) (d .begun))) (midway (joined (d .begun) b) (d .kept))
 
   abbrev pub saidAt : Midway (L .Kept) → ℕ → List ℕ
-  saidAt d b = pick (eqb b NEWLINE) (L .says (d .kept) (d .begun)) []
+  saidAt d b = choose (eqb b NEWLINE) (L .says (d .kept) (d .begun)) []
 
   unfoldable pub fed : Midway (L .Kept) → List ℕ → Midway (L .Kept)
   fed d [] = d
@@ -68,4 +68,4 @@ module _ (L : LineReader) where
 
 -- At the end of the input a line that was begun is the last line.
 abbrev pub ending : List ℕ → List ℕ
-ending begun = pick (isEmpty begun) [] (NEWLINE ∷ [])
+ending begun = choose (isEmpty begun) [] (NEWLINE ∷ [])

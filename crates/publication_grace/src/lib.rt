@@ -21,9 +21,9 @@ use calls::PUBLISHER_TURN;
 use calls::Reply;
 use calls::VERSION_IS_LAST;
 use calls::WalkReply;
-use layout::Progress;
 use layout::Publisher;
 use layout::WalkRecord;
+use layout::WalkResult;
 use layout::publisher_at;
 use layout::publisher_place;
 use layout::publishers_of;
@@ -100,7 +100,7 @@ fn place_after(place: u64, reply: WalkReply) -> u64
 }
 
 // The end of a WALK of publisher p, whose record is y: what its looks came to is recorded, and answered.
-pub fn end_walk(words: &mut [u64], p: usize, y: Publisher, k: Progress) -> Reply
+pub fn end_walk(words: &mut [u64], p: usize, y: Publisher, k: WalkResult) -> Reply
     requires { ⌜ InBounds (now words) × (p < publishers (now words)) × (y ≡ publisherAt (now words) p) ⌝ }
     ensures { λ a. ⌜ ((es : List ℤ) → outcome a (state (now (words .exit)) es)
         ≡ walk (state (now (words .entry)) es) p k) ⌝ }

@@ -20,17 +20,17 @@ use Rattle.calls.specs.declared.Reply.the-variants.{Made, Pitch, Claimed, Writt
 use Rattle.calls.specs.Numbers.{FEATHERED, PITCH-LOW, PITCH-HIGH, MODULUS, NUMBER-MAX, PLACE-OPEN, PLACE-PICKED, PLACE-IDLE, PLACE-CLAIMED, PLACE-WRITTEN, PLACE-SWAPPED, PLACE-SYNCHRONISING, PLACE-RAISED, PLACE-RETURNED, DAMAGED}
 use Rattle.layout.specs.declared.Reader.{Reader}
 use Rattle.layout.specs.declared.Publisher.{Publisher}
-use Rattle.layout.specs.declared.Progress.{Progress}
-use Rattle.layout.specs.Layout.{readers, publishers, slots, current, version, releases, readerAt, publisherAt, withPublisher, withCurrent, withVersion, withReleases, entryAt, fresh}
+use Rattle.layout.specs.declared.WalkResult.{WalkResult}
+use Rattle.layout.specs.Layout.{readers, publishers, slots, current, version, releases, readerAt, publisherAt, withPublisher, withCurrent, withVersion, withReleases, entryAt, freshWords}
 use Rattle.layout.specs.Records.{_atPlace_, _held≔_, _walk≔_}
 use Rattle.statement.specs.Machine.{State, state, Outcome, outcome, given}
 use Rattle.publication_law.specs.Steps.{Versions, upTo, decide, reader, publisher, newWalk, anotherBusy, inUse, lookTests, look, claimTests, claim, writeTests, write, swapTests, swap, syncTests, sync, raise, walked, walk, releaseTests, release, makingTests, made}
-use Rattle.publication_law.specs.Damage.{headRows, sharedDamage, readersTest, publishersTest}
+use Rattle.publication_law.specs.Damage.{headRows, sharedDamage, readersAreDamaged, publishersAreDamaged}
 use Rattle.publication_law.specs.DamageLaws.{Undamaged, undamaged-of, tests-shared, readers-test-false, publishers-test-false}
 use Rattle.publication_law.specs.Decide.{decide-accepts}
 use Rattle.publication_law.specs.Clear.{claim-rows}
 use Rattle.publication_law.specs.Table.{Table, damaged, step}
-use Rattle.publication_law.specs.Rules.{Rules, tableBy}
+use Rattle.publication_law.specs.SectionRules.{SectionRules, tableBy}
 
 -- A call of a damaged store; and of one that is not, where 1 tells that the kind lacks it.
 pub step-damaged : (T : Table) (s : State) (c : Call) → damaged T s ≡ true → outcome (Refused DAMAGED) s ≡ step T s c
@@ -51,7 +51,7 @@ module _ (T : Table) (s : State) where
   unfolding damaged
   undamaged-further e = or-false (sharedDamage (T .damage) s) (T .further s) e .1
 
-  pub undamaged : anyTrue (headRows (T .damage) s) ≡ false → readersTest (T .damage) s ≡ false → T .further s ≡ false → publishersTest (T .damage) s ≡ false → damaged T s ≡ false
+  pub undamaged : anyTrue (headRows (T .damage) s) ≡ false → readersAreDamaged (T .damage) s ≡ false → T .further s ≡ false → publishersAreDamaged (T .damage) s ≡ false → damaged T s ≡ false
   unfolding damaged
   undamaged head-ok readers-ok further-ok publishers-ok = neither (sharedDamage (T .damage) s) (T .further s) (tests-shared (T .damage) s head-ok readers-ok publishers-ok) further-ok
 
@@ -67,32 +67,32 @@ module _ (T : Table) (s : State) where
   unfolding damaged
   damaged-head e = rw e refl
 
-  pub damaged-readers : readersTest (T .damage) s ≡ true → damaged T s ≡ true
-  damaged-readers = unless (readersTest (T .damage) s) (λ d. readers-test-false (T .damage) s (undamaged-facts d))
+  pub damaged-readers : readersAreDamaged (T .damage) s ≡ true → damaged T s ≡ true
+  damaged-readers = unless (readersAreDamaged (T .damage) s) (λ d. readers-test-false (T .damage) s (undamaged-facts d))
 
-  pub damaged-publishers : publishersTest (T .damage) s ≡ true → damaged T s ≡ true
-  damaged-publishers = unless (publishersTest (T .damage) s) (λ d. publishers-test-false (T .damage) s (undamaged-facts d))
+  pub damaged-publishers : publishersAreDamaged (T .damage) s ≡ true → damaged T s ≡ true
+  damaged-publishers = unless (publishersAreDamaged (T .damage) s) (λ d. publishers-test-false (T .damage) s (undamaged-facts d))
 
   pub damaged-further : T .further s ≡ true → damaged T s ≡ true
   damaged-further = unless (T .further s) undamaged-further
 
 -- ENTER below 5 and LEAVE at 4 and 5.
-module _ (R : Rules) (s : State) (clean : damaged (tableBy R) s ≡ false) (r : ℕ) (x : Reader) (named : r < readers (s .words)) (is : x ≡ reader s r) where
+module _ (R : SectionRules) (s : State) (no-damage : damaged (tableBy R) s ≡ false) (r : ℕ) (x : Reader) (named : r < readers (s .words)) (is : x ≡ reader s r) where
   pub enter-accepted : x .place < PLACE-PICKED → tableBy R .act s (Enter r) ≡ step (tableBy R) s (Enter r)
-  enter-accepted turn = sym (decide-accepts (tableBy R .tests s (Enter r)) (tableBy R .act s (Enter r)) s (lt-leb _ _ named, (lt-leb 5 _ (rw is at turn), tt))) ∙ step-undamaged (tableBy R) s (Enter r) clean
+  enter-accepted turn = sym (decide-accepts (tableBy R .tests s (Enter r)) (tableBy R .act s (Enter r)) s (lt-leb _ _ named, (lt-leb 5 _ (rw is at turn), tt))) ∙ step-undamaged (tableBy R) s (Enter r) no-damage
 
   pub leave-accepted : PLACE-OPEN ≤ x .place → tableBy R .act s (Leave r) ≡ step (tableBy R) s (Leave r)
-  leave-accepted turn = sym (decide-accepts (tableBy R .tests s (Leave r)) (tableBy R .act s (Leave r)) s (lt-leb _ _ named, (le-ltb _ 4 (rw is at turn), tt))) ∙ step-undamaged (tableBy R) s (Leave r) clean
+  leave-accepted turn = sym (decide-accepts (tableBy R .tests s (Leave r)) (tableBy R .act s (Leave r)) s (lt-leb _ _ named, (le-ltb _ 4 (rw is at turn), tt))) ∙ step-undamaged (tableBy R) s (Leave r) no-damage
 
 -- RAISE and WALK, at a place that the kind allows.
-module _ (R : Rules) (s : State) (clean : damaged (tableBy R) s ≡ false) (o : Outcome) (p : ℕ) (y : Publisher) (named : p < publishers (s .words)) (is : y ≡ publisher s p) where
+module _ (R : SectionRules) (s : State) (no-damage : damaged (tableBy R) s ≡ false) (o : Outcome) (p : ℕ) (y : Publisher) (named : p < publishers (s .words)) (is : y ≡ publisher s p) where
   pub raise-is : R .raisesAt (y .place) ≡ true → o ≡ raise (R .damage .versions) s p → o ≡ step (tableBy R) s (Raise p)
   raise-is turn e =
-      e ∙ sym (decide-accepts (tableBy R .tests s (Raise p)) (tableBy R .act s (Raise p)) s (lt-leb _ _ named, (negated _ (rw is at turn), tt))) ∙ step-undamaged (tableBy R) s (Raise p) clean
+      e ∙ sym (decide-accepts (tableBy R .tests s (Raise p)) (tableBy R .act s (Raise p)) s (lt-leb _ _ named, (negated _ (rw is at turn), tt))) ∙ step-undamaged (tableBy R) s (Raise p) no-damage
 
-  pub walk-is : (b : ℕ) (progress : Progress) → R .walksAt (y .place) ≡ true → y .walk .looks + b ≤ NUMBER-MAX → progress ≡ R .looks s p b → o ≡ walk s p progress → o ≡ step (tableBy R) s (Walk p b)
-  walk-is b progress turn room looks e =
-      e ∙ rw looks (sym (decide-accepts (tableBy R .tests s (Walk p b)) (tableBy R .act s (Walk p b)) s (lt-leb _ _ named, (negated _ (rw is at turn), (le-ltb _ _ (rw is at room), tt)))) ∙ step-undamaged (tableBy R) s (Walk p b) clean)
+  pub walk-is : (b : ℕ) (result : WalkResult) → R .walksAt (y .place) ≡ true → y .walk .looks + b ≤ NUMBER-MAX → result ≡ R .looks s p b → o ≡ walk s p result → o ≡ step (tableBy R) s (Walk p b)
+  walk-is b result turn room looks e =
+      e ∙ rw looks (sym (decide-accepts (tableBy R .tests s (Walk p b)) (tableBy R .act s (Walk p b)) s (lt-leb _ _ named, (negated _ (rw is at turn), (le-ltb _ _ (rw is at room), tt)))) ∙ step-undamaged (tableBy R) s (Walk p b) no-damage)
 
 -- Up to the version before the last a SYNC is allowed, and its mark does not run over.
 pub last-is : (last ver : ℕ) → 1 ≤ last → ver ≤ last → upTo last .isLast ver ≡ ltb (last - 1) ver
@@ -147,9 +147,9 @@ module _ (w : List ℕ) (p : ℕ) (y : Publisher) (named : p < publishers w) (is
       → (es : List ℤ) → outcome Shared (state w′ es) ≡ raise vs (state w es) p
   shared-is vs w′ ne put es = rw (put, is, ne-eqb _ _ (rw is at ne)) refl
 
-  pub walked-is : (w′ : List ℕ) (progress : Progress) → w′ ≡ withPublisher w p (walked y progress)
-      → (es : List ℤ) → outcome (Walked (progress .reply)) (state w′ es) ≡ walk (state w es) p progress
-  walked-is w′ progress put es = rw (put, is) refl
+  pub walked-is : (w′ : List ℕ) (result : WalkResult) → w′ ≡ withPublisher w p (walked y result)
+      → (es : List ℤ) → outcome (Walked (result .reply)) (state w′ es) ≡ walk (state w es) p result
+  walked-is w′ result put es = rw (put, is) refl
 
   pub release-is : (w′ : List ℕ) (n : ℕ) → y .place ≡ PLACE-RETURNED → n ≡ (releases w + 1) % MODULUS → w′ ≡ withReleases (withPublisher w p (y atPlace PLACE-IDLE)) n
       → (es : List ℤ) → outcome (Freed (y .held) n) (state w′ es) ≡ decide (releaseTests (state w es) p) (release (state w es) p) (state w es)
@@ -158,7 +158,7 @@ module _ (w : List ℕ) (p : ℕ) (y : Publisher) (named : p < publishers w) (is
 
 -- Making, by the number of its first row that applies.
 module _ (vs : Versions) (w : List ℕ) (es : List ℤ) (kind rs ps ss ver : ℕ) (x : Reader) where
-  pub make-is : (w′ : List ℕ) (es′ : List ℤ) → firstOf (makingTests vs (given rs ps ss ver) (state w es)) ≡ 0 → w′ ≡ fresh kind rs ps ss ver x → es′ ≡ replicate (length es) FEATHERED
+  pub make-is : (w′ : List ℕ) (es′ : List ℤ) → firstOf (makingTests vs (given rs ps ss ver) (state w es)) ≡ 0 → w′ ≡ freshWords kind rs ps ss ver x → es′ ≡ replicate (length es) FEATHERED
       → outcome Made (state w′ es′) ≡ decide (makingTests vs (given rs ps ss ver) (state w es)) (outcome Made (made kind x (given rs ps ss ver) (state w es))) (state w es)
   make-is w′ es′ e put fill = rw (put, fill, e) refl
 

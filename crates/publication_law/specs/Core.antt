@@ -9,7 +9,7 @@ use mathlib.Core.Option.{Option, none, some}
 use lib.IntN.{ℤ}
 use lib.ListN.{length}
 use lib.Dec.{leb, eqb}
-use Rattle.base.specs.Base.{pick}
+use Rattle.base.specs.Base.{choose}
 use Rattle.calls.specs.Numbers.{TABLE, PLACE-OUT, PLACE-PICKED, PLACE-CLAIMED, PLACE-WRITTEN}
 use Rattle.calls.specs.Model.{Model, entry}
 use Rattle.calls.specs.Told.{Told}
@@ -29,7 +29,7 @@ pub record ReaderAgrees (readerCount current : ℕ) (formerSlots : ℕ → ℕ �
   -- who is not at place 0 is a reader of the store
   pub bound : PLACE-OUT < place → r < readerCount
   -- at place 5 the slot told picked is the stored one, at every other place none is
-  pub picked-is : toldPick ≡ pick (eqb place PLACE-PICKED) (some pickedSlot) none
+  pub picked-is : toldPick ≡ choose (eqb place PLACE-PICKED) (some pickedSlot) none
   -- the picked slot is the current one or someone's former one
   pub current-or-former : place ≡ PLACE-PICKED → CurrentOrFormer current formerSlots pickedSlot
   -- the picked slot's entries are the note
@@ -60,7 +60,7 @@ pub record Core (model : Model) (told : Told) (readerCount publisherCount curren
     (formerSlots : ℕ → ℕ → Bool) (entries : ℕ → ℕ → ℤ) : Type 0 where
   pub readers : (r : ℕ) → ReaderAgrees readerCount current formerSlots entries r (readerPlace r) (readerPick r) (told .picked r) (model .note r)
   pub publishers : (p : ℕ)
-      → PublisherAgrees publisherCount current entries p (publisherPlace p) (claimedSlot p) (formerSlots p) (told .writing p) (told .claim p) (told .former p) (model .draft p)
+      → PublisherAgrees publisherCount current entries p (publisherPlace p) (claimedSlot p) (formerSlots p) (told .claimed p) (told .lastClaim p) (told .former p) (model .draft p)
   -- two publishers never hold one slot
   pub distinct : (p q slot : ℕ) → Hold (publisherPlace p) (claimedSlot p) (formerSlots p) slot → Hold (publisherPlace q) (claimedSlot q) (formerSlots q) slot → p ≡ q
   -- told and stored agree on the current slot

@@ -69,7 +69,7 @@ writing-not pl f = go (leb 1 pl) refl (leb pl 33) refl
 module _ (h : Model) (t : Told) (n m cur : ℕ) (rpl rpk ppl pcl : ℕ → ℕ) (F : ℕ → ℕ → Bool) (E : ℕ → ℕ → ℤ) (i : Core h t n m cur rpl rpk ppl pcl F E) where
   -- A reader moves, with what is told of the readers and their notes.
   reader-core : (r pl pk : ℕ) (inside : ℕ → Bool) (picked : ℕ → Option ℕ) (note : ℕ → List ℤ) → ((j : ℕ) → ReaderAgrees n cur F E j (upd rpl r pl j) (upd rpk r pk j) (picked j) (note j))
-      → Core (record { table = h .table; note = note; draft = h .draft }) (record { inside = inside; picked = picked; current = t .current; claim = t .claim; writing = t .writing; former = t .former })
+      → Core (record { table = h .table; note = note; draft = h .draft }) (record { inside = inside; picked = picked; current = t .current; lastClaim = t .lastClaim; claimed = t .claimed; former = t .former })
       n m cur (upd rpl r pl) (upd rpk r pk) ppl pcl F E
   reader-core r pl pk inside picked note ok = record { readers = ok; publishers = i .publishers; distinct = i .distinct; current-is = i .current-is; table = i .table; whole = i .whole }
 
@@ -221,7 +221,7 @@ module _ (h : Model) (t : Told) (n m cur : ℕ) (rpl rpk ppl pcl : ℕ → ℕ) 
     whole = omega (arith, at-p .drafted (omega arith) (omega arith));
   }
     where
-      at-p : PublisherAgrees m cur E p (ppl p) (pcl p) (F p) (t .writing p) (t .claim p) (t .former p) (h .draft p)
+      at-p : PublisherAgrees m cur E p (ppl p) (pcl p) (F p) (t .claimed p) (t .lastClaim p) (t .former p) (h .draft p)
       at-p = i .publishers p
 
       mine : Hold (ppl p) (pcl p) (F p) (pcl p)
@@ -297,7 +297,7 @@ module _ (h : Model) (t : Told) (n m cur : ℕ) (rpl rpk ppl pcl : ℕ → ℕ) 
     whole = i .whole;
   }
     where
-      at-p : PublisherAgrees m cur E p (ppl p) (pcl p) (F p) (t .writing p) (t .claim p) (t .former p) (h .draft p)
+      at-p : PublisherAgrees m cur E p (ppl p) (pcl p) (F p) (t .claimed p) (t .lastClaim p) (t .former p) (h .draft p)
       at-p = i .publishers p
 
       mine : Hold (ppl p) (pcl p) (F p) (pcl p)
@@ -381,7 +381,7 @@ module _ (h : Model) (t : Told) (n m cur : ℕ) (rpl rpk ppl pcl : ℕ → ℕ) 
     where
       not-free : rpk r ≡ x → CurrentOrFormer cur F (rpk r) → ⊥
       not-free e (is-current d) = not-both _ (told-current x ∙ eq-eqb cur x (sym d ∙ e)) (f .0)
-      not-free e (is-former q d) = not-both (holds t q x) (or-right (t .writing q x) (t .former q x) (i .publishers q .former-is x ∙ rw (← e) d)) (f .1 q)
+      not-free e (is-former q d) = not-both (holds t q x) (or-right (t .claimed q x) (t .former q x) (i .publishers q .former-is x ∙ rw (← e) d)) (f .1 q)
 
   -- A slot that nobody holds and that is not current is told free.
   pub free-core : (x : ℕ) → cur ≢ x → ((q : ℕ) → Hold (ppl q) (pcl q) (F q) x → ⊥) → Has t x free

@@ -45,18 +45,18 @@ publisherRows vs slots y =
     ∷ []
 
 -- Numbers of readers and publishers beyond the sizes are not tested.
-abbrev pub readersDamaged : DamageRules → State → Bool
-readersDamaged K s = anyBelow (λ r. K .readerDamaged (readers (s .words)) (slots (s .words)) (reader s r)) (readers (s .words))
+abbrev pub firstReadersDamaged : DamageRules → State → Bool
+firstReadersDamaged K s = anyBelow (λ r. K .readerDamaged (readers (s .words)) (slots (s .words)) (reader s r)) (readers (s .words))
 
-abbrev pub publishersDamaged : DamageRules → State → Bool
-publishersDamaged K s = anyBelow (λ p. K .publisherDamaged (readers (s .words)) (slots (s .words)) (publisher s p)) (publishers (s .words))
+abbrev pub firstPublishersDamaged : DamageRules → State → Bool
+firstPublishersDamaged K s = anyBelow (λ p. K .publisherDamaged (readers (s .words)) (slots (s .words)) (publisher s p)) (publishers (s .words))
 
 abbrev pub sharedDamage : DamageRules → State → Bool
-sharedDamage K s = anyTrue (headRows K s) || readersDamaged K s || publishersDamaged K s
+sharedDamage K s = anyTrue (headRows K s) || firstReadersDamaged K s || firstPublishersDamaged K s
 
 -- The same of the readers alone and of the publishers alone, of any words: another length and a count outside the making rules damage here too.
-abbrev pub readersTest : DamageRules → State → Bool
-readersTest K s = not (eqb (length (s .words)) WORDS) || outside 1 READERS-MAX (readers (s .words)) || readersDamaged K s
+abbrev pub readersAreDamaged : DamageRules → State → Bool
+readersAreDamaged K s = not (eqb (length (s .words)) WORDS) || outside 1 READERS-MAX (readers (s .words)) || firstReadersDamaged K s
 
-abbrev pub publishersTest : DamageRules → State → Bool
-publishersTest K s = not (eqb (length (s .words)) WORDS) || outside 1 PUBLISHERS-MAX (publishers (s .words)) || publishersDamaged K s
+abbrev pub publishersAreDamaged : DamageRules → State → Bool
+publishersAreDamaged K s = not (eqb (length (s .words)) WORDS) || outside 1 PUBLISHERS-MAX (publishers (s .words)) || firstPublishersDamaged K s

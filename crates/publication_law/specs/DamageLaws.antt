@@ -16,7 +16,7 @@ use Rattle.layout.specs.Layout.{WORDS, kindWord, readers, publishers, slots, cu
 use Rattle.statement.specs.Machine.{State, state}
 use Rattle.publication_law.specs.Steps.{Versions, reader, publisher}
 use Rattle.publication_law.specs.Table.{Table, damaged}
-use Rattle.publication_law.specs.Damage.{DamageRules, headRows, publisherRows, readersDamaged, publishersDamaged, sharedDamage, readersTest, publishersTest}
+use Rattle.publication_law.specs.Damage.{DamageRules, headRows, publisherRows, firstReadersDamaged, firstPublishersDamaged, sharedDamage, readersAreDamaged, publishersAreDamaged}
 
 pub record UndamagedHead (K : DamageRules) (s : State) : Type 0 where
   pub long : length (s .words) ≡ WORDS
@@ -65,8 +65,8 @@ head-of K s e =
 
 pub undamaged-of : (K : DamageRules) (s : State) → sharedDamage K s ≡ false → Undamaged K s
 undamaged-of K s e =
-    let publishers-ok = or-false (anyTrue (headRows K s) || readersDamaged K s) (publishersDamaged K s) e in
-    let readers-ok = or-false (anyTrue (headRows K s)) (readersDamaged K s) (publishers-ok .0) in
+    let publishers-ok = or-false (anyTrue (headRows K s) || firstReadersDamaged K s) (firstPublishersDamaged K s) e in
+    let readers-ok = or-false (anyTrue (headRows K s)) (firstReadersDamaged K s) (publishers-ok .0) in
     record {
       head = head-of K s (readers-ok .0);
       readers-undamaged = λ r l. none-below (λ r. K .readerDamaged (readers (s .words)) (slots (s .words)) (reader s r)) (readers (s .words)) r (readers-ok .1) l;
@@ -75,8 +75,8 @@ undamaged-of K s e =
 
 pub undamaged-to : (K : DamageRules) (s : State) → Undamaged K s → sharedDamage K s ≡ false
 undamaged-to K s f = let head = f .head in
-    neither (anyTrue (headRows K s) || readersDamaged K s) (publishersDamaged K s)
-    (neither (anyTrue (headRows K s)) (readersDamaged K s)
+    neither (anyTrue (headRows K s) || firstReadersDamaged K s) (firstPublishersDamaged K s)
+    (neither (anyTrue (headRows K s)) (firstReadersDamaged K s)
     (none-true (headRows K s) (
       negated _ (eq-eqb _ _ (head .long)),
       (
@@ -101,20 +101,20 @@ undamaged-to K s f = let head = f .head in
 
 -- The damage test is that of the head, of the readers and of the publishers, each by itself.
 module _ (K : DamageRules) (s : State) where
-  pub readers-test-false : Undamaged K s → readersTest K s ≡ false
-  readers-test-false f = let head = f .head in neither (not (eqb (length (s .words)) WORDS) || outside 1 READERS-MAX (readers (s .words))) (readersDamaged K s)
+  pub readers-test-false : Undamaged K s → readersAreDamaged K s ≡ false
+  readers-test-false f = let head = f .head in neither (not (eqb (length (s .words)) WORDS) || outside 1 READERS-MAX (readers (s .words))) (firstReadersDamaged K s)
       (neither (not (eqb (length (s .words)) WORDS)) (outside 1 READERS-MAX (readers (s .words))) (negated _ (eq-eqb _ _ (head .long))) (not-outside 1 READERS-MAX _ (head .readers-low) (head .readers-high)))
       (no-below (λ r. K .readerDamaged (readers (s .words)) (slots (s .words)) (reader s r)) (readers (s .words)) (f .readers-undamaged))
 
-  pub publishers-test-false : Undamaged K s → publishersTest K s ≡ false
-  publishers-test-false f = let head = f .head in neither (not (eqb (length (s .words)) WORDS) || outside 1 PUBLISHERS-MAX (publishers (s .words))) (publishersDamaged K s)
+  pub publishers-test-false : Undamaged K s → publishersAreDamaged K s ≡ false
+  publishers-test-false f = let head = f .head in neither (not (eqb (length (s .words)) WORDS) || outside 1 PUBLISHERS-MAX (publishers (s .words))) (firstPublishersDamaged K s)
       (neither (not (eqb (length (s .words)) WORDS)) (outside 1 PUBLISHERS-MAX (publishers (s .words))) (negated _ (eq-eqb _ _ (head .long))) (not-outside 1 PUBLISHERS-MAX _ (head .publishers-low) (head .publishers-high)))
       (no-below (λ p. K .publisherDamaged (readers (s .words)) (slots (s .words)) (publisher s p)) (publishers (s .words)) (f .publishers-undamaged))
 
-  pub tests-shared : anyTrue (headRows K s) ≡ false → readersTest K s ≡ false → publishersTest K s ≡ false → sharedDamage K s ≡ false
-  tests-shared head-ok readers-ok publishers-ok = neither (anyTrue (headRows K s) || readersDamaged K s) (publishersDamaged K s)
-      (neither (anyTrue (headRows K s)) (readersDamaged K s) head-ok (or-false (not (eqb (length (s .words)) WORDS) || outside 1 READERS-MAX (readers (s .words))) (readersDamaged K s) readers-ok .1))
-      (or-false (not (eqb (length (s .words)) WORDS) || outside 1 PUBLISHERS-MAX (publishers (s .words))) (publishersDamaged K s) publishers-ok .1)
+  pub tests-shared : anyTrue (headRows K s) ≡ false → readersAreDamaged K s ≡ false → publishersAreDamaged K s ≡ false → sharedDamage K s ≡ false
+  tests-shared head-ok readers-ok publishers-ok = neither (anyTrue (headRows K s) || firstReadersDamaged K s) (firstPublishersDamaged K s)
+      (neither (anyTrue (headRows K s)) (firstReadersDamaged K s) head-ok (or-false (not (eqb (length (s .words)) WORDS) || outside 1 READERS-MAX (readers (s .words))) (firstReadersDamaged K s) readers-ok .1))
+      (or-false (not (eqb (length (s .words)) WORDS) || outside 1 PUBLISHERS-MAX (publishers (s .words))) (firstPublishersDamaged K s) publishers-ok .1)
 
 -- The rows of a publisher that the kinds share.
 pub record UndamagedPublisher (vs : Versions) (slots : ℕ) (y : Publisher) : Type 0 where
@@ -145,5 +145,5 @@ publisher-to vs slots y f = none-true (publisherRows vs slots y) (
 pub zero-damaged : (T : Table) (es : List ℤ) → damaged T (state (replicate WORDS 0) es) ≡ true
 unfolding damaged
 zero-damaged T es = or-left (sharedDamage (T .damage) (state (replicate WORDS 0) es)) (T .further (state (replicate WORDS 0) es))
-    (or-left (anyTrue (headRows (T .damage) (state (replicate WORDS 0) es)) || readersDamaged (T .damage) (state (replicate WORDS 0) es)) (publishersDamaged (T .damage) (state (replicate WORDS 0) es))
-    (or-left (anyTrue (headRows (T .damage) (state (replicate WORDS 0) es))) (readersDamaged (T .damage) (state (replicate WORDS 0) es)) (or-right (not (eqb 0 (T .damage .number))) true refl)))
+    (or-left (anyTrue (headRows (T .damage) (state (replicate WORDS 0) es)) || firstReadersDamaged (T .damage) (state (replicate WORDS 0) es)) (firstPublishersDamaged (T .damage) (state (replicate WORDS 0) es))
+    (or-left (anyTrue (headRows (T .damage) (state (replicate WORDS 0) es))) (firstReadersDamaged (T .damage) (state (replicate WORDS 0) es)) (or-right (not (eqb 0 (T .damage .number))) true refl)))

@@ -16,12 +16,12 @@ use Rattle.calls.specs.declared.Call.{Call}
 use Rattle.calls.specs.declared.Call.the-variants.{Enter, Look, Leave, Claim, Write, Swap, Sync, Raise, Walk, Release}
 use Rattle.layout.specs.declared.Reader.{Reader}
 use Rattle.layout.specs.declared.Publisher.{Publisher}
-use Rattle.layout.specs.declared.Progress.{Progress}
+use Rattle.layout.specs.declared.WalkResult.{WalkResult}
 use Rattle.layout.specs.Layout.{HEAD, CURRENT-AT, VERSION-AT, RELEASES-AT, publishers, readerWords, readerAt, publisherAt, withPublisher}
 use Rattle.layout.specs.Records.{_atPlace_}
 use Rattle.layout.specs.Laws.{head-publisher}
 use Rattle.statement.specs.Machine.{State, Outcome}
-use Rattle.statement.specs.Frame.{readerNamed, publisherNamed, headNamed, One, PlaceAndOne, HeldAndWalkStay, OwnStays, Framed}
+use Rattle.statement.specs.Frame.{readerNamed, publisherNamed, headNamed, One, PlaceAndOne, HeldAndWalkStay, NamedStays, Framed}
 use Rattle.publication_law.specs.Clear.{ClaimClear}
 use Rattle.publication_law.specs.Steps.{Versions, publisher, claim, write, writeTests, swap, swapTests, sync, syncTests, raise, walk, walked, release, releaseTests, oneMore}
 use Rattle.publication_law.specs.Damage.{DamageRules}
@@ -29,7 +29,7 @@ use Rattle.publication_law.specs.DamageLaws.{Undamaged}
 use Rattle.publication_law.specs.Decide.{raise-split}
 use Rattle.publication_law.specs.Moves.{MovesPublisher, MovesReader, none-moved, one-moved, publisher-written, reader-written, publisher-moves, publisher-moves-head}
 
-same-own : (publishes : Bool) (c : Call) (w : List ℕ) → OwnStays publishes c w w
+same-own : (publishes : Bool) (c : Call) (w : List ℕ) → NamedStays publishes c w w
 same-own publishes (Enter r) w = (0, λ j l ne. refl)
 same-own publishes (Look r k) w = refl
 same-own publishes (Leave r) w = record { first = refl; second = refl; published = λ _. refl; picked = refl }
@@ -58,7 +58,7 @@ place-and-one x x′ j first second published picked = (j, go)
     go (suc (suc (suc (suc (suc j′))))) place other = refl
 
 publisher-framed : (publishes : Bool) (c : Call) (w w′ : List ℕ) (p : ℕ) (y : Publisher) (cur ver rel : ℕ) → MovesPublisher w w′ p y cur ver rel → publisherNamed c ≡ some p
-    → (publisherAt w′ p ≡ y → OwnStays publishes c w w′) → ((j : ℕ) → j < HEAD → headNamed publishes c j ≡ false → getD w′ j 0 ≡ getD w j 0) → One w w′ → Framed publishes c w w′
+    → (publisherAt w′ p ≡ y → NamedStays publishes c w w′) → ((j : ℕ) → j < HEAD → headNamed publishes c j ≡ false → getD w′ j 0 ≡ getD w j 0) → One w w′ → Framed publishes c w w′
 publisher-framed publishes c w w′ p y cur ver rel m e own stays one = record {
   long = m .long;
   readers = λ r ne. ap (λ (f : ℕ → Reader). f r) (m .readers-stay);
@@ -70,7 +70,7 @@ publisher-framed publishes c w w′ p y cur ver rel m e own stays one = record {
 
 -- ENTER and LEAVE, of whichever kind.
 pub reader-framed : (publishes : Bool) (c : Call) (w w′ : List ℕ) (r : ℕ) (x : Reader) → MovesReader w w′ r x → readerNamed c ≡ some r → headNamed publishes c ≡ (λ j. not publishes && ltb RELEASES-AT j)
-    → (publishes ≡ true → (j : ℕ) → j < HEAD → getD w′ j 0 ≡ getD w j 0) → (readerAt w′ r ≡ x → OwnStays publishes c w w′) → Framed publishes c w w′
+    → (publishes ≡ true → (j : ℕ) → j < HEAD → getD w′ j 0 ≡ getD w j 0) → (readerAt w′ r ≡ x → NamedStays publishes c w w′) → Framed publishes c w w′
 reader-framed publishes c w w′ r x m e named stays own = record {
   long = m .long;
   readers = λ r′ ne. ap (λ (f : ℕ → Reader). f r′) (m .readers-are) ∙ upd-other (readerAt w) r x r′ (λ e′. ne (e ∙ ap some e′));
@@ -91,13 +91,13 @@ place-only y y′ n e = record { held = ap (λ (own : Publisher). own .held) e; 
 module _ (publishes : Bool) (K : DamageRules) (s : State) (f : Undamaged K s) where
   -- A call that moves its publisher's record alone.
   record-framed : (c : Call) (p : ℕ) (y : Publisher) → p < publishers (s .words) → publisherNamed c ≡ some p
-      → (publisherAt (withPublisher (s .words) p y) p ≡ y → OwnStays publishes c (s .words) (withPublisher (s .words) p y)) → Framed publishes c (s .words) (withPublisher (s .words) p y)
+      → (publisherAt (withPublisher (s .words) p y) p ≡ y → NamedStays publishes c (s .words) (withPublisher (s .words) p y)) → Framed publishes c (s .words) (withPublisher (s .words) p y)
   record-framed c p y lt e own = publisher-framed publishes c _ _ p _ _ _ _ (publisher-moves f p y lt) e own (λ j l e′. head-publisher (s .words) p y j l)
       (none-moved (s .words) (withPublisher (s .words) p y) (head-publisher (s .words) p y))
 
   -- .. and one that moves number j of the head besides.
   head-framed : (c : Call) (p : ℕ) (y : Publisher) (j n : ℕ) → p < publishers (s .words) → CURRENT-AT ≤ j → j ≤ RELEASES-AT → publisherNamed c ≡ some p → headNamed publishes c ≡ (λ j′. eqb j′ j)
-      → (publisherAt (set (withPublisher (s .words) p y) j n) p ≡ y → OwnStays publishes c (s .words) (set (withPublisher (s .words) p y) j n)) → Framed publishes c (s .words) (set (withPublisher (s .words) p y) j n)
+      → (publisherAt (set (withPublisher (s .words) p y) j n) p ≡ y → NamedStays publishes c (s .words) (set (withPublisher (s .words) p y) j n)) → Framed publishes c (s .words) (set (withPublisher (s .words) p y) j n)
   head-framed c p y j n lt low high e named own = publisher-framed publishes c _ _ p _ _ _ _ (publisher-moves-head f p y lt j n low high) e own
       (λ j′ l e′. getD-set-other (withPublisher (s .words) p y) j j′ n 0 (eqb-false j′ j (sym (ap (λ (f′ : ℕ → Bool). f′ j′) named) ∙ e′)) ∙ head-publisher (s .words) p y j′ l) (one-moved (s .words) (withPublisher (s .words) p y) j n (head-publisher (s .words) p y))
 
@@ -118,12 +118,12 @@ module _ (publishes : Bool) (K : DamageRules) (s : State) (f : Undamaged K s) wh
       (λ e. head-framed (Raise p) p _ VERSION-AT (publisher s p .walk .mark) lt (omega arith) (omega arith) refl refl (place-only _ _ _))
       (record-framed (Raise p) p _ lt refl (place-only _ _ _))
 
-  pub walk-framed : (p b : ℕ) (progress : Progress) → p < publishers (s .words) → progress .walk .mark ≡ publisher s p .walk .mark → Framed publishes (Walk p b) (s .words) (walk s p progress .after .words)
-  walk-framed p b progress lt same-mark = record-framed (Walk p b) p _ lt refl (λ e. (ap (λ (own : Publisher). own .held) e, ap (λ (own : Publisher). own .walk .mark) e ∙ same-mark))
+  pub walk-framed : (p b : ℕ) (result : WalkResult) → p < publishers (s .words) → result .walk .mark ≡ publisher s p .walk .mark → Framed publishes (Walk p b) (s .words) (walk s p result .after .words)
+  walk-framed p b result lt same-mark = record-framed (Walk p b) p _ lt refl (λ e. (ap (λ (own : Publisher). own .held) e, ap (λ (own : Publisher). own .walk .mark) e ∙ same-mark))
 
   pub release-framed : (p : ℕ) → AllClear (releaseTests s p) → Framed publishes (Release p) (s .words) (release s p .after .words)
   release-framed p ok = head-framed (Release p) p _ RELEASES-AT (oneMore s) (leb-false _ _ (ok .0)) (omega arith) (omega arith) refl refl (place-only _ _ _)
 
 -- A WALK leaves its publisher's record with what its looks came to.
-pub walk-record : (K : DamageRules) (s : State) → Undamaged K s → (p : ℕ) → p < publishers (s .words) → (progress : Progress) → publisher (walk s p progress .after) p ≡ walked (publisher s p) progress
-walk-record K s f p lt progress = publisher-written (publisher-moves f p (walked (publisher s p) progress) lt)
+pub walk-record : (K : DamageRules) (s : State) → Undamaged K s → (p : ℕ) → p < publishers (s .words) → (result : WalkResult) → publisher (walk s p result .after) p ≡ walked (publisher s p) result
+walk-record K s f p lt result = publisher-written (publisher-moves f p (walked (publisher s p) result) lt)

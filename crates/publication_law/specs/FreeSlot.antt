@@ -6,7 +6,7 @@ use mathlib.Core.Path.{_≡_, refl, sym, _∙_}
 use mathlib.Core.Bool.{false, not}
 use lib.Dec.{eqb}
 use borrow.Author.Tests.{eq-eqb}
-use Rattle.base.specs.Base.{pick}
+use Rattle.base.specs.Base.{choose}
 use Rattle.base.specs.RowLaws.{clash, not-both, by-test, or-false, and-not, neither, same, at-or, none-below, no-below, missed}
 use Rattle.calls.specs.Numbers.{PLACE-IDLE}
 use Rattle.calls.specs.Told.{holds, Has}
@@ -19,7 +19,7 @@ use Rattle.statement.specs.FreeSlot.{FindsFreeSlot}
 use Rattle.statement.specs.KeptInvariant.{Ghost, ghost₀, all-told, all-tally}
 use Rattle.publication_law.specs.Steps.{publisher, inUse}
 use Rattle.publication_law.specs.Table.{machine}
-use Rattle.publication_law.specs.Rules.{Rules, tableBy}
+use Rattle.publication_law.specs.SectionRules.{SectionRules, tableBy}
 use Rattle.publication_law.specs.Damage.{DamageRules}
 use Rattle.publication_law.specs.CoreLaws.{held-bound}
 use Rattle.publication_law.specs.Invariant.{Invariant}
@@ -29,7 +29,7 @@ use Rattle.publication_law.specs.KindShows.{WholeInvariant, KindShows, r
 -- For every state. The slot that each publisher takes: its own, and for p, which is at place 0, the current one.
 module _ (s : State) (p : ℕ) (at-0 : publisher s p .place ≡ PLACE-IDLE) where
   taken : ℕ → ℕ
-  taken q = pick (eqb q p) (current (s .words)) (publisher s q .held)
+  taken q = choose (eqb q p) (current (s .words)) (publisher s q .held)
 
   untaken : (x : ℕ) → p < publishers (s .words) → ((q : ℕ) → q < publishers (s .words) → eqb (taken q) x ≡ false) → inUse s x ≡ false
   unfolding taken
@@ -49,8 +49,8 @@ unused-told K z g s i x e =
     let unheld : (q : ℕ) → q < publishers (s .words) → holds (g .told) q x ≡ false = λ q l. sym (recorded .held q x) ∙ none-below (λ q. heldSlot s q x) (publishers (s .words)) q (parts .1) l in
     (rw (recorded .current) (parts .0), λ q. by-test (holds (g .told) q x) (λ e. not-both _ e (unheld q (held-bound _ _ _ _ _ _ _ _ _ _ _ (i .core) q x e))))
 
-module _ (R : Rules) (traits : GraceTraits) (L : KindShows R traits) where
-  told-free : (z : Given) (g : Ghost) (s : State) → WholeInvariant (R .damage) (L .Own) z g s → z .publishers < z .slots → (p : ℕ) → p < z .publishers → g .tally .phase p ≡ idle
+module _ (R : SectionRules) (traits : GraceTraits) (L : KindShows R traits) where
+  told-free : (z : Given) (g : Ghost) (s : State) → WholeInvariant (R .damage) (L .KindInvariant) z g s → z .publishers < z .slots → (p : ℕ) → p < z .publishers → g .tally .phase p ≡ idle
       → (x : ℕ) × (x < z .slots) × Has (g .told) x free
   told-free z g s i room p pn idle-now =
       let sized = i .shared .every .sized in

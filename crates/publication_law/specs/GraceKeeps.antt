@@ -19,12 +19,12 @@ use Rattle.calls.specs.Tally.{withPhase}
 use Rattle.calls.specs.Tally.Phase.{idle, synchronising, quiet, raised, returned}
 use Rattle.layout.specs.declared.Reader.{Reader}
 use Rattle.layout.specs.declared.Publisher.{Publisher}
-use Rattle.layout.specs.declared.Progress.{Progress}
+use Rattle.layout.specs.declared.WalkResult.{WalkResult}
 use Rattle.layout.specs.Layout.{VERSION-AT, RELEASES-AT, readers, publishers, slots, current, version, releases, noPublisher, slotEntry}
 use Rattle.layout.specs.Records.{_atPlace_, _walk≔_}
 use Rattle.layout.specs.Laws.{fresh-head}
 use Rattle.statement.specs.Machine.{State, state, Outcome, Given}
-use Rattle.statement.specs.KeptInvariant.{Ghost, ghost₀, advance}
+use Rattle.statement.specs.KeptInvariant.{Ghost, ghost₀, ghostStep}
 use Rattle.publication_law.specs.Steps.{reader, publisher, syncTests, sync, newWalk, raise, placeAfter, walked, walk, releaseTests, release, oneMore, made}
 use Rattle.publication_law.specs.Clear.{MakingClear}
 use Rattle.publication_law.specs.Damage.{DamageRules}
@@ -60,12 +60,12 @@ module _ (K : DamageRules) (z : Given) (g : Ghost) (s : State) (i : GraceInvaria
   -- ENTER and LEAVE, whatever else of the reader and of the head a kind changes.
   module _ (w′ : List ℕ) (r : ℕ) (x : Reader) (m : MovesReader (s .words) w′ r x) (ok : K .readerDamaged (readers (s .words)) (slots (s .words)) x ≡ false) where
     pub enter-keeps : r < readers (s .words) → Onward (current (s .words)) (reader s r .place) (reader s r .picked) (x .place) (x .picked)
-        → GraceInvariant K z (advance g (Enter r) (At (x .place))) (state w′ (s .entries))
+        → GraceInvariant K z (ghostStep g (Enter r) (At (x .place))) (state w′ (s .entries))
     enter-keeps rn on = reader-moved-grace K z s _ w′ r x m
         (reader-moved K z g s (i .every) _ w′ r x m ok (enter-core _ _ _ _ _ _ _ _ _ _ _ (i .every .core) r _ _ rn on) (place-phases _ _ _ _ (i .every .phases) r (x .place)))
         (enter-grace (g .told) _ _ _ _ _ (i .grace) _ r _ _ on (λ p e. i .every .core .publishers p .apart _ (by-swap e) refl)) (i .tallied)
 
-    pub leave-keeps : x .place ≡ PLACE-OUT → GraceInvariant K z (advance g (Leave r) Left) (state w′ (s .entries))
+    pub leave-keeps : x .place ≡ PLACE-OUT → GraceInvariant K z (ghostStep g (Leave r) Left) (state w′ (s .entries))
     leave-keeps out = reader-moved-grace K z s _ w′ r x m
         (reader-moved K z g s (i .every) _ w′ r x m ok (rw out (leave-core _ _ _ _ _ _ _ _ _ _ _ (i .every .core) r _ Left)) (rw out (place-phases _ _ _ _ (i .every .phases) r 0)))
         (rw out (leave-grace (g .told) _ _ _ _ _ (i .grace) r _ Left)) (i .tallied)
@@ -79,7 +79,7 @@ module _ (K : DamageRules) (z : Given) (g : Ghost) (s : State) (i : GraceInvaria
 
   pub release-keeps : (p : ℕ) → AllClear (releaseTests s p)
       → K .publisherDamaged (readers (s .words)) (slots (s .words)) (publisher s p atPlace PLACE-IDLE) ≡ false
-      → GraceInvariant K z (advance g (Release p) (Freed (publisher s p .held) (oneMore s))) (release s p .after)
+      → GraceInvariant K z (ghostStep g (Release p) (Freed (publisher s p .held) (oneMore s))) (release s p .after)
   release-keeps p f ok =
       let lt = leb-false (publishers (s .words)) p (f .0) in
       let at38 = eqb-true (publisher s p .place) 38 (not-false _ (f .1 .0)) in
@@ -114,7 +114,7 @@ module _ (K : DamageRules) (law : KindLaw K) (z : Given) (g : Ghost) (s : State)
 
   pub sync-keeps : (p : ℕ) → AllClear (syncTests (K .versions) s p)
       → law .extraDamage (readers (s .words)) (publisher s p atPlace PLACE-SYNCHRONISING walk≔ newWalk (publisher s p .walk) (K .versions .markAt (version (s .words)))) ≡ false
-      → GraceInvariant K z (advance g (Sync p) (Synced (K .versions .markAt (version (s .words))))) (sync (K .versions) s p .after)
+      → GraceInvariant K z (ghostStep g (Sync p) (Synced (K .versions .markAt (version (s .words))))) (sync (K .versions) s p .after)
   sync-keeps p f clear =
       let lt = leb-false (publishers (s .words)) p (f .0) in
       let at34 = eqb-true (publisher s p .place) 34 (not-false _ (f .1 .0)) in
@@ -133,11 +133,11 @@ module _ (K : DamageRules) (law : KindLaw K) (z : Given) (g : Ghost) (s : State)
   -- RAISE, at 35 or 36.
   module _ (p : ℕ) (lt : p < publishers (s .words)) (low : PLACE-SYNCHRONISING ≤ publisher s p .place) (high : publisher s p .place ≤ PLACE-QUIET) where
     pub raise-keeps : law .extraDamage (readers (s .words)) (publisher s p atPlace PLACE-RAISED) ≡ false
-        → GraceInvariant K z (advance g (Raise p) (raise (K .versions) s p .reply)) (raise (K .versions) s p .after)
+        → GraceInvariant K z (ghostStep g (Raise p) (raise (K .versions) s p .reply)) (raise (K .versions) s p .after)
     raise-keeps clear =
         let pf = moved-publisher-undamaged p lt in
         let ok = publisher-undamaged law (readers (s .words)) (slots (s .words)) (publisher s p atPlace PLACE-RAISED) clear (record { held-below = λ _. pf .held-below (omega arith); mark-fits = λ _. pf .mark-fits low; waits-low = λ _. pf .waits-low low }) in
-        raise-split (λ (o : Outcome). GraceInvariant K z (advance g (Raise p) (o .reply)) (o .after)) (K .versions) s p
+        raise-split (λ (o : Outcome). GraceInvariant K z (ghostStep g (Raise p) (o .reply)) (o .after)) (K .versions) s p
         (λ e. to _ _ (publisher-moves-head (i .every .no-damage) p _ lt VERSION-AT (publisher s p .walk .mark) (omega arith) (omega arith)) (law .versions-law .raised-fits _ (pf .mark-fits low)) ok)
         (to _ _ (publisher-moves (i .every .no-damage) p _ lt) (i .every .no-damage .head .version-fits) ok)
       where
@@ -151,14 +151,14 @@ module _ (K : DamageRules) (law : KindLaw K) (z : Given) (g : Ghost) (s : State)
   -- WALK, at 35 to 37: what it came to keeps the mark and the waits, and where it returns nobody is waited for.
   module _ (p b : ℕ) (lt : p < publishers (s .words)) (low : PLACE-SYNCHRONISING ≤ publisher s p .place) (high : publisher s p .place ≤ PLACE-RAISED) where
     walk-phases : (a : WalkReply)
-        → Phases (advance g (Walk p b) (Walked a) .tally .place) (advance g (Walk p b) (Walked a) .tally .phase) (λ j. reader s j .place) (upd (λ q. publisher s q .place) p (placeAfter (publisher s p .place) a))
+        → Phases (ghostStep g (Walk p b) (Walked a) .tally .place) (ghostStep g (Walk p b) (Walked a) .tally .phase) (λ j. reader s j .place) (upd (λ q. publisher s q .place) p (placeAfter (publisher s p .place) a))
     walk-phases (Waiting who) = stay-phases _ _ _ _ (i .every .phases) p (publisher s p .place) refl
     walk-phases Spent = stay-phases _ _ _ _ (i .every .phases) p (publisher s p .place) refl
     walk-phases Quiet = move-phases _ _ _ _ (i .every .phases) p 36 quiet refl
     walk-phases (Returned looks waits) = move-phases _ _ _ _ (i .every .phases) p 38 returned refl
 
     walk-tallied : (a : WalkReply) (ws : ℕ) → ws ≡ waitsAfter (publisher s p .walk .waits) a
-        → Tallied (advance g (Walk p b) (Walked a) .tally .waits) (advance g (Walk p b) (Walked a) .tally .releases) (upd (λ q. publisher s q .place) p (placeAfter (publisher s p .place) a)) (upd (λ q. publisher s q .walk .waits) p ws) (releases (s .words))
+        → Tallied (ghostStep g (Walk p b) (Walked a) .tally .waits) (ghostStep g (Walk p b) (Walked a) .tally .releases) (upd (λ q. publisher s q .place) p (placeAfter (publisher s p .place) a)) (upd (λ q. publisher s q .walk .waits) p ws) (releases (s .words))
     walk-tallied (Waiting who) ws e = rw e (wait-tallied _ _ _ _ _ (i .tallied) p (publisher s p .place) low)
     walk-tallied Spent ws e = late-tallied _ _ _ _ _ (i .tallied) p (publisher s p .place) ws low e
     walk-tallied Quiet ws e = late-tallied _ _ _ _ _ (i .tallied) p 36 ws low e
@@ -176,19 +176,19 @@ module _ (K : DamageRules) (law : KindLaw K) (z : Given) (g : Ghost) (s : State)
     after-high Quiet = omega arith
     after-high (Returned looks waits) = omega arith
 
-    pub walk-keeps : (progress : Progress) → (placeAfter (publisher s p .place) (progress .reply) ≡ PLACE-RETURNED → (r : ℕ) → g .pend p r ≡ false) → progress .walk .waits ≡ waitsAfter (publisher s p .walk .waits) (progress .reply)
-        → progress .walk .mark ≡ publisher s p .walk .mark → progress .walk .waits ≤ progress .walk .looks → law .extraDamage (readers (s .words)) (walked (publisher s p) progress) ≡ false
-        → GraceInvariant K z (advance g (Walk p b) (Walked (progress .reply))) (walk s p progress .after)
-    walk-keeps progress done ws same-mark enough clear =
+    pub walk-keeps : (result : WalkResult) → (placeAfter (publisher s p .place) (result .reply) ≡ PLACE-RETURNED → (r : ℕ) → g .pend p r ≡ false) → result .walk .waits ≡ waitsAfter (publisher s p .walk .waits) (result .reply)
+        → result .walk .mark ≡ publisher s p .walk .mark → result .walk .waits ≤ result .walk .looks → law .extraDamage (readers (s .words)) (walked (publisher s p) result) ≡ false
+        → GraceInvariant K z (ghostStep g (Walk p b) (Walked (result .reply))) (walk s p result .after)
+    walk-keeps result done ws same-mark enough clear =
         let pf = moved-publisher-undamaged p lt in
-        let ok = publisher-undamaged law (readers (s .words)) (slots (s .words)) (walked (publisher s p) progress) clear (record { held-below = λ _. pf .held-below (omega (arith, low)); mark-fits = λ _. rw same-mark (pf .mark-fits low); waits-low = λ _. enough }) in
-        let l : PLACE-SYNCHRONISING ≤ placeAfter (publisher s p .place) (progress .reply) = after-low (progress .reply) in
-        let m = publisher-moves (i .every .no-damage) p (walked (publisher s p) progress) lt in
+        let ok = publisher-undamaged law (readers (s .words)) (slots (s .words)) (walked (publisher s p) result) clear (record { held-below = λ _. pf .held-below (omega (arith, low)); mark-fits = λ _. rw same-mark (pf .mark-fits low); waits-low = λ _. enough }) in
+        let l : PLACE-SYNCHRONISING ≤ placeAfter (publisher s p .place) (result .reply) = after-low (result .reply) in
+        let m = publisher-moves (i .every .no-damage) p (walked (publisher s p) result) lt in
         publisher-moved-grace K z s _ _ _ p _ _ _ _ m
         (publisher-moved K z g s (i .every) _ _ _ p _ _ _ _ m refl (i .every .no-damage .head .current-below) (i .every .no-damage .head .version-fits) ok
-        (late-slots p (placeAfter (publisher s p .place) (progress .reply)) (omega arith) (omega arith)) (walk-phases (progress .reply)))
-        (wait-grace (g .told) _ _ _ _ _ (i .grace) p _ _ low l (after-high (progress .reply)) done (λ slot. former-same (publisher s p .place) (placeAfter (publisher s p .place) (progress .reply)) (publisher s p .held) slot (omega arith) (omega arith)))
-        (walk-tallied (progress .reply) _ ws)
+        (late-slots p (placeAfter (publisher s p .place) (result .reply)) (omega arith) (omega arith)) (walk-phases (result .reply)))
+        (wait-grace (g .told) _ _ _ _ _ (i .grace) p _ _ low l (after-high (result .reply)) done (λ slot. former-same (publisher s p .place) (placeAfter (publisher s p .place) (result .reply)) (publisher s p .held) slot (omega arith) (omega arith)))
+        (walk-tallied (result .reply) _ ws)
 
 -- A fresh store.
 pub made-grace-invariant : (K : DamageRules) (x : Reader) (z : Given) (s : State) → MakingClear (K .versions) z s → x .place ≡ PLACE-OUT → x .picked ≡ 0

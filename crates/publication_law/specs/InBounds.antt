@@ -39,17 +39,17 @@ pub record Synchronising (y : Publisher) : Type 0 where
   pub mark-low : 1 ≤ y .walk .mark
   pub waits-low : y .walk .waits ≤ y .walk .looks
 
-module _ (T : Table) (law : KindLaw (T .damage)) (s : State) (clean : damaged T s ≡ false) where
+module _ (T : Table) (law : KindLaw (T .damage)) (s : State) (no-damage : damaged T s ≡ false) where
   pub in-bounds-of : InBounds (s .words)
-  in-bounds-of = in-bounds (T .damage) law s (undamaged-facts T s clean)
+  in-bounds-of = in-bounds (T .damage) law s (undamaged-facts T s no-damage)
 
   pub entries-of : length (s .entries) ≡ slots (s .words) * TABLE
-  entries-of = undamaged-facts T s clean .head .entries-are
+  entries-of = undamaged-facts T s no-damage .head .entries-are
 
   pub version-low : (last : ℕ) → T .damage .versions ≡ upTo last → version (s .words) ≤ last
-  version-low last up = ltb-false last (version (s .words)) (sym (ap (λ (vs : Versions). vs .tooLarge (version (s .words))) up) ∙ undamaged-facts T s clean .head .version-fits)
+  version-low last up = ltb-false last (version (s .words)) (sym (ap (λ (vs : Versions). vs .tooLarge (version (s .words))) up) ∙ undamaged-facts T s no-damage .head .version-fits)
 
   pub synchronising-of : (p : ℕ) → p < publishers (s .words) → PLACE-SYNCHRONISING ≤ publisher s p .place → Synchronising (publisher s p)
   synchronising-of p named late =
-      let f = undamaged-publisher law (readers (s .words)) (slots (s .words)) (publisher s p) (undamaged-facts T s clean .publishers-undamaged p named) in
+      let f = undamaged-publisher law (readers (s .words)) (slots (s .words)) (publisher s p) (undamaged-facts T s no-damage .publishers-undamaged p named) in
       record { mark-low = law .versions-law .mark-low _ (f .mark-fits late); waits-low = f .waits-low late }

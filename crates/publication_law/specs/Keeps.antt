@@ -10,8 +10,8 @@ use lib.IntN.{ℤ, pos}
 use lib.ListN.{getD, set, length, length-set, replicate, length-replicate}
 use lib.Dec.{ltb, eqb}
 use borrow.Author.Tests.{eqb-true, eqb-false, leb-false, le-leb, ltb-false, lt-ltb, not-false}
-use Rattle.base.specs.Base.{pick}
-use Rattle.base.specs.RowLaws.{not-both, or-false, within, none-below, no-below, pick-split, same, AllClear}
+use Rattle.base.specs.Base.{choose}
+use Rattle.base.specs.RowLaws.{not-both, or-false, within, none-below, no-below, choose-split, same, AllClear}
 use Rattle.calls.specs.declared.Call.the-variants.{Claim, Write, Swap}
 use Rattle.calls.specs.declared.Reply.the-variants.{Claimed, Written, Swapped}
 use Rattle.calls.specs.Numbers.{READERS-MAX, TABLE, FEATHERED, PLACE-OUT, PLACE-IDLE, PLACE-CLAIMED, PLACE-SWAPPED}
@@ -23,13 +23,13 @@ use Rattle.calls.specs.Tally.{Phase}
 use Rattle.calls.specs.Tally.Phase.{idle, writing, swapped}
 use Rattle.layout.specs.declared.Reader.{Reader}
 use Rattle.layout.specs.declared.Publisher.{Publisher}
-use Rattle.layout.specs.Layout.{HEAD, KIND-AT, READERS-AT, PUBLISHERS-AT, SLOTS-AT, CURRENT-AT, VERSION-AT, readers, publishers, slots, current, entryAt, fresh, noReader, noPublisher, slotEntry}
+use Rattle.layout.specs.Layout.{HEAD, KIND-AT, READERS-AT, PUBLISHERS-AT, SLOTS-AT, CURRENT-AT, VERSION-AT, readers, publishers, slots, current, entryAt, freshWords, noReader, noPublisher, slotEntry}
 use Rattle.layout.specs.Entries.{set-entry, slot-same}
 use Rattle.layout.specs.Records.{_atPlace_, _held≔_}
 use Rattle.layout.specs.Laws.{fresh-long, fresh-head, fresh-reader, fresh-publisher}
 use Rattle.statement.specs.Machine.{State, Given, heldSlot}
 use Rattle.statement.specs.Demand3.{Slots, Picks}
-use Rattle.statement.specs.KeptInvariant.{Ghost, ghost₀, advance}
+use Rattle.statement.specs.KeptInvariant.{Ghost, ghost₀, ghostStep}
 use Rattle.publication_law.specs.Steps.{reader, publisher, lookTests, claim, inUse, writeTests, write, swapTests, swap, made}
 use Rattle.publication_law.specs.Clear.{MakingClear, ClaimClear}
 use Rattle.publication_law.specs.Damage.{DamageRules}
@@ -53,7 +53,7 @@ module _ (K : DamageRules) (z : Given) (g : Ghost) (s : State) (i : Invariant K 
 
   pub claim-keeps : (exclusive : Bool) (p slot : ℕ) → ClaimClear exclusive s p slot
       → K .publisherDamaged (readers (s .words)) (slots (s .words)) (publisher s p atPlace PLACE-CLAIMED held≔ slot) ≡ false
-      → Invariant K z (advance g (Claim p slot) (Claimed slot)) (claim s p slot .after)
+      → Invariant K z (ghostStep g (Claim p slot) (Claimed slot)) (claim s p slot .after)
   claim-keeps exclusive p slot f ok =
       let lt = f .publisher-named in
       let at-place-0 = f .in-turn in
@@ -70,7 +70,7 @@ module _ (K : DamageRules) (z : Given) (g : Ghost) (s : State) (i : Invariant K 
 
   pub write-keeps : (p : ℕ) (v : ℤ) → AllClear (writeTests s p v) → publisher s p .held < slots (s .words)
       → K .publisherDamaged (readers (s .words)) (slots (s .words)) (publisher s p atPlace (publisher s p .place + 1)) ≡ false
-      → Invariant K z (advance g (Write p v) (Written (publisher s p .place))) (write s p v .after)
+      → Invariant K z (ghostStep g (Write p v) (Written (publisher s p .place))) (write s p v .after)
   write-keeps p v f held-below ok =
       let lt = leb-false (publishers (s .words)) p (f .0) in
       let range = within 1 32 (publisher s p .place) (f .1 .1 .0) in
@@ -86,7 +86,7 @@ module _ (K : DamageRules) (z : Given) (g : Ghost) (s : State) (i : Invariant K 
 
   pub swap-keeps : (p : ℕ) → AllClear (swapTests s p) → publisher s p .held < slots (s .words)
       → K .publisherDamaged (readers (s .words)) (slots (s .words)) (publisher s p atPlace PLACE-SWAPPED held≔ current (s .words)) ≡ false
-      → Invariant K z (advance g (Swap p) (Swapped (current (s .words)))) (swap s p .after)
+      → Invariant K z (ghostStep g (Swap p) (Swapped (current (s .words)))) (swap s p .after)
   swap-keeps p f held-below ok =
       let lt = leb-false (publishers (s .words)) p (f .0) in
       let at33 = eqb-true (publisher s p .place) 33 (not-false _ (f .1 .0)) in
@@ -158,7 +158,7 @@ module _ (K : DamageRules) (z : Given) (g : Ghost) (s : State) (i : Invariant K 
 -- A fresh store: what holds of every reader and every publisher ..
 module _ (number : ℕ) (x : Reader) (z : Given) (s : State) where
   pub readers-fresh : (f : Reader → ℕ) → f x ≡ 0 → f noReader ≡ 0 → _≡_ {A = ℕ → ℕ} (λ r. f (reader (made number x z s) r)) (λ r. 0)
-  readers-fresh f out none = fun-ext (λ r. ap f (fresh-reader number (z .readers) (z .publishers) (z .slots) (z .version) x r) ∙ pick-split (λ (x′ : Reader). f x′ ≡ 0) (ltb r READERS-MAX) (λ _. out) (λ _. none))
+  readers-fresh f out none = fun-ext (λ r. ap f (fresh-reader number (z .readers) (z .publishers) (z .slots) (z .version) x r) ∙ choose-split (λ (x′ : Reader). f x′ ≡ 0) (ltb r READERS-MAX) (λ _. out) (λ _. none))
 
   pub publishers-fresh : {B : Type 0} (f : Publisher → B) → _≡_ {A = ℕ → B} (λ p. f (publisher (made number x z s) p)) (λ p. f noPublisher)
   publishers-fresh f = fun-ext (λ p. ap f (fresh-publisher number (z .readers) (z .publishers) (z .slots) (z .version) x p))
@@ -166,9 +166,9 @@ module _ (number : ℕ) (x : Reader) (z : Given) (s : State) where
 -- .. and that it has the invariant.
 module _ (K : DamageRules) (x : Reader) (z : Given) (s : State) (f : MakingClear (K .versions) z s) where
   w : List ℕ
-  w = fresh (K .number) (z .readers) (z .publishers) (z .slots) (z .version) x
+  w = freshWords (K .number) (z .readers) (z .publishers) (z .slots) (z .version) x
 
-  head : (j : ℕ) → j < HEAD → getD w j 0 ≡ pick (eqb j VERSION-AT) (z .version) (pick (eqb j SLOTS-AT) (z .slots) (pick (eqb j PUBLISHERS-AT) (z .publishers) (pick (eqb j READERS-AT) (z .readers) (pick (eqb j KIND-AT) (K .number) 0))))
+  head : (j : ℕ) → j < HEAD → getD w j 0 ≡ choose (eqb j VERSION-AT) (z .version) (choose (eqb j SLOTS-AT) (z .slots) (choose (eqb j PUBLISHERS-AT) (z .publishers) (choose (eqb j READERS-AT) (z .readers) (choose (eqb j KIND-AT) (K .number) 0))))
   unfolding w
   head j l = fresh-head (K .number) (z .readers) (z .publishers) (z .slots) (z .version) x j l
 

@@ -33,12 +33,12 @@ use Rattle.statement.specs.Machine.{State, state, Outcome, outcome, Given, Fres
 use Rattle.statement.specs.Demand3.{Demand3}
 use Rattle.statement.specs.Frame.{PlaceAndOne, LeaveStays, nextEntry, Writes}
 use Rattle.statement.specs.Companions.{GraceTraits, IsFresh, MakesFresh, MakingAccepts, InTurn, StateCompanions, GraceStateCompanions, GraceCompanions}
-use Rattle.statement.specs.KeptInvariant.{Ghost, ghost₀, advance, afterEvent, afterEvents, Back, GraceKeptInvariant, kept-after, grace-demand3, grace-companions}
+use Rattle.statement.specs.KeptInvariant.{Ghost, ghost₀, ghostStep, afterEvent, afterEvents, Back, GraceKeptInvariant, kept-after, grace-demand3, grace-companions}
 use Rattle.publication_law.specs.Steps.{reader, publisher, enterTests, leaveTests, syncTests, sync, raise, walk, oneMore, makingTests, made}
 use Rattle.publication_law.specs.Clear.{MakingClear, making-clear, making-rows, claim-clear}
 use Rattle.publication_law.specs.Damage.{DamageRules, sharedDamage}
 use Rattle.publication_law.specs.Table.{damaged, rows, step, making, machine}
-use Rattle.publication_law.specs.Rules.{Rules, tableBy}
+use Rattle.publication_law.specs.SectionRules.{SectionRules, tableBy}
 use Rattle.publication_law.specs.DamageLaws.{Undamaged, undamaged-to, publisher-below}
 use Rattle.publication_law.specs.Moves.{MovesPublisher, MovesReader, publisher-moves, publisher-moves-head}
 use Rattle.publication_law.specs.Phases.{phaseAt}
@@ -54,11 +54,11 @@ use Rattle.publication_law.specs.Decide.{raise-split, decided, decide-ac
 use Rattle.publication_law.specs.Frames.{same-framed, reader-framed, claim-framed, write-framed, swap-framed, sync-framed, raise-framed, walk-framed, release-framed}
 
 -- The shared invariant with a kind's own.
-pub record WholeInvariant (K : DamageRules) (Own : Ghost → State → Type 0) (z : Given) (g : Ghost) (s : State) : Type 0 where
+pub record WholeInvariant (K : DamageRules) (KindInvariant : Ghost → State → Type 0) (z : Given) (g : Ghost) (s : State) : Type 0 where
   pub shared : GraceInvariant K z g s
-  pub own : Own g s
+  pub own : KindInvariant g s
 
-pub record KindShows (R : Rules) (traits : GraceTraits) : Type 1 where
+pub record KindShows (R : SectionRules) (traits : GraceTraits) : Type 1 where
   pub kind-law : KindLaw (R .damage)
   -- what is said of the kind beside its rules
   pub first-is : traits .every .first ≡ (λ z. firstTable)
@@ -70,43 +70,43 @@ pub record KindShows (R : Rules) (traits : GraceTraits) : Type 1 where
   -- versions up to the last fit, and below it a SYNC is not refused
   pub last-fits : (ver : ℕ) → ver ≤ traits .every .last → R .damage .versions .tooLarge ver ≡ false
   pub below-last : (ver : ℕ) → ver < traits .every .last → R .damage .versions .isLast ver ≡ false
-  pub Own : Ghost → State → Type 0
-  pub start-own : (z : Given) (s : State) → MakingClear (R .damage .versions) z s → Own (ghost₀ firstTable) (made (R .damage .number) (R .freshReader) z s)
+  pub KindInvariant : Ghost → State → Type 0
+  pub start-own : (z : Given) (s : State) → MakingClear (R .damage .versions) z s → KindInvariant (ghost₀ firstTable) (made (R .damage .number) (R .freshReader) z s)
   pub fresh-is : R .freshReader ≡ blankReader NOT-READING
   pub fresh-reader-fits : (rs ss : ℕ) → R .damage .readerDamaged rs ss (R .freshReader) ≡ false
-  pub no-further : (z : Given) (g : Ghost) (s : State) → WholeInvariant (R .damage) Own z g s → R .further s ≡ false
+  pub no-further : (z : Given) (g : Ghost) (s : State) → WholeInvariant (R .damage) KindInvariant z g s → R .further s ≡ false
   -- below 35 a publisher's move does not touch the kind's own invariant
-  pub early-own : (g g′ : Ghost) (s : State) (w′ : List ℕ) (es′ : List ℤ) (p : ℕ) (y : Publisher) (cur rel : ℕ) → Own g s → g′ .pend ≡ g .pend
-      → MovesPublisher (s .words) w′ p y cur (version (s .words)) rel → y .walk ≡ publisher s p .walk → y .place ≤ PLACE-SWAPPED → Own g′ (state w′ es′)
+  pub early-own : (g g′ : Ghost) (s : State) (w′ : List ℕ) (es′ : List ℤ) (p : ℕ) (y : Publisher) (cur rel : ℕ) → KindInvariant g s → g′ .pend ≡ g .pend
+      → MovesPublisher (s .words) w′ p y cur (version (s .words)) rel → y .walk ≡ publisher s p .walk → y .place ≤ PLACE-SWAPPED → KindInvariant g′ (state w′ es′)
   pub enter-moves : (s : State) → Undamaged (R .damage) s → (r : ℕ) → r < readers (s .words) → MovesReader (s .words) (R .enterWords s r) r (R .entered s r)
   -- the reader after its LEAVE
   pub left : State → ℕ → Reader
   pub leave-moves : (s : State) → Undamaged (R .damage) s → (r : ℕ) → r < readers (s .words) → MovesReader (s .words) (R .leaveWords s r) r (left s r)
-  pub enter-place : (s : State) → Undamaged (R .damage) s → (r : ℕ) → r < readers (s .words) → reader s r .place ≤ PLACE-OPEN → R .entered s r .place ≡ traits .onward (reader s r .place)
+  pub enter-place : (s : State) → Undamaged (R .damage) s → (r : ℕ) → r < readers (s .words) → reader s r .place ≤ PLACE-OPEN → R .entered s r .place ≡ traits .nextPlace (reader s r .place)
   -- which numbers ENTER and LEAVE move of the head, in a kind that publishes readers' versions, and of a reader
   pub enter-head : traits .publishes ≡ true → (s : State) (r j : ℕ) → j < HEAD → getD (R .enterWords s r) j 0 ≡ getD (s .words) j 0
   pub leave-head : traits .publishes ≡ true → (s : State) (r j : ℕ) → j < HEAD → getD (R .leaveWords s r) j 0 ≡ getD (s .words) j 0
   pub enter-stays : (s : State) (r : ℕ) → reader s r .place ≤ PLACE-OPEN → PlaceAndOne (reader s r) (R .entered s r)
   pub leave-stays : (s : State) (r : ℕ) → LeaveStays (traits .publishes) (reader s r) (left s r)
-  pub enter-kept : (z : Given) (g : Ghost) (s : State) → WholeInvariant (R .damage) Own z g s → (r : ℕ) → AllClear (enterTests s r)
-      → WholeInvariant (R .damage) Own z (advance g (Enter r) (At (R .entered s r .place))) (state (R .enterWords s r) (s .entries))
-  pub leave-kept : (z : Given) (g : Ghost) (s : State) → WholeInvariant (R .damage) Own z g s → (r : ℕ) → AllClear (leaveTests s r)
-      → WholeInvariant (R .damage) Own z (advance g (Leave r) Left) (state (R .leaveWords s r) (s .entries))
-  pub sync-kept : (z : Given) (g : Ghost) (s : State) → WholeInvariant (R .damage) Own z g s → (p : ℕ) → AllClear (syncTests (R .damage .versions) s p)
-      → WholeInvariant (R .damage) Own z (advance g (Sync p) (Synced (R .damage .versions .markAt (version (s .words))))) (sync (R .damage .versions) s p .after)
-  pub raise-kept : (z : Given) (g : Ghost) (s : State) → WholeInvariant (R .damage) Own z g s → (p : ℕ) → p < publishers (s .words) → R .raisesAt (publisher s p .place) ≡ true
-      → WholeInvariant (R .damage) Own z (advance g (Raise p) (raise (R .damage .versions) s p .reply)) (raise (R .damage .versions) s p .after)
-  pub walk-kept : (z : Given) (g : Ghost) (s : State) → WholeInvariant (R .damage) Own z g s → (p b : ℕ) → p < publishers (s .words) → R .walksAt (publisher s p .place) ≡ true
-      → WholeInvariant (R .damage) Own z (advance g (Walk p b) (Walked (R .looks s p b .reply))) (walk s p (R .looks s p b) .after)
+  pub enter-kept : (z : Given) (g : Ghost) (s : State) → WholeInvariant (R .damage) KindInvariant z g s → (r : ℕ) → AllClear (enterTests s r)
+      → WholeInvariant (R .damage) KindInvariant z (ghostStep g (Enter r) (At (R .entered s r .place))) (state (R .enterWords s r) (s .entries))
+  pub leave-kept : (z : Given) (g : Ghost) (s : State) → WholeInvariant (R .damage) KindInvariant z g s → (r : ℕ) → AllClear (leaveTests s r)
+      → WholeInvariant (R .damage) KindInvariant z (ghostStep g (Leave r) Left) (state (R .leaveWords s r) (s .entries))
+  pub sync-kept : (z : Given) (g : Ghost) (s : State) → WholeInvariant (R .damage) KindInvariant z g s → (p : ℕ) → AllClear (syncTests (R .damage .versions) s p)
+      → WholeInvariant (R .damage) KindInvariant z (ghostStep g (Sync p) (Synced (R .damage .versions .markAt (version (s .words))))) (sync (R .damage .versions) s p .after)
+  pub raise-kept : (z : Given) (g : Ghost) (s : State) → WholeInvariant (R .damage) KindInvariant z g s → (p : ℕ) → p < publishers (s .words) → R .raisesAt (publisher s p .place) ≡ true
+      → WholeInvariant (R .damage) KindInvariant z (ghostStep g (Raise p) (raise (R .damage .versions) s p .reply)) (raise (R .damage .versions) s p .after)
+  pub walk-kept : (z : Given) (g : Ghost) (s : State) → WholeInvariant (R .damage) KindInvariant z g s → (p b : ℕ) → p < publishers (s .words) → R .walksAt (publisher s p .place) ≡ true
+      → WholeInvariant (R .damage) KindInvariant z (ghostStep g (Walk p b) (Walked (R .looks s p b .reply))) (walk s p (R .looks s p b) .after)
   -- RAISE and WALK are in turn from 35 on alone; a WALK keeps its mark, and with no looks it comes to nothing
   pub raises-late : (pl : ℕ) → pl ≤ PLACE-SWAPPED → R .raisesAt pl ≡ false
   pub walks-late : (pl : ℕ) → pl ≤ PLACE-SWAPPED → R .walksAt pl ≡ false
   pub mark-stays : (s : State) (p b : ℕ) → R .looks s p b .walk .mark ≡ publisher s p .walk .mark
   pub no-looks : (s : State) (p : ℕ) → R .looks s p 0 ≡ record { walk = publisher s p .walk; reply = Spent }
-  pub return-shown : (z : Given) (g : Ghost) (s : State) → WholeInvariant (R .damage) Own z g s → (p b looks waits : ℕ) → p < publishers (s .words) → R .walksAt (publisher s p .place) ≡ true
+  pub return-shown : (z : Given) (g : Ghost) (s : State) → WholeInvariant (R .damage) KindInvariant z g s → (p b looks waits : ℕ) → p < publishers (s .words) → R .walksAt (publisher s p .place) ≡ true
       → R .looks s p b .reply ≡ Returned looks waits → Back traits z g p looks waits
 
-module _ (R : Rules) (traits : GraceTraits) (L : KindShows R traits) where
+module _ (R : SectionRules) (traits : GraceTraits) (L : KindShows R traits) where
   -- What each call's rows and act show of themselves.
   numbers-above-1 : (s : State) (c : Call) → allAbove DAMAGED (tableBy R .tests s c) ≡ true
   numbers-above-1 s (Enter r) = refl
@@ -167,9 +167,9 @@ module _ (R : Rules) (traits : GraceTraits) (L : KindShows R traits) where
   all-numbers s c = row-numbers (λ s. traits .publishes) (tableBy R) act-laws-of s c refl
 
   -- Each step keeps the invariant.
-  module _ (z : Given) (g : Ghost) (s : State) (i : WholeInvariant (R .damage) (L .Own) z g s) where
+  module _ (z : Given) (g : Ghost) (s : State) (i : WholeInvariant (R .damage) (L .KindInvariant) z g s) where
     After : Call → Outcome → Type 0
-    After c o = WholeInvariant (R .damage) (L .Own) z (afterEvent g (c ⇒ o .reply)) (o .after)
+    After c o = WholeInvariant (R .damage) (L .KindInvariant) z (afterEvent g (c ⇒ o .reply)) (o .after)
 
     undamaged-now : damaged (tableBy R) s ≡ false
     unfolding damaged
@@ -228,7 +228,7 @@ module _ (R : Rules) (traits : GraceTraits) (L : KindShows R traits) where
 
     raised-kept : (p : ℕ) → AllClear (tableBy R .tests s (Raise p)) → After (Raise p) (tableBy R .act s (Raise p))
     unfolding After
-    raised-kept p f = raise-split (λ (o : Outcome). WholeInvariant (R .damage) (L .Own) z (advance g (Raise p) (o .reply)) (o .after) → WholeInvariant (R .damage) (L .Own) z (afterEvent g (Raise p ⇒ o .reply)) (o .after))
+    raised-kept p f = raise-split (λ (o : Outcome). WholeInvariant (R .damage) (L .KindInvariant) z (ghostStep g (Raise p) (o .reply)) (o .after) → WholeInvariant (R .damage) (L .KindInvariant) z (afterEvent g (Raise p ⇒ o .reply)) (o .after))
         (R .damage .versions) s p (λ _ kept-now. record { shared = kept-now .shared; own = kept-now .own }) (λ kept-now. record { shared = kept-now .shared; own = kept-now .own })
         (L .raise-kept z g s i p (leb-false _ _ (f .0)) (not-false _ (f .1 .0)))
 
@@ -245,7 +245,7 @@ module _ (R : Rules) (traits : GraceTraits) (L : KindShows R traits) where
     act-kept (Walk p b) f = L .walk-kept z g s i p b (leb-false _ _ (f .0)) (not-false _ (f .1 .0))
     act-kept (Release p) f = release-kept p f
 
-    stepped : (c : Call) → WholeInvariant (R .damage) (L .Own) z (afterEvent g (c ⇒ step (tableBy R) s c .reply)) (step (tableBy R) s c .after)
+    stepped : (c : Call) → WholeInvariant (R .damage) (L .KindInvariant) z (afterEvent g (c ⇒ step (tableBy R) s c .reply)) (step (tableBy R) s c .after)
     unfolding After step
     stepped c = decided (After c) (rows (tableBy R) s c) (tableBy R .act s c) s (all-numbers s c) (λ f. act-kept c (f .1)) i
 
@@ -363,11 +363,11 @@ module _ (R : Rules) (traits : GraceTraits) (L : KindShows R traits) where
   outcome-parts : (o : Outcome) (a : Reply) (s : State) → o ≡ outcome a s → (o .reply ≡ a) × (o .after ≡ s)
   outcome-parts o a s e = (ap (λ (o′ : Outcome). o′ .reply) e, ap (λ (o′ : Outcome). o′ .after) e)
 
-  start : (s : State) (f : Fresh (machine (tableBy R)) s) → WholeInvariant (R .damage) (L .Own) (f .arguments) (ghost₀ firstTable) s
+  start : (s : State) (f : Fresh (machine (tableBy R)) s) → WholeInvariant (R .damage) (L .KindInvariant) (f .arguments) (ghost₀ firstTable) s
   unfolding making
-  start s f = decided (λ (o : Outcome). o ≡ outcome Made s → WholeInvariant (R .damage) (L .Own) (f .arguments) (ghost₀ firstTable) s) (makingTests (R .damage .versions) (f .arguments) (f .lent))
+  start s f = decided (λ (o : Outcome). o ≡ outcome Made s → WholeInvariant (R .damage) (L .KindInvariant) (f .arguments) (ghost₀ firstTable) s) (makingTests (R .damage .versions) (f .arguments) (f .lent))
       (outcome Made (made (R .damage .number) (R .freshReader) (f .arguments) (f .lent))) (f .lent) refl
-      (λ ok e. subst (λ (s′ : State). WholeInvariant (R .damage) (L .Own) (f .arguments) (ghost₀ firstTable) s′) (outcome-parts _ _ _ e .1) (record {
+      (λ ok e. subst (λ (s′ : State). WholeInvariant (R .damage) (L .KindInvariant) (f .arguments) (ghost₀ firstTable) s′) (outcome-parts _ _ _ e .1) (record {
         shared = made-grace-invariant (R .damage) (R .freshReader) (f .arguments) (f .lent) (making-clear (R .damage .versions) (f .arguments) (f .lent) ok) (ap (λ (x : Reader). x .place) (L .fresh-is)) (ap (λ (x : Reader). x .picked) (L .fresh-is)) (L .fresh-reader-fits _ _) (early-fits (L .kind-law) (f .arguments .readers) (f .arguments .slots) noPublisher (omega arith) (λ l. absurd (omega arith)));
         own = L .start-own (f .arguments) (f .lent) (making-clear (R .damage .versions) (f .arguments) (f .lent) ok);
       }))
@@ -404,7 +404,7 @@ module _ (R : Rules) (traits : GraceTraits) (L : KindShows R traits) where
   kept : GraceKeptInvariant (machine (tableBy R)) traits
   kept = record {
     every = record {
-      Inv = WholeInvariant (R .damage) (L .Own);
+      Inv = WholeInvariant (R .damage) (L .KindInvariant);
       start = λ s f. rw (L .first-is) (start s f);
       keep = stepped;
       look = λ z g s i. look-shelf (R .damage) z g s (i .shared .every) (R .exclusive) (machine (tableBy R)) (shared-calls z g s i);
@@ -420,7 +420,7 @@ module _ (R : Rules) (traits : GraceTraits) (L : KindShows R traits) where
   }
 
   -- What the invariant gives after every list from fresh.
-  pub reached : (s : State) (f : Fresh (machine (tableBy R)) s) (cs : List Call) → WholeInvariant (R .damage) (L .Own) (f .arguments) (afterEvents (ghost₀ (traits .every .first (f .arguments))) (events (machine (tableBy R)) s cs)) (afterAll (machine (tableBy R)) s cs)
+  pub reached : (s : State) (f : Fresh (machine (tableBy R)) s) (cs : List Call) → WholeInvariant (R .damage) (L .KindInvariant) (f .arguments) (afterEvents (ghost₀ (traits .every .first (f .arguments))) (events (machine (tableBy R)) s cs)) (afterAll (machine (tableBy R)) s cs)
   unfolding kept
   reached s f cs = kept-after (machine (tableBy R)) (traits .every) (kept .every) (f .arguments) (ghost₀ (traits .every .first (f .arguments))) s (kept .every .start s f) cs
 
@@ -434,7 +434,7 @@ module _ (R : Rules) (traits : GraceTraits) (L : KindShows R traits) where
   pub never-damaged-of : (s : State) → Fresh (machine (tableBy R)) s → (cs : List Call) → damaged (tableBy R) (afterAll (machine (tableBy R)) s cs) ≡ false
   never-damaged-of s f cs = go (ghost₀ firstTable) s (start s f) cs
     where
-      go : (g : Ghost) (s′ : State) → WholeInvariant (R .damage) (L .Own) (f .arguments) g s′ → (cs : List Call) → damaged (tableBy R) (afterAll (machine (tableBy R)) s′ cs) ≡ false
+      go : (g : Ghost) (s′ : State) → WholeInvariant (R .damage) (L .KindInvariant) (f .arguments) g s′ → (cs : List Call) → damaged (tableBy R) (afterAll (machine (tableBy R)) s′ cs) ≡ false
       go g s′ i [] = undamaged-now (f .arguments) g s′ i
       go g s′ i (c ∷ cs) = go (afterEvent g (c ⇒ step (tableBy R) s′ c .reply)) (step (tableBy R) s′ c .after) (stepped (f .arguments) g s′ i c) cs
 

@@ -2,7 +2,7 @@
 pub mod Steps
 pub mod Damage
 pub mod Table
-pub mod Rules
+pub mod SectionRules
 pub mod KindLaw
 -- The invariant: what every kind keeps, and what grace periods add.
 pub mod Core

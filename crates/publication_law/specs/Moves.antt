@@ -8,7 +8,7 @@ use lib.ListN.{getD, set, length, length-set}
 use lib.Seq.{getD-set-same, getD-set-other}
 use lib.Dec.{eqb}
 use borrow.Author.Tests.{eqb-true, eqb-false}
-use Rattle.base.specs.Base.{pick, upd}
+use Rattle.base.specs.Base.{choose, upd}
 use Rattle.base.specs.RowLaws.{same}
 use Rattle.calls.specs.Numbers.{READERS-MAX, PUBLISHERS-MAX}
 use Rattle.layout.specs.declared.Reader.{Reader}
@@ -30,7 +30,7 @@ one-moved w w′ j n stays = (j, λ j′ l ne. getD-set-other w′ j j′ n 0 ne
 upd-field : {A B : Type 0} (f : A → B) (after before : ℕ → A) (i : ℕ) (value : A) → after ≡ upd before i value → _≡_ {A = ℕ → B} (λ j. f (after j)) (upd (λ j. f (before j)) i (f value))
 upd-field f after before i value e = fun-ext (λ j. ap (λ (all : ℕ → _). f (all j)) e ∙ go (eqb j i) j)
   where
-    go : (b : Bool) (j : ℕ) → f (pick b value (before j)) ≡ pick b (f value) (f (before j))
+    go : (b : Bool) (j : ℕ) → f (choose b value (before j)) ≡ choose b (f value) (f (before j))
     go true j = refl
     go false j = refl
 
@@ -68,7 +68,7 @@ moves-publisher w p y len lt = record {
 
 -- .. and one of current slot, version and releases replaced besides.
 moves-head : (w w′ : List ℕ) (p : ℕ) (y : Publisher) (cur ver rel : ℕ) → MovesPublisher w w′ p y cur ver rel → length w ≡ WORDS → (j n : ℕ) → CURRENT-AT ≤ j → j ≤ RELEASES-AT
-    → MovesPublisher w (set w′ j n) p y (pick (eqb CURRENT-AT j) n cur) (pick (eqb VERSION-AT j) n ver) (pick (eqb RELEASES-AT j) n rel)
+    → MovesPublisher w (set w′ j n) p y (choose (eqb CURRENT-AT j) n cur) (choose (eqb VERSION-AT j) n ver) (choose (eqb RELEASES-AT j) n rel)
 moves-head w w′ p y cur ver rel m len j n low high = record {
   long = length-set w′ j n ∙ m .long;
   head = λ j′ l. getD-set-other w′ j j′ n 0 (λ eq. omega arith) ∙ m .head j′ l;
@@ -80,10 +80,10 @@ moves-head w w′ p y cur ver rel m len j n low high = record {
   publishers-are = publisher-head w′ j n (omega arith) ∙ m .publishers-are;
 }
   where
-    read : (j′ n′ : ℕ) → getD w′ j′ 0 ≡ n′ → getD (set w′ j n) j′ 0 ≡ pick (eqb j′ j) n n′
+    read : (j′ n′ : ℕ) → getD w′ j′ 0 ≡ n′ → getD (set w′ j n) j′ 0 ≡ choose (eqb j′ j) n n′
     read j′ n′ e = go (eqb j′ j) refl
       where
-        go : (b : Bool) → eqb j′ j ≡ b → getD (set w′ j n) j′ 0 ≡ pick b n n′
+        go : (b : Bool) → eqb j′ j ≡ b → getD (set w′ j n) j′ 0 ≡ choose b n n′
         go true d = rw (eqb-true j′ j d) (getD-set-same w′ j n 0 (omega (arith, m .long)))
         go false d = getD-set-other w′ j j′ n 0 (eqb-false j′ j d) ∙ e
 
@@ -127,7 +127,7 @@ module _ {K : DamageRules} {s : State} (f : Undamaged K s) where
   publisher-moves p y lt = moves-publisher (s .words) p y (f .head .long) (publisher-below K s f p lt)
 
   pub publisher-moves-head : (p : ℕ) (y : Publisher) → p < publishers (s .words) → (j n : ℕ) → CURRENT-AT ≤ j → j ≤ RELEASES-AT
-      → MovesPublisher (s .words) (set (withPublisher (s .words) p y) j n) p y (pick (eqb CURRENT-AT j) n (current (s .words))) (pick (eqb VERSION-AT j) n (version (s .words))) (pick (eqb RELEASES-AT j) n (releases (s .words)))
+      → MovesPublisher (s .words) (set (withPublisher (s .words) p y) j n) p y (choose (eqb CURRENT-AT j) n (current (s .words))) (choose (eqb VERSION-AT j) n (version (s .words))) (choose (eqb RELEASES-AT j) n (releases (s .words)))
   publisher-moves-head p y lt j n low high = moves-head (s .words) (withPublisher (s .words) p y) p y _ _ _ (publisher-moves p y lt) (f .head .long) j n low high
 
   pub reader-moves : (r : ℕ) (x : Reader) → r < readers (s .words) → MovesReader (s .words) (withReader (s .words) r x) r x

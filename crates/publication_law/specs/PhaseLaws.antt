@@ -6,7 +6,7 @@ use mathlib.Core.Path.{_≡_, refl, sym, ap, _∙_}
 use mathlib.Core.Bool.{Bool, true, false}
 use lib.Dec.{leb, eqb}
 use borrow.Author.Tests.{eqb-true, eqb-false, ne-eqb, leb-true, leb-false, le-leb}
-use Rattle.base.specs.Base.{pick, upd}
+use Rattle.base.specs.Base.{choose, upd}
 use Rattle.base.specs.RowLaws.{same, at-or}
 use Rattle.calls.specs.Numbers.{PLACE-IDLE, PLACE-CLAIMED, PLACE-WRITTEN, PLACE-SWAPPED, PLACE-SYNCHRONISING, PLACE-QUIET, PLACE-RAISED, PLACE-RETURNED}
 use Rattle.calls.specs.Tally.{Phase, firstPlace, tally₀}
@@ -27,7 +27,7 @@ pub in-phase : (pl : ℕ) → InPhase pl (phaseAt pl)
 in-phase pl = go (eqb pl 0) refl (leb pl 33) refl
   where
     late : (b : Bool) → eqb pl PLACE-SWAPPED ≡ b → (c : Bool) → eqb pl PLACE-SYNCHRONISING ≡ c → (d : Bool) → eqb pl PLACE-QUIET ≡ d → (e : Bool) → eqb pl PLACE-RAISED ≡ e → PLACE-SWAPPED ≤ pl
-        → InPhase pl (pick b swapped (pick c synchronising (pick d quiet (pick e raised returned))))
+        → InPhase pl (choose b swapped (choose c synchronising (choose d quiet (choose e raised returned))))
     late true eb c ec d ed e ee l = eqb-true pl 34 eb
     late false eb true ec d ed e ee l = eqb-true pl 35 ec
     late false eb false ec true ed e ee l = eqb-true pl 36 ed
@@ -36,7 +36,7 @@ in-phase pl = go (eqb pl 0) refl (leb pl 33) refl
         let not-34 = eqb-false pl 34 eb in let not-35 = eqb-false pl 35 ec in let not-36 = eqb-false pl 36 ed in let not-37 = eqb-false pl 37 ee in omega arith
 
     go : (a : Bool) → eqb pl PLACE-IDLE ≡ a → (b : Bool) → leb pl PLACE-WRITTEN ≡ b
-        → InPhase pl (pick a idle (pick b writing (pick (eqb pl PLACE-SWAPPED) swapped (pick (eqb pl PLACE-SYNCHRONISING) synchronising (pick (eqb pl PLACE-QUIET) quiet (pick (eqb pl PLACE-RAISED) raised returned))))))
+        → InPhase pl (choose a idle (choose b writing (choose (eqb pl PLACE-SWAPPED) swapped (choose (eqb pl PLACE-SYNCHRONISING) synchronising (choose (eqb pl PLACE-QUIET) quiet (choose (eqb pl PLACE-RAISED) raised returned))))))
     go true ea b eb = eqb-true pl 0 ea
     go false ea true eb = let unequal = eqb-false pl 0 ea in (omega arith, leb-true pl 33 eb)
     go false ea false eb = late (eqb pl 34) refl (eqb pl 35) refl (eqb pl 36) refl (eqb pl 37) refl (leb-false pl 33 eb)

@@ -2,7 +2,7 @@
 use Prim.Native.Nat.{ℕ}
 use mathlib.Core.Path.{_≡_}
 use lib.Dec.{leb, eqb}
-use Rattle.base.specs.Base.{pick}
+use Rattle.base.specs.Base.{choose}
 use Rattle.calls.specs.Numbers.{PLACE-IDLE, PLACE-WRITTEN, PLACE-SWAPPED, PLACE-SYNCHRONISING, PLACE-QUIET, PLACE-RAISED}
 use Rattle.calls.specs.Tally.{Phase}
 use Rattle.calls.specs.Tally.Phase.{idle, writing, swapped, synchronising, quiet, raised, returned}
@@ -10,12 +10,12 @@ use Rattle.calls.specs.Tally.Phase.{idle, writing, swapped, synchronising, quie
 -- The phase that a publisher's place tells.
 abbrev pub phaseAt : ℕ → Phase
 phaseAt place =
-    pick (eqb place PLACE-IDLE) idle (
-    pick (leb place PLACE-WRITTEN) writing (
-    pick (eqb place PLACE-SWAPPED) swapped (
-    pick (eqb place PLACE-SYNCHRONISING) synchronising (
-    pick (eqb place PLACE-QUIET) quiet (
-    pick (eqb place PLACE-RAISED) raised returned)))))
+    choose (eqb place PLACE-IDLE) idle (
+    choose (leb place PLACE-WRITTEN) writing (
+    choose (eqb place PLACE-SWAPPED) swapped (
+    choose (eqb place PLACE-SYNCHRONISING) synchronising (
+    choose (eqb place PLACE-QUIET) quiet (
+    choose (eqb place PLACE-RAISED) raised returned)))))
 
 -- Readers' places and publishers' phases as told, beside readers' and publishers' places as stored.
 pub record Phases (place : ℕ → ℕ) (phase : ℕ → Phase) (readerPlace publisherPlace : ℕ → ℕ) : Type 0 where

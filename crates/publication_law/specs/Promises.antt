@@ -9,15 +9,15 @@ use lib.IntN.{pos}
 use lib.ListN.{getD}
 use lib.Dec.{leb, eqb}
 use borrow.Author.Tests.{eqb-true, eqb-false, leb-true, leb-false, not-false}
-use Rattle.base.specs.RowLaws.{clash, not-both, pick-split}
+use Rattle.base.specs.RowLaws.{clash, not-both, choose-split}
 use Rattle.calls.specs.declared.Call.{Call}
 use Rattle.calls.specs.declared.Call.the-variants.{Sync, Raise, Walk}
 use Rattle.calls.specs.declared.Reply.the-variants.{Synced, Raised, Shared, Walked}
 use Rattle.calls.specs.declared.WalkReply.the-variants.{Spent}
 use Rattle.calls.specs.Numbers.{PLACE-SYNCHRONISING, PLACE-RAISED}
-use Rattle.calls.specs.ReplyNumbersLaws.{NarrowPitch, Representable}
+use Rattle.calls.specs.ReplyNumbersLaws.{PitchFitsWord, Representable}
 use Rattle.calls.specs.Events.{accepted}
-use Rattle.layout.specs.declared.Progress.{Progress}
+use Rattle.layout.specs.declared.WalkResult.{WalkResult}
 use Rattle.layout.specs.Layout.{VERSION-AT, publishers, version}
 use Rattle.layout.specs.Records.{_atPlace_, _walk≔_, _mark≔_, _next≔_, _looks≔_, _waits≔_}
 use Rattle.statement.specs.Machine.{State, Outcome, Given, Fresh, afterAll}
@@ -26,7 +26,7 @@ use Rattle.statement.specs.Frame.{Frame}
 use Rattle.statement.specs.Companions.{GraceTraits, MakingAccepts, MakesFresh, RefusedLeaves, GraceCompanions}
 use Rattle.publication_law.specs.Steps.{publisher, raise, walked}
 use Rattle.publication_law.specs.Table.{Table, damaged, rows, step, making, machine}
-use Rattle.publication_law.specs.Rules.{Rules, tableBy}
+use Rattle.publication_law.specs.SectionRules.{SectionRules, tableBy}
 use Rattle.publication_law.specs.DamageLaws.{Undamaged}
 use Rattle.publication_law.specs.Calls.{undamaged-facts}
 use Rattle.publication_law.specs.KindLaw.{undamaged-publisher}
@@ -61,12 +61,12 @@ pub record Promises (T : Table) (traits : GraceTraits) : Type 0 where
   pub sync-facts : (s : State) (p : ℕ) → accepted (step T s (Sync p) .reply) ≡ true → SyncFacts (traits .successor) s p (step T s (Sync p))
   pub raise-facts : (s : State) (p : ℕ) → accepted (step T s (Raise p) .reply) ≡ true → RaiseFacts (traits .successor) s p (step T s (Raise p))
   -- every reply of a store whose entries are pitches of 64 bits has an answer that no other representable reply has
-  pub representable : (s : State) (c : Call) → ((j : ℕ) → NarrowPitch (getD (s .entries) j (pos 0))) → Representable (step T s c .reply)
+  pub representable : (s : State) (c : Call) → ((j : ℕ) → PitchFitsWord (getD (s .entries) j (pos 0))) → Representable (step T s c .reply)
   pub representable-making : (z : Given) (s : State) → Representable (making T z s .reply)
   -- a WALK with no looks that replies spent leaves the whole state as it was
   pub walk-zero : (s : State) (p : ℕ) → step T s (Walk p 0) .reply ≡ Walked Spent → step T s (Walk p 0) .after ≡ s
 
-module _ (R : Rules) (traits : GraceTraits) (L : KindShows R traits) where
+module _ (R : SectionRules) (traits : GraceTraits) (L : KindShows R traits) where
   sync-facts-of : (s : State) (p : ℕ) → accepted (step (tableBy R) s (Sync p) .reply) ≡ true → SyncFacts (traits .successor) s p (step (tableBy R) s (Sync p))
   unfolding step
   sync-facts-of s p = decided (λ (o : Outcome). accepted (o .reply) ≡ true → SyncFacts (traits .successor) s p o) (rows (tableBy R) s (Sync p)) (tableBy R .act s (Sync p)) s refl
@@ -75,7 +75,7 @@ module _ (R : Rules) (traits : GraceTraits) (L : KindShows R traits) where
 
   -- A RAISE of a publisher whose mark fits.
   raise-acts : (s : State) (p : ℕ) → Undamaged (R .damage) s → p < publishers (s .words) → R .damage .versions .wrongMark (publisher s p .walk .mark) ≡ false → RaiseFacts (traits .successor) s p (raise (R .damage .versions) s p)
-  raise-acts s p no-damage lt fits = rw (L .successor-is) (pick-split (λ (o : Outcome). RaiseFacts (R .damage .versions .markAt) s p o) (eqb (version (s .words)) (R .damage .versions .beforeMark (publisher s p .walk .mark)))
+  raise-acts s p no-damage lt fits = rw (L .successor-is) (choose-split (λ (o : Outcome). RaiseFacts (R .damage .versions .markAt) s p o) (eqb (version (s .words)) (R .damage .versions .beforeMark (publisher s p .walk .mark)))
       (λ e. let m = publisher-moves-head no-damage p (publisher s p atPlace PLACE-RAISED) lt VERSION-AT (publisher s p .walk .mark) (omega arith) (omega arith) in
       record {
         raised = λ _. (refl, m .version-is);
@@ -105,7 +105,7 @@ module _ (R : Rules) (traits : GraceTraits) (L : KindShows R traits) where
           go true d = leb-true 35 pl d
           go false d = absurd (not-both _ e (L .raises-late pl (let less = leb-false 35 pl d in omega arith)))
 
-pub promises-of : (R : Rules) (traits : GraceTraits) → KindShows R traits → Promises (tableBy R) traits
+pub promises-of : (R : SectionRules) (traits : GraceTraits) → KindShows R traits → Promises (tableBy R) traits
 promises-of R traits L = record {
   demand3 = demand3-of R traits L;
   companions = companions-of R traits L;
@@ -122,12 +122,12 @@ promises-of R traits L = record {
 }
 
 -- The facts of every accepted WALK, for every state: reply and record are those of the looks made, of which a kind says Looks.
-pub record WalkFacts (s : State) (p : ℕ) (progress : Progress) (Looks : Type 0) (o : Outcome) : Type 0 where
-  pub reply-is : o .reply ≡ Walked (progress .reply)
-  pub record-is : publisher (o .after) p ≡ walked (publisher s p) progress
+pub record WalkFacts (s : State) (p : ℕ) (result : WalkResult) (Looks : Type 0) (o : Outcome) : Type 0 where
+  pub reply-is : o .reply ≡ Walked (result .reply)
+  pub record-is : publisher (o .after) p ≡ walked (publisher s p) result
   pub looks-are : Looks
 
-pub walk-facts : (R : Rules) (s : State) (p b : ℕ) (Looks : Type 0) → (Undamaged (R .damage) s → p < publishers (s .words) → R .walksAt (publisher s p .place) ≡ true → Looks)
+pub walk-facts : (R : SectionRules) (s : State) (p b : ℕ) (Looks : Type 0) → (Undamaged (R .damage) s → p < publishers (s .words) → R .walksAt (publisher s p .place) ≡ true → Looks)
     → accepted (step (tableBy R) s (Walk p b) .reply) ≡ true → WalkFacts s p (R .looks s p b) Looks (step (tableBy R) s (Walk p b))
 unfolding step
 walk-facts R s p b Looks looks = decided (λ (o : Outcome). accepted (o .reply) ≡ true → WalkFacts s p (R .looks s p b) Looks o) (rows (tableBy R) s (Walk p b)) (tableBy R .act s (Walk p b)) s refl

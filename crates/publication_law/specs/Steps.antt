@@ -6,7 +6,7 @@ use lib.IntN.{ℤ, pos}
 use lib.Signed.{ltZ}
 use lib.ListN.{getD, set, length, replicate}
 use lib.Dec.{leb, ltb, eqb}
-use Rattle.base.specs.Base.{pick}
+use Rattle.base.specs.Base.{choose}
 use Rattle.base.specs.Rows.{Test, firstOf, anyBelow, outside}
 use Rattle.base.specs.Rows.Test.{_gives_}
 use Rattle.calls.specs.declared.Reply.the-variants.{Pitch, Claimed, Written, Swapped, Synced, Raised, Shared, Walked, Freed, Refused}
@@ -16,8 +16,8 @@ use Rattle.calls.specs.Numbers.{READERS-MAX, PUBLISHERS-MAX, SLOTS-MIN, SLOTS-M
 use Rattle.layout.specs.declared.Reader.{Reader}
 use Rattle.layout.specs.declared.Publisher.{Publisher}
 use Rattle.layout.specs.declared.WalkRecord.{WalkRecord}
-use Rattle.layout.specs.declared.Progress.{Progress}
-use Rattle.layout.specs.Layout.{WORDS, readers, publishers, slots, current, version, releases, withCurrent, withVersion, withReleases, readerAt, publisherAt, withPublisher, fresh, entryAt}
+use Rattle.layout.specs.declared.WalkResult.{WalkResult}
+use Rattle.layout.specs.Layout.{WORDS, readers, publishers, slots, current, version, releases, withCurrent, withVersion, withReleases, readerAt, publisherAt, withPublisher, freshWords, entryAt}
 use Rattle.layout.specs.Records.{_atPlace_, _held≔_, _walk≔_, _mark≔_, _next≔_, _looks≔_, _waits≔_}
 use Rattle.statement.specs.Machine.{State, state, Outcome, outcome, Given, heldSlot}
 
@@ -51,7 +51,7 @@ putPublisher s p y = state (withPublisher (s .words) p y) (s .entries)
 abbrev pub decide : List Test → Outcome → State → Outcome
 decide rows o s =
     let n = firstOf rows in
-    pick (eqb n 0) o (outcome (Refused n) s)
+    choose (eqb n 0) o (outcome (Refused n) s)
 
 -- First name: 10 no such reader; 11 no such publisher.
 abbrev pub noSuchReader : State → ℕ → Test
@@ -144,7 +144,7 @@ abbrev pub raiseTests : (ℕ → Bool) → State → ℕ → List Test
 raiseTests raisesAt s p = noSuchPublisher s p ∷ publisherTurn (not (raisesAt (publisher s p .place))) ∷ []
 
 abbrev pub raise : Versions → State → ℕ → Outcome
-raise vs s p = pick (eqb (version (s .words)) (vs .beforeMark (publisher s p .walk .mark)))
+raise vs s p = choose (eqb (version (s .words)) (vs .beforeMark (publisher s p .walk .mark)))
     (outcome Raised (state (withVersion (withPublisher (s .words) p (publisher s p atPlace PLACE-RAISED)) (publisher s p .walk .mark)) (s .entries)))
     (outcome Shared (putPublisher s p (publisher s p atPlace PLACE-RAISED)))
 
@@ -161,11 +161,11 @@ placeAfter place Spent = place
 placeAfter place Quiet = PLACE-QUIET
 placeAfter place (Returned looks waits) = PLACE-RETURNED
 
-abbrev pub walked : Publisher → Progress → Publisher
-walked y progress = y atPlace (placeAfter (y .place) (progress .reply)) walk≔ progress .walk
+abbrev pub walked : Publisher → WalkResult → Publisher
+walked y result = y atPlace (placeAfter (y .place) (result .reply)) walk≔ result .walk
 
-abbrev pub walk : State → ℕ → Progress → Outcome
-walk s p progress = outcome (Walked (progress .reply)) (putPublisher s p (walked (publisher s p) progress))
+abbrev pub walk : State → ℕ → WalkResult → Outcome
+walk s p result = outcome (Walked (result .reply)) (putPublisher s p (walked (publisher s p) result))
 
 -- RELEASE p: 38 to 0, which by itself frees the held slot (its number stays), adds one to releases (modulo 2^64), replies with slot and releases.
 abbrev pub releaseTests : State → ℕ → List Test
@@ -194,4 +194,4 @@ makingTests vs z s =
 -- A fresh store has every entry feathered, slot 0 current, readers and publishers at place 0, the version and the sizes as given
 -- and every other number 0, but for the kind word and what a kind's fresh reader x has.
 abbrev pub made : ℕ → Reader → Given → State → State
-made kind x z s = state (fresh kind (z .readers) (z .publishers) (z .slots) (z .version) x) (replicate (length (s .entries)) FEATHERED)
+made kind x z s = state (freshWords kind (z .readers) (z .publishers) (z .slots) (z .version) x) (replicate (length (s .entries)) FEATHERED)

@@ -22,8 +22,8 @@ pub record Table : Type 0 where
   pub tests : State → Call → List Test
   pub act : State → Call → Outcome
   -- the rows of making, and the fresh store
-  pub makingRows : Given → State → List Test
-  pub fresh : Given → State → State
+  pub makingTests : Given → State → List Test
+  pub freshStore : Given → State → State
 
 module _ (T : Table) where
   unfoldable pub damaged : State → Bool
@@ -37,7 +37,7 @@ module _ (T : Table) where
   step s c = decide (rows s c) (T .act s c) s
 
   unfoldable pub making : Given → State → Outcome
-  making z s = decide (T .makingRows z s) (outcome Made (T .fresh z s)) s
+  making z s = decide (T .makingTests z s) (outcome Made (T .freshStore z s)) s
 
   abbrev pub machine : Machine
   machine = record { making = making; step = step }

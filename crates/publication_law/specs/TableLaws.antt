@@ -12,12 +12,12 @@ use lib.Dec.{eqb}
 use borrow.Author.Tests.{eqb-true, eqb-false, ne-eqb}
 use Rattle.base.specs.Rows.{firstOf}
 use Rattle.base.specs.Rows.Test.{_gives_}
-use Rattle.base.specs.RowLaws.{clash, not-both, or-left, pick-split, AllClear, allAbove, all-above, clear, first-within}
+use Rattle.base.specs.RowLaws.{clash, not-both, or-left, choose-split, AllClear, allAbove, all-above, clear, first-within}
 use Rattle.calls.specs.declared.Call.{Call}
 use Rattle.calls.specs.declared.Call.the-variants.{Write}
 use Rattle.calls.specs.declared.Reply.the-variants.{Made, Refused}
 use Rattle.calls.specs.Numbers.{DAMAGED}
-use Rattle.calls.specs.ReplyNumbersLaws.{NarrowPitch, Representable}
+use Rattle.calls.specs.ReplyNumbersLaws.{PitchFitsWord, Representable}
 use Rattle.calls.specs.Events.{accepted}
 use Rattle.statement.specs.Machine.{State, Outcome, outcome, Given}
 use Rattle.statement.specs.Frame.{Framed, Writes, Frame}
@@ -41,13 +41,13 @@ module _ (T : Table) where
   -- A refused making leaves store and entries as they were lent.
   pub making-leaves : (z : Given) (s : State) (n : ℕ) → making T z s .reply ≡ Refused n → making T z s .after ≡ s
   unfolding making
-  making-leaves z s n = decide-leaves (T .makingRows z s) (outcome Made (T .fresh z s)) s n refl
+  making-leaves z s n = decide-leaves (T .makingTests z s) (outcome Made (T .freshStore z s)) s n refl
 
   -- Where no act refuses by itself, a refused call changes nothing.
   pub refused-leaves-of-table : ((s : State) (c : Call) → firstOf (rows T s c) ≡ 0 → accepted (T .act s c .reply) ≡ true) → RefusedLeaves (machine T)
   unfolding step
   refused-leaves-of-table accepts = record {
-    step = λ s c n. pick-split (λ (o : Outcome). o .reply ≡ Refused n → o .after ≡ s) (eqb (firstOf (rows T s c)) 0)
+    step = λ s c n. choose-split (λ (o : Outcome). o .reply ≡ Refused n → o .after ≡ s) (eqb (firstOf (rows T s c)) 0)
         (λ none e. absurd (not-both _ (accepts s c (eqb-true _ 0 none)) (rw e refl))) (λ _ _. refl);
     making = making-leaves;
   }
@@ -56,7 +56,7 @@ module _ (T : Table) where
 pub record ActFacts (publishes : Bool) (s : State) (c : Call) (o : Outcome) : Type 0 where
   -- it is accepted, and a pitch that it replies is an entry
   pub accepts : accepted (o .reply) ≡ true
-  pub representable : ((j : ℕ) → NarrowPitch (getD (s .entries) j (pos 0))) → Representable (o .reply)
+  pub representable : ((j : ℕ) → PitchFitsWord (getD (s .entries) j (pos 0))) → Representable (o .reply)
   -- it moves what it names and nothing else, and the entries only if it is a WRITE
   pub framed : Framed publishes c (s .words) (o .after .words)
   pub entries-stay : ((p : ℕ) (v : ℤ) → c ≢ Write p v) → o .after .entries ≡ s .entries
@@ -65,7 +65,7 @@ pub record ActFacts (publishes : Bool) (s : State) (c : Call) (o : Outcome) : Ty
 pub record ActLaws (publishes : State → Bool) (T : Table) : Type 0 where
   -- a call's numbers are above 1, and all are below 100
   pub numbers-above-1 : (s : State) (c : Call) → T .lacks c ≡ false → allAbove DAMAGED (T .tests s c) ≡ true
-  pub making-numbers : (z : Given) (s : State) → allAbove 0 (T .makingRows z s) ≡ true
+  pub making-numbers : (z : Given) (s : State) → allAbove 0 (T .makingTests z s) ≡ true
   pub acts : (s : State) (c : Call) → AllClear (rows T s c) → ActFacts (publishes s) s c (T .act s c)
   pub writes : (s : State) (p : ℕ) (v : ℤ) → AllClear (rows T s (Write p v)) → Writes s p v (T .act s (Write p v))
 
@@ -80,7 +80,7 @@ module _ (publishes : State → Bool) (T : Table) (L : ActLaws publishes T) wher
     where
       go : (b : Bool) → T .lacks c ≡ b → Q (step T s c)
       go true e = rw (lacked-refused T s c e) (f′ DAMAGED (λ eq. omega arith) (omega arith))
-      go false e = pick-split Q (eqb (firstOf (rows T s c)) 0) (λ e′. f (clear (rows T s c) (row-numbers s c e) (eqb-true _ 0 e′)))
+      go false e = choose-split Q (eqb (firstOf (rows T s c)) 0) (λ e′. f (clear (rows T s c) (row-numbers s c e) (eqb-true _ 0 e′)))
           (λ e′. let ne = eqb-false (firstOf (rows T s c)) 0 e′ in f′ (firstOf (rows T s c)) ne (first-within 0 (rows T s c) (row-numbers s c e) ne .1))
 
   -- No act refuses by itself, so a refused call changes nothing.
@@ -97,11 +97,11 @@ module _ (publishes : State → Bool) (T : Table) (L : ActLaws publishes T) wher
   -- A call that the kind has gets 1 from a damaged store alone.
   pub only-damaged : (s : State) (c : Call) → T .lacks c ≡ false → damaged T s ≡ false → step T s c .reply ≢ Refused DAMAGED
   unfolding step
-  only-damaged s c has clean = pick-split (λ (o : Outcome). o .reply ≢ Refused DAMAGED) (eqb (firstOf (rows T s c)) 0)
+  only-damaged s c has no-damage = choose-split (λ (o : Outcome). o .reply ≢ Refused DAMAGED) (eqb (firstOf (rows T s c)) 0)
       (λ e′ e. not-both _ (acts-accept s c (eqb-true _ 0 e′)) (rw e refl))
       (λ e′ e.
       let is : firstOf (rows T s c) ≡ DAMAGED = cc in
-      let own : firstOf (T .tests s c) ≡ DAMAGED = rw (has, clean) at is in
+      let own : firstOf (T .tests s c) ≡ DAMAGED = rw (has, no-damage) at is in
       omega (arith, first-within DAMAGED (T .tests s c) (L .numbers-above-1 s c has) (λ eq. omega arith) .0))
 
   -- Only what a call names moves.
@@ -113,10 +113,10 @@ module _ (publishes : State → Bool) (T : Table) (L : ActLaws publishes T) wher
   }
 
   -- A reply of a call or a making has an answer that no other representable reply has: a refusal's number is below 100, a pitch is an entry.
-  pub representable-of-table : (s : State) (c : Call) → ((j : ℕ) → NarrowPitch (getD (s .entries) j (pos 0))) → Representable (step T s c .reply)
+  pub representable-of-table : (s : State) (c : Call) → ((j : ℕ) → PitchFitsWord (getD (s .entries) j (pos 0))) → Representable (step T s c .reply)
   representable-of-table s c narrow = by-rows (λ (o : Outcome). Representable (o .reply)) s c (λ f. L .acts s c f .representable narrow) (λ n _ low. low)
 
   pub representable-making-of-table : (z : Given) (s : State) → Representable (making T z s .reply)
   unfolding making
-  representable-making-of-table z s = pick-split (λ (o : Outcome). Representable (o .reply)) (eqb (firstOf (T .makingRows z s)) 0) (λ _. tt)
-      (λ found. first-within 0 (T .makingRows z s) (L .making-numbers z s) (eqb-false (firstOf (T .makingRows z s)) 0 found) .1)
+  representable-making-of-table z s = choose-split (λ (o : Outcome). Representable (o .reply)) (eqb (firstOf (T .makingTests z s)) 0) (λ _. tt)
+      (λ found. first-within 0 (T .makingTests z s) (L .making-numbers z s) (eqb-false (firstOf (T .makingTests z s)) 0 found) .1)

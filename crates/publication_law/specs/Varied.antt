@@ -1,12 +1,12 @@
 -- Rules that differ from a kind's own, for stores that are refuted.
 use Prim.Native.Nat.{ℕ}
 use mathlib.Core.Bool.{Bool}
-use Rattle.layout.specs.declared.Progress.{Progress}
+use Rattle.layout.specs.declared.WalkResult.{WalkResult}
 use Rattle.statement.specs.Machine.{State}
-use Rattle.publication_law.specs.Rules.{Rules}
+use Rattle.publication_law.specs.SectionRules.{SectionRules}
 
 -- Other rules that differ from R in number 31 and in the looks of a walk.
-abbrev pub varied : Rules → Bool → (State → ℕ → ℕ → Progress) → Rules
+abbrev pub varied : SectionRules → Bool → (State → ℕ → ℕ → WalkResult) → SectionRules
 varied R exclusive looks = record {
   damage = R .damage;
   further = R .further;

@@ -7,12 +7,12 @@ ghost use mathlib.Core.Path.{_≡_};
 ghost use Rattle.layout.specs.Layout.{noWalk};
 ghost use Rattle.layout.specs.Records.{_mark≔_, _next≔_, _looks≔_, _waits≔_};
 ghost use Rattle.publication_law.specs.Looks.{withLook};
-ghost use Rattle.publication_looks.specs.Fits.{Fits};
+ghost use Rattle.publication_looks.specs.LookFits.{LookFits};
 use layout::WalkRecord;
 
 // The four numbers after one look more, which passed so many readers and waited so often.
 fn moved(mark: u64, next: u64, looks: u64, waits: u64, passed: u64, waited: u64) -> WalkRecord
-    requires { ⌜ Fits (noWalk mark≔ mark next≔ next looks≔ looks waits≔ waits) passed waited ⌝ }
+    requires { ⌜ LookFits (noWalk mark≔ mark next≔ next looks≔ looks waits≔ waits) passed waited ⌝ }
     ensures { λ k. ⌜ k ≡ withLook (noWalk mark≔ mark next≔ next looks≔ looks waits≔ waits) passed waited ⌝ }
 {
     WalkRecord {
@@ -25,7 +25,7 @@ fn moved(mark: u64, next: u64, looks: u64, waits: u64, passed: u64, waited: u64)
 
 // The walk is lent: it is taken apart, and the moved numbers are stored.
 fn count_look(walk: &mut WalkRecord, passed: u64, waited: u64)
-    requires { ⌜ Fits (now walk) passed waited ⌝ }
+    requires { ⌜ LookFits (now walk) passed waited ⌝ }
     ensures { λ _. ⌜ now (walk .exit) ≡ withLook (now (walk .entry)) passed waited ⌝ }
 {
     let m = moved(walk.mark, walk.next, walk.looks, walk.waits, passed, waited);
@@ -36,7 +36,7 @@ fn count_look(walk: &mut WalkRecord, passed: u64, waited: u64)
 
 // A walk with one look more, by value: whoever calls this needs no proof by hand.
 pub fn look_counted(walk: WalkRecord, passed: u64, waited: u64) -> WalkRecord
-    requires { ⌜ Fits walk passed waited ⌝ }
+    requires { ⌜ LookFits walk passed waited ⌝ }
     ensures { λ k. ⌜ k ≡ withLook walk passed waited ⌝ }
 {
     let mut w = walk;

@@ -3,7 +3,7 @@ use Prim.Native.Nat.{ℕ, _+_, _-_}
 use mathlib.Core.List.{List, [], _∷_}
 use lib.ListN.{getD, length}
 use lib.Dec.{ltb}
-use Rattle.base.specs.Base.{pick}
+use Rattle.base.specs.Base.{choose}
 use Rattle.calls.specs.Numbers.{READERS-MAX, PUBLISHERS-MAX, SLOTS-MIN, SLOTS-MAX, TABLE, PITCH-LOW, PITCH-HIGH, FEATHERED, NOT-READING, KIND-NEW, KIND-OLD, DAMAGED, BAD-READERS, BAD-PUBLISHERS, BAD-SLOTS, BAD-ENTRIES, BAD-VERSION, NO-SUCH-READER, NO-SUCH-PUBLISHER, NO-SUCH-SLOT, NO-SUCH-ENTRY, BAD-PITCH, READER-TURN, PUBLISHER-TURN, SLOT-IN-USE, BUSY, VERSION-IS-LAST, TOO-MANY-LOOKS, CODE-MADE, CODE-AT, CODE-PITCH, CODE-LEFT, CODE-CLAIMED, CODE-WRITTEN, CODE-SWAPPED, CODE-SYNCED, CODE-RAISED, CODE-SHARED, CODE-WAITING, CODE-SPENT, CODE-QUIET, CODE-RETURNED, CODE-FREED}
 use Rattle.calls.specs.ReplyNumbers.{pitchNumber}
 use Rattle.layout.specs.Layout.{WORDS}
@@ -29,6 +29,6 @@ codes =
 -- One list after the other; past the last number 0.
 abbrev pub numberOf : ℕ → ℕ
 numberOf n =
-    pick (ltb n (length limits)) (getD limits n 0)
-    (pick (ltb n (length limits + length refusals)) (getD refusals (n - length limits) 0)
-    (pick (ltb n (length limits + length refusals + length codes)) (getD codes (n - (length limits + length refusals)) 0) 0))
+    choose (ltb n (length limits)) (getD limits n 0)
+    (choose (ltb n (length limits + length refusals)) (getD refusals (n - length limits) 0)
+    (choose (ltb n (length limits + length refusals + length codes)) (getD codes (n - (length limits + length refusals)) 0) 0))

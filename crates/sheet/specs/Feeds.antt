@@ -9,14 +9,14 @@ use lib.Dec.{eqb, ltb}
 use lib.ListN.{length, take, drop, length-append}
 use lib.Seq.{take-at, take-length}
 use borrow.Author.Tests.{le-ltb}
-use Rattle.base.specs.Base.{pick}
-use Rattle.base.specs.RowLaws.{pick-split}
+use Rattle.base.specs.Base.{choose}
+use Rattle.base.specs.RowLaws.{choose-split}
 use Rattle.sheet.specs.declared.Fed.{Fed}
 use Rattle.lines_law.specs.Lines.{NEWLINE, byte, ending, fed, printed, saidAt}
 use Rattle.lines_law.specs.LineLaws.{fed-append, printed-append}
 use Rattle.sheet_law.specs.Printing.{PRINTED-MAX}
 use Rattle.sheet_law.specs.Sheet.{sheet, SheetState, start, sheetReader}
-use Rattle.sheet_law.specs.Reads.{KEPT, whole}
+use Rattle.sheet_law.specs.Reads.{KEPT, by-bytes}
 
 -- What feeding answers: the numbers of the state after, and how far it went.
 abbrev pub fedAt : ℕ → ℕ → ℕ → ℕ → Fed
@@ -29,7 +29,7 @@ stopsAt room b = eqb b NEWLINE && ltb room PRINTED-MAX
 -- How many bytes of an input are taken, with so much room in the output; what is printed for a byte takes its length of it.
 unfoldable pub taken : ℕ → SheetState → List ℕ → ℕ
 taken room d [] = 0
-taken room d (b ∷ t) = pick (stopsAt room b) 0 (suc (taken (room - length (saidAt sheetReader d b)) (byte sheetReader d b) t))
+taken room d (b ∷ t) = choose (stopsAt room b) 0 (suc (taken (room - length (saidAt sheetReader d b)) (byte sheetReader d b) t))
 
 -- From the state d, `used` bytes of the input are taken; e is the state after them, and `made` bytes are printed for them, at the start of the output. Behind
 -- those the output is as before. Left open are the kept bytes beyond the line's, and how far a count goes above them all.
@@ -48,7 +48,7 @@ pub record FeedsIn (size : ℕ) (d : SheetState) (input : List ℕ) (used : ℕ)
 taken-most : (room : ℕ) (d : SheetState) (t : List ℕ) → taken room d t ≤ length t
 unfolding taken
 taken-most room d [] = omega arith
-taken-most room d (b ∷ t) = pick-split (λ (n : ℕ). n ≤ suc (length t)) (stopsAt room b) (λ e. omega arith) (λ e. omega (arith, taken-most (room - length (saidAt sheetReader d b)) (byte sheetReader d b) t))
+taken-most room d (b ∷ t) = choose-split (λ (n : ℕ). n ≤ suc (length t)) (stopsAt room b) (λ e. omega arith) (λ e. omega (arith, taken-most (room - length (saidAt sheetReader d b)) (byte sheetReader d b) t))
 
 and-with-false : (x : Bool) → (x && false) ≡ false
 and-with-false true = refl
@@ -132,4 +132,4 @@ fed-sheet ss c l f e all =
     ∙ ap (λ (k : List ℕ). k ++ printed sheetReader (stateAfter start ss) (ending (stateAfter start ss .begun))) (chain-printed start ss c)
     ∙ ap (λ (x : SheetState). printed sheetReader start (allTaken ss) ++ printed sheetReader x (ending (x .begun))) (chain-after start ss c)
     ∙ sym (printed-append sheetReader start (allTaken ss) (ending (fed sheetReader start (allTaken ss) .begun)))
-    ∙ whole (allTaken ss)
+    ∙ by-bytes (allTaken ss)

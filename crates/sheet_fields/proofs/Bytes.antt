@@ -11,12 +11,12 @@ use mathlib.Core.List.{List, [], _∷_, _++_}
 use lib.ListN.{length, getD, take, drop, drop-of-length-le}
 use lib.Seq.{drop-cons, take-suc, append-snoc}
 use borrow.Author.Tests.{lt-ltb, le-ltb, eq-eqb, ne-eqb}
-use Rattle.base.specs.Base.{pick}
+use Rattle.base.specs.Base.{choose}
 use Rattle.calls.specs.Numbers.{PITCH-HALF}
 use Rattle.sheet_law.specs.declared.Number.the-variants.{Decimal, NoNumber}
 use Rattle.sheet_law.specs.declared.Angle.the-variants.{Hundredths, NoAngle}
-use Rattle.sheet_law.specs.Text.{same, SPACE, MINUS, DIGIT-0, DIGIT-9}
-use Rattle.sheet_law.specs.Reading.{upToSpace, afterSpace, digits, plain, within, negative, positive, angle}
+use Rattle.sheet_law.specs.Text.{sameText, SPACE, MINUS, DIGIT-0, DIGIT-9}
+use Rattle.sheet_law.specs.Reading.{upToSpace, afterSpace, digits, plain, atMost, negative, positive, angle}
 
 at-place : (l : List ℕ) (i : ℕ) → i < length l → drop i l ≡ getD l i 0 ∷ drop (i + 1) l
 at-place l i h = drop-cons l i 0 h ∙ ap (λ (n : ℕ). getD l i 0 ∷ drop n l) (sym (add-one i))
@@ -26,20 +26,20 @@ and-with-false true = refl
 and-with-false false = refl
 
 -- Texts of different lengths differ.
-pub same-lengths : (l k : List ℕ) → (length l ≡ length k → ⊥) → same l k ≡ false
+pub same-lengths : (l k : List ℕ) → (length l ≡ length k → ⊥) → sameText l k ≡ false
 same-lengths [] [] h = absurd (h refl)
 same-lengths [] (b ∷ k) h = refl
 same-lengths (a ∷ l) [] h = refl
 same-lengths (a ∷ l) (b ∷ k) h = rw (same-lengths l k (λ e. h (ap suc e))) (and-with-false (eqb a b))
 
 module _ (l k : List ℕ) (i : ℕ) (h : i < length l) (g : i < length k) where
-  pub same-differ : (getD l i 0 ≡ getD k i 0 → ⊥) → same (drop i l) (drop i k) ≡ false
+  pub same-differ : (getD l i 0 ≡ getD k i 0 → ⊥) → sameText (drop i l) (drop i k) ≡ false
   same-differ e = rw (at-place l i h, at-place k i g, ne-eqb (getD l i 0) (getD k i 0) e) refl
 
-  pub same-next : getD l i 0 ≡ getD k i 0 → same (drop i l) (drop i k) ≡ same (drop (i + 1) l) (drop (i + 1) k)
+  pub same-next : getD l i 0 ≡ getD k i 0 → sameText (drop i l) (drop i k) ≡ sameText (drop (i + 1) l) (drop (i + 1) k)
   same-next e = rw (at-place l i h, at-place k i g, eq-eqb (getD l i 0) (getD k i 0) e) refl
 
-pub same-end : (l k : List ℕ) (i : ℕ) → length l ≤ i → length k ≤ i → same (drop i l) (drop i k) ≡ true
+pub same-end : (l k : List ℕ) (i : ℕ) → length l ≤ i → length k ≤ i → sameText (drop i l) (drop i k) ≡ true
 same-end l k i h g = rw (drop-of-length-le l h, drop-of-length-le k g) refl
 
 -- The first space.
@@ -76,12 +76,12 @@ module _ (l : List ℕ) (i : ℕ) where
   after-space-end h = rw (drop-of-length-le l h) refl
 
 -- A number that is too wide stays so, whatever digits come after.
-pub too-wide : (most n : ℕ) (l : List ℕ) → most < n → within most (digits n l) ≡ NoNumber
+pub too-wide : (most n : ℕ) (l : List ℕ) → most < n → atMost most (digits n l) ≡ NoNumber
 unfolding digits
 too-wide most n [] h = rw (lt-ltb most n h) refl
 too-wide most n (b ∷ l) h = go (ltb b DIGIT-0 || ltb DIGIT-9 b) (too-wide most (n * 10 + (b - DIGIT-0)) l (omega arith))
   where
-    go : (t : Bool) → within most (digits (n * 10 + (b - DIGIT-0)) l) ≡ NoNumber → within most (pick t NoNumber (digits (n * 10 + (b - DIGIT-0)) l)) ≡ NoNumber
+    go : (t : Bool) → atMost most (digits (n * 10 + (b - DIGIT-0)) l) ≡ NoNumber → atMost most (choose t NoNumber (digits (n * 10 + (b - DIGIT-0)) l)) ≡ NoNumber
     go true e = refl
     go false e = e
 
@@ -139,12 +139,12 @@ unfolding angle
 angle-empty [] e = refl
 angle-empty (b ∷ l) e = absurd (omega arith)
 
-pub angle-minus : (l : List ℕ) → (length l ≡ 0 → ⊥) → getD l 0 0 ≡ MINUS → angle l ≡ negative (within PITCH-HALF (plain (drop 1 l)))
+pub angle-minus : (l : List ℕ) → (length l ≡ 0 → ⊥) → getD l 0 0 ≡ MINUS → angle l ≡ negative (atMost PITCH-HALF (plain (drop 1 l)))
 unfolding angle
 angle-minus [] h e = absurd (h refl)
 angle-minus (b ∷ l) h e = rw (eq-eqb b MINUS e) refl
 
-pub angle-plain : (l : List ℕ) → (length l ≡ 0 → ⊥) → (getD l 0 0 ≡ MINUS → ⊥) → angle l ≡ positive (within (PITCH-HALF - 1) (plain l))
+pub angle-plain : (l : List ℕ) → (length l ≡ 0 → ⊥) → (getD l 0 0 ≡ MINUS → ⊥) → angle l ≡ positive (atMost (PITCH-HALF - 1) (plain l))
 unfolding angle
 angle-plain [] h e = absurd (h refl)
 angle-plain (b ∷ l) h e = rw (ne-eqb b MINUS e) refl

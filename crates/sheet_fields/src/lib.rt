@@ -6,8 +6,8 @@ ghost use mathlib.Core.Path.{_≡_};
 ghost use lib.IntN.{pos, negsuc};
 ghost use lib.ListN.{length, take, drop};
 ghost use Rattle.calls.specs.Numbers.{PITCH-HALF, NUMBER-MAX};
-ghost use Rattle.sheet_law.specs.Text.{same as Text·same};
-ghost use Rattle.sheet_law.specs.Reading.{upToSpace, afterSpace, digits as Reading·digits, plain, within, negative as Reading·negative, positive as Reading·positive, angle as Reading·angle};
+ghost use Rattle.sheet_law.specs.Text.{sameText};
+ghost use Rattle.sheet_law.specs.Reading.{upToSpace, afterSpace, digits as Reading·digits, plain, atMost, negative as Reading·negative, positive as Reading·positive, angle as Reading·angle};
 use calls::NUMBER_MAX;
 use calls::PITCH_HALF;
 use calls::Pitch;
@@ -27,7 +27,7 @@ const PITCH_MAX: u64 = PITCH_HALF - 1;
 
 // Whether two texts are the same.
 pub fn same(s: &[u8], w: &[u8]) -> bool
-    ensures { λ r. ⌜ r ≡ Text·same (now (s .entry)) (now (w .entry)) ⌝ }
+    ensures { λ r. ⌜ r ≡ sameText (now (s .entry)) (now (w .entry)) ⌝ }
 {
     let n = s.len();
     if n != w.len() {
@@ -75,7 +75,7 @@ fn wide(b: u8) -> u64
 
 // The number that digits spell, read from the left, where 64 bits hold it.
 fn digits(s: &[u8]) -> Number
-    ensures { λ r. ⌜ r ≡ within NUMBER-MAX (Reading·digits 0 (now (s .entry))) ⌝ }
+    ensures { λ r. ⌜ r ≡ atMost NUMBER-MAX (Reading·digits 0 (now (s .entry))) ⌝ }
 {
     let mut n: u64 = 0;
     let mut i: usize = 0;
@@ -101,7 +101,7 @@ fn digits(s: &[u8]) -> Number
 
 // A plain decimal without leading zeros, of at most a number.
 pub fn number(s: &[u8], most: u64) -> Number
-    ensures { λ r. ⌜ r ≡ within most (plain (now (s .entry))) ⌝ }
+    ensures { λ r. ⌜ r ≡ atMost most (plain (now (s .entry))) ⌝ }
 {
     let n = s.len();
     if n == 0 {
@@ -138,7 +138,7 @@ fn below(v: u64) -> Pitch
 
 // What stands after a minus: a decimal that is not 0.
 fn negative(s: &[u8]) -> Angle
-    ensures { λ r. ⌜ r ≡ Reading·negative (within PITCH-HALF (plain (now (s .entry)))) ⌝ }
+    ensures { λ r. ⌜ r ≡ Reading·negative (atMost PITCH-HALF (plain (now (s .entry)))) ⌝ }
 {
     let Number::Decimal(v) = number(s, PITCH_HALF) else {
         return Angle::NoAngle;
@@ -150,7 +150,7 @@ fn negative(s: &[u8]) -> Angle
 }
 
 fn positive(s: &[u8]) -> Angle
-    ensures { λ r. ⌜ r ≡ Reading·positive (within (PITCH-HALF - 1) (plain (now (s .entry)))) ⌝ }
+    ensures { λ r. ⌜ r ≡ Reading·positive (atMost (PITCH-HALF - 1) (plain (now (s .entry)))) ⌝ }
 {
     let Number::Decimal(v) = number(s, PITCH_MAX) else {
         return Angle::NoAngle;

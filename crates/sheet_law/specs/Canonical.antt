@@ -10,8 +10,8 @@ use lib.IntN.{ℤ, pos, negsuc}
 use lib.ListN.{length, length-append}
 use lib.Seq.{take-at, getD-at}
 use borrow.Author.Tests.{lt-ltb, le-ltb}
-use Rattle.base.specs.Base.{pick}
-use Rattle.base.specs.RowLaws.{pick-split}
+use Rattle.base.specs.Base.{choose}
+use Rattle.base.specs.RowLaws.{choose-split}
 use Rattle.calls.specs.declared.Call.{Call}
 use Rattle.calls.specs.declared.Call.the-variants as call
 use Rattle.calls.specs.Numbers.{PITCH-BITS, PITCH-HALF, NUMBER-MAX, KIND-NEW, KIND-OLD}
@@ -21,13 +21,13 @@ use Rattle.sheet_law.specs.declared.Command.{Command}
 use Rattle.sheet_law.specs.declared.Command.the-variants.{Make, Run}
 use Rattle.sheet_law.specs.declared.Line.the-variants.{Read}
 use Rattle.sheet_law.specs.Text.{text, SPACE, CLOSE, decimal}
-use Rattle.sheet_law.specs.Reading.{LINE-MAX, NARROW-MAX, upToSpace, afterSpace, within, narrow, wide, angle, namedIn, keyword, kindNamed, one, two, pitched, storeLine, command, lineOf}
+use Rattle.sheet_law.specs.Reading.{LINE-MAX, NARROW-MAX, upToSpace, afterSpace, atMost, narrow, wide, angle, namedIn, keyword, kindNamed, one, two, pitched, storeLine, command, lineOf}
 use Rattle.sheet_law.specs.Printing.{withOne, withTwo}
 use Rattle.sheet_law.specs.Decimals.{plain-decimal, decimal-up-to-space, decimal-after-space, signed, signed-decimal, decimal-length}
 
 -- The text of a kind and of a pitch.
 abbrev pub kindText : ℕ → List ℕ
-kindText kind = pick (eqb kind KIND-NEW) (text "new") (text "old")
+kindText kind = choose (eqb kind KIND-NEW) (text "new") (text "old")
 
 abbrev pub angleText : ℤ → List ℕ
 angleText (pos n) = decimal n
@@ -82,9 +82,9 @@ FitsCall (call.Raise p) = FitsNarrow p
 FitsCall (call.Walk p b) = FitsNarrow p × FitsNarrow b
 FitsCall (call.Release p) = FitsNarrow p
 
-abbrev pub Fits : Command → Type 0
-Fits (Make kind rs ps ss version) = ((kind ≡ KIND-NEW) ⊎ (kind ≡ KIND-OLD)) × FitsNarrow rs × FitsNarrow ps × FitsNarrow ss × FitsWide version
-Fits (Run c) = FitsCall c
+abbrev pub CommandFits : Command → Type 0
+CommandFits (Make kind rs ps ss version) = ((kind ≡ KIND-NEW) ⊎ (kind ≡ KIND-OLD)) × FitsNarrow rs × FitsNarrow ps × FitsNarrow ss × FitsWide version
+CommandFits (Run c) = FitsCall c
 
 -- A bracketed text is read as what stands between the brackets.
 bracketed-read : (part : List ℕ) → length part + 2 ≤ LINE-MAX → lineOf (inBrackets part) ≡ command (keyword (upToSpace part)) (afterSpace part)
@@ -112,14 +112,14 @@ kind-back kind (inl e) l = rw e (refl, refl)
 kind-back kind (inr e) l = rw e (refl, refl)
 
 -- A pitch is a decimal that may have a minus before it, either within its width.
-angle-signed : (l : List ℕ) → angle l ≡ signed (within PITCH-HALF) (within (PITCH-HALF - 1)) l
+angle-signed : (l : List ℕ) → angle l ≡ signed (atMost PITCH-HALF) (atMost (PITCH-HALF - 1)) l
 unfolding angle
 angle-signed [] = refl
 angle-signed (byte ∷ l) = refl
 
 pub angle-back : (v : ℤ) → FitsAngle v → angle (angleText v) ≡ Hundredths v
 unfolding angle
-angle-back (pos n) fits = angle-signed (decimal n) ∙ (signed-decimal (within PITCH-HALF) (within (PITCH-HALF - 1)) n ∙ rw (le-ltb (PITCH-HALF - 1) n (omega arith)) refl)
+angle-back (pos n) fits = angle-signed (decimal n) ∙ (signed-decimal (atMost PITCH-HALF) (atMost (PITCH-HALF - 1)) n ∙ rw (le-ltb (PITCH-HALF - 1) n (omega arith)) refl)
 angle-back (negsuc n) fits = rw (plain-decimal (suc n), le-ltb PITCH-HALF (suc n) (omega arith)) refl
 
 -- What stands between the brackets is read back.
@@ -145,7 +145,7 @@ call-back (call.Raise p) f = one-back call.Raise p f
 call-back (call.Walk p b) (f, g) = two-back call.Walk p b f g
 call-back (call.Release p) f = one-back call.Release p f
 
-store-back : (kind rs ps ss version : ℕ) → Fits (Make kind rs ps ss version) → storeLine (storeText kind rs ps ss version) ≡ Read (Make kind rs ps ss version)
+store-back : (kind rs ps ss version : ℕ) → CommandFits (Make kind rs ps ss version) → storeLine (storeText kind rs ps ss version) ≡ Read (Make kind rs ps ss version)
 store-back kind rs ps ss version (fk, fr, fp, fs, fv) =
     let after-slots : List ℕ = decimal version in
     let after-publishers : List ℕ = decimal ss ++ (SPACE ∷ after-slots) in
@@ -166,7 +166,7 @@ store-back kind rs ps ss version (fk, fr, fp, fs, fv) =
       wide-back version fv,
     ) refl
 
-inner-back : (c : Command) → Fits c → command (keyword (upToSpace (innerText c))) (afterSpace (innerText c)) ≡ Read c
+inner-back : (c : Command) → CommandFits c → command (keyword (upToSpace (innerText c))) (afterSpace (innerText c)) ≡ Read c
 unfolding upToSpace afterSpace namedIn
 inner-back (Make kind rs ps ss version) f = store-back kind rs ps ss version f
 inner-back (Run c) f = call-back c f
@@ -184,7 +184,7 @@ angle-length (pos n) fits = let d = wide-length n (omega arith) in omega arith
 angle-length (negsuc n) fits = let d = wide-length (suc n) (omega arith) in omega arith
 
 kind-length : (kind : ℕ) → length (kindText kind) ≤ 3
-kind-length kind = pick-split (λ x. length x ≤ 3) (eqb kind KIND-NEW) (λ _. omega arith) (λ _. omega arith)
+kind-length kind = choose-split (λ x. length x ≤ 3) (eqb kind KIND-NEW) (λ _. omega arith) (λ _. omega arith)
 
 spaced-length : (m n : ℕ) (l l′ : List ℕ) → length l ≤ m → length l′ ≤ n → length (l ++ (SPACE ∷ l′)) ≤ m + 1 + n
 spaced-length m n l l′ le le′ = omega (arith, length-append l (SPACE ∷ l′))
@@ -204,7 +204,7 @@ call-length (call.Raise p) f = omega (arith, narrow-length p f)
 call-length (call.Walk p b) (f, g) = omega (arith, pair-length p b f g)
 call-length (call.Release p) f = omega (arith, narrow-length p f)
 
-store-length : (kind rs ps ss version : ℕ) → Fits (Make kind rs ps ss version) → length (storeText kind rs ps ss version) ≤ 42
+store-length : (kind rs ps ss version : ℕ) → CommandFits (Make kind rs ps ss version) → length (storeText kind rs ps ss version) ≤ 42
 store-length kind rs ps ss version (fk, fr, fp, fs, fv) =
     let after-publishers : List ℕ = decimal ss ++ (SPACE ∷ decimal version) in
     let after-readers : List ℕ = decimal ps ++ (SPACE ∷ after-publishers) in
@@ -214,13 +214,13 @@ store-length kind rs ps ss version (fk, fr, fp, fs, fv) =
     let le-kind = spaced-length 5 32 (decimal rs) after-readers (narrow-length rs fr) le-readers in
     spaced-length 3 38 (kindText kind) after-kind (kind-length kind) le-kind
 
-inner-length : (c : Command) → Fits c → length (innerText c) ≤ 48
+inner-length : (c : Command) → CommandFits c → length (innerText c) ≤ 48
 inner-length (Make kind rs ps ss version) f = omega (arith, store-length kind rs ps ss version f)
 inner-length (Run c) f = call-length c f
 
-pub text-length : (c : Command) → Fits c → length (commandText c) ≤ 50
+pub text-length : (c : Command) → CommandFits c → length (commandText c) ≤ 50
 text-length c f = omega (arith, inner-length c f, length-append (innerText c) (text ")"))
 
 -- A command is read back from its text.
-pub reads-back : (c : Command) → Fits c → lineOf (commandText c) ≡ Read c
+pub reads-back : (c : Command) → CommandFits c → lineOf (commandText c) ≡ Read c
 reads-back c f = bracketed-read (innerText c) (omega (arith, inner-length c f)) ∙ inner-back c f

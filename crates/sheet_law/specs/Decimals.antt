@@ -8,9 +8,9 @@ use mathlib.Core.List.{List, [], _∷_, _++_, append-assoc, append-nil}
 use lib.Dec.{eqb}
 use lib.ListN.{length}
 use borrow.Author.Tests.{ne-eqb, eqb-true, eqb-false}
-use Rattle.base.specs.Base.{pick}
+use Rattle.base.specs.Base.{choose}
 use Rattle.base.specs.Rows.{outside}
-use Rattle.base.specs.RowLaws.{pick-split, within, not-outside}
+use Rattle.base.specs.RowLaws.{choose-split, within, not-outside}
 use Rattle.sheet_law.specs.declared.Number.{Number}
 use Rattle.sheet_law.specs.declared.Number.the-variants.{Decimal}
 use Rattle.sheet_law.specs.declared.Angle.{Angle}
@@ -30,7 +30,7 @@ spell-more f n l e = rw (ne-eqb (n / 10) 0 e) refl
 
 one-or-more : (Q : List ℕ → Type 0) (f n : ℕ) (l : List ℕ) → (n / 10 ≡ 0 → Q (lastDigit n ∷ l)) → (n / 10 ≢ 0 → Q (digitsBefore f (n / 10) (lastDigit n ∷ l))) → Q (digitsBefore (suc f) n l)
 unfolding digitsBefore
-one-or-more Q f n l one more = pick-split Q (eqb (n / 10) 0) (λ e. one (eqb-true _ _ e)) (λ e. more (eqb-false _ _ e))
+one-or-more Q f n l one more = choose-split Q (eqb (n / 10) 0) (λ e. one (eqb-true _ _ e)) (λ e. more (eqb-false _ _ e))
 
 -- Fuel above the number is enough, whatever it is.
 fuel : (f g n : ℕ) (l : List ℕ) → n < f → n < g → digitsBefore f n l ≡ digitsBefore g n l
@@ -122,7 +122,7 @@ decimal-after-space n = after-space-digits (decimal n) (all-digits n)
 -- A decimal that may have a minus before it, read with a test of either; no digit is a minus.
 abbrev pub signed : (Number → Number) → (Number → Number) → List ℕ → Angle
 signed below above [] = NoAngle
-signed below above (b ∷ l) = pick (eqb b MINUS) (negative (below (plain l))) (positive (above (plain (b ∷ l))))
+signed below above (b ∷ l) = choose (eqb b MINUS) (negative (below (plain l))) (positive (above (plain (b ∷ l))))
 
 pub signed-decimal : (below above : Number → Number) (n : ℕ) → signed below above (decimal n) ≡ positive (above (Decimal n))
 unfolding plain
@@ -155,7 +155,7 @@ decimal-one n b low high e = spell-last n [] (omega arith) ∙ ap (λ c. c ∷ [
 -- Only its plain decimal is read as a number: a digit that was read is one.
 digit-is : (m b n : ℕ) (l : List ℕ) → digits m (b ∷ l) ≡ Decimal n → (DIGIT-0 ≤ b) × (b ≤ DIGIT-9) × (digits (m * 10 + (b - DIGIT-0)) l ≡ Decimal n)
 unfolding digits
-digit-is m b n l = pick-split (λ x. x ≡ Decimal n → (DIGIT-0 ≤ b) × (b ≤ DIGIT-9) × (digits (m * 10 + (b - DIGIT-0)) l ≡ Decimal n)) (outside DIGIT-0 DIGIT-9 b)
+digit-is m b n l = choose-split (λ x. x ≡ Decimal n → (DIGIT-0 ≤ b) × (b ≤ DIGIT-9) × (digits (m * 10 + (b - DIGIT-0)) l ≡ Decimal n)) (outside DIGIT-0 DIGIT-9 b)
     (λ _ e. absurd (no-decimal n e))
     (λ d e. let q = within DIGIT-0 DIGIT-9 b d in (q .0, q .1, e))
 
@@ -172,7 +172,7 @@ plain-only [] n e = absurd (no-decimal n e)
 plain-only (b ∷ []) n e =
     let d = digit-is 0 b n [] e in
     decimal-one n b (d .0) (d .1) (omega (arith, decimal-same (0 * 10 + (b - DIGIT-0)) n (d .2)))
-plain-only (b ∷ c ∷ l) n e = pick-split (λ x. x ≡ Decimal n → decimal n ≡ b ∷ c ∷ l) (eqb b DIGIT-0)
+plain-only (b ∷ c ∷ l) n e = choose-split (λ x. x ≡ Decimal n → decimal n ≡ b ∷ c ∷ l) (eqb b DIGIT-0)
     (λ _ z. absurd (no-decimal n z))
     (λ t z. more (eqb-false b DIGIT-0 t) (digit-is 0 b n (c ∷ l) z))
     e

@@ -4,7 +4,7 @@ use mathlib.Core.Path.{_≡_, refl}
 use mathlib.Core.List.{List}
 use Rattle.base.specs.Rows.{anyBelow}
 use Rattle.lines_law.specs.Lines.{linesFrom, printedFor}
-use Rattle.layout.specs.Layout.{readerAt, publisherAt, withReader, withPublisher, withReaders, fresh}
+use Rattle.layout.specs.Layout.{readerAt, publisherAt, withReader, withPublisher, withReaders, freshWords}
 use Rattle.publication_law.specs.Table.{damaged, step, making}
 use Rattle.grace_version_law.specs.Steps.{onward}
 use Rattle.kinds_law.specs.Kinds.{kindOfNumber, anyStep, anyMaking}
@@ -20,5 +20,5 @@ P1-printed = text "(1 made)\n(2 at 1)\n(3 at 2)\n(4 at 3)\n(5 at 4)\n(6 at 5)\n(
 
 pub p1-bytes : sheet P1 ≡ P1-printed
 unfolding
-    readerAt publisherAt withReader withPublisher withReaders fresh anyBelow damaged onward step making kindOfNumber anyStep anyMaking digitsBefore decimal upToSpace afterSpace digits plain wordNamed lineOf played linesFrom printedFor sheet
+    readerAt publisherAt withReader withPublisher withReaders freshWords anyBelow damaged onward step making kindOfNumber anyStep anyMaking digitsBefore decimal upToSpace afterSpace digits plain wordNamed lineOf played linesFrom printedFor sheet
 p1-bytes = refl

@@ -11,7 +11,7 @@ use lib.IntN.{ℤ, pos, negsuc}
 use lib.ListN.{length, getD, take}
 use lib.Seq.{take-suc, take-length}
 use borrow.Author.Tests.{ltb-true, eqb-true}
-use Rattle.base.specs.RowLaws.{pick-split, and-true, clash}
+use Rattle.base.specs.RowLaws.{choose-split, and-true, clash}
 use Rattle.calls.specs.declared.Call.{Call}
 use Rattle.calls.specs.declared.Call.the-variants as call
 use Rattle.calls.specs.Numbers.{PITCH-HALF, NUMBER-MAX, KIND-NEW, KIND-OLD}
@@ -25,37 +25,37 @@ use Rattle.sheet_law.specs.declared.Command.{Command}
 use Rattle.sheet_law.specs.declared.Command.the-variants.{Make, Run}
 use Rattle.sheet_law.specs.declared.Line.{Line}
 use Rattle.sheet_law.specs.declared.Line.the-variants.{Read, Unread}
-use Rattle.sheet_law.specs.Text.{text, same, SPACE, OPEN, CLOSE, MINUS, decimal}
-use Rattle.sheet_law.specs.Reading.{LINE-MAX, NARROW-MAX, upToSpace, afterSpace, plain, within, narrow, wide, negative, positive, angle, Row, namedIn, keywords, keyword, kinds, kindNamed, ifNumber, ifAngle, one, two, pitched, storeLine, command, bracketed, inner, lineOf}
-use Rattle.sheet_law.specs.Reading.Row.{_names_}
-use Rattle.sheet_law.specs.Widths.{no-decimal, within-most, within-is}
+use Rattle.sheet_law.specs.Text.{text, sameText, SPACE, OPEN, CLOSE, MINUS, decimal}
+use Rattle.sheet_law.specs.Reading.{LINE-MAX, NARROW-MAX, upToSpace, afterSpace, plain, atMost, narrow, wide, negative, positive, angle, Naming, namedIn, keywords, keyword, kinds, kindNamed, ifNumber, ifAngle, one, two, pitched, storeLine, command, bracketed, inner, lineOf}
+use Rattle.sheet_law.specs.Reading.Naming.{_names_}
+use Rattle.sheet_law.specs.Widths.{no-decimal, at-most-bound, at-most-is}
 use Rattle.sheet_law.specs.Decimals.{plain-decimal, plain-only}
-use Rattle.sheet_law.specs.Canonical.{kindText, angleText, innerText, inBrackets, commandText, FitsNarrow, FitsWide, FitsAngle, Fits, text-length, reads-back}
+use Rattle.sheet_law.specs.Canonical.{kindText, angleText, innerText, inBrackets, commandText, FitsNarrow, FitsWide, FitsAngle, CommandFits, text-length, reads-back}
 
 -- Two texts that are found the same are.
-same-only : (l l′ : List ℕ) → same l l′ ≡ true → l ≡ l′
+same-only : (l l′ : List ℕ) → sameText l l′ ≡ true → l ≡ l′
 same-only [] [] e = refl
 same-only [] (b ∷ l′) e = clash (sym e)
 same-only (a ∷ l) [] e = clash (sym e)
-same-only (a ∷ l) (b ∷ l′) e = let q = and-true (eqb a b) (same l l′) e in ap₂ _∷_ (eqb-true a b (q .0)) (same-only l l′ (q .1))
+same-only (a ∷ l) (b ∷ l′) e = let q = and-true (eqb a b) (sameText l l′) e in ap₂ _∷_ (eqb-true a b (q .0)) (same-only l l′ (q .1))
 
 -- To show something of what a text names, it is shown for each row whose text it is, and for none.
-abbrev pub EachRow : {A : Type 0} → (A → Type 0) → A → List ℕ → List (Row A) → Type 0
-EachRow Q none word [] = Q none
-EachRow Q none word ((name names x) ∷ rows) = (text name ≡ word → Q x) × EachRow Q none word rows
+abbrev pub EachNaming : {A : Type 0} → (A → Type 0) → A → List ℕ → List (Naming A) → Type 0
+EachNaming Q none word [] = Q none
+EachNaming Q none word ((name names x) ∷ rows) = (text name ≡ word → Q x) × EachNaming Q none word rows
 
 infixr 10 _else_
 pub _else_ : {A B : Type 0} → A → B → A × B
 a else b = (a, b)
 
-pub named-only : {A : Type 0} (Q : A → Type 0) (none : A) (word : List ℕ) (rows : List (Row A)) → EachRow Q none word rows → Q (namedIn rows none word)
+pub named-only : {A : Type 0} (Q : A → Type 0) (none : A) (word : List ℕ) (rows : List (Naming A)) → EachNaming Q none word rows → Q (namedIn rows none word)
 unfolding namedIn
 named-only Q none word [] h = h
-named-only Q none word ((name names x) ∷ rows) h = pick-split Q (same word (text name)) (λ e. h .0 (sym (same-only word (text name) e))) (λ _. named-only Q none word rows (h .1))
+named-only Q none word ((name names x) ∷ rows) h = choose-split Q (sameText word (text name)) (λ e. h .0 (sym (same-only word (text name) e))) (λ _. named-only Q none word rows (h .1))
 
 -- What a number that is read tells of its text.
-within-only : (most : ℕ) (l : List ℕ) (n : ℕ) → within most (plain l) ≡ Decimal n → (decimal n ≡ l) × (n ≤ most)
-within-only most l n e = (plain-only l n (within-is most (plain l) n e), within-most most (plain l) n e)
+at-most-only : (most : ℕ) (l : List ℕ) (n : ℕ) → atMost most (plain l) ≡ Decimal n → (decimal n ≡ l) × (n ≤ most)
+at-most-only most l n e = (plain-only l n (at-most-is most (plain l) n e), at-most-bound most (plain l) n e)
 
 -- What a pitch that is read tells of its text.
 angle-same : (v a : ℤ) → Hundredths v ≡ Hundredths a → v ≡ a
@@ -64,27 +64,27 @@ angle-same v a e = cc
 no-angle : (v : ℤ) → NoAngle ≡ Hundredths v → ⊥
 no-angle v e = let z : _≡_ {A = ℕ} 0 1 = cc in omega arith
 
-negative-text : (l : List ℕ) (v : ℤ) → negative (within PITCH-HALF (plain l)) ≡ Hundredths v → (angleText v ≡ MINUS ∷ l) × FitsAngle v
-negative-text l v = go (within PITCH-HALF (plain l)) refl
+negative-text : (l : List ℕ) (v : ℤ) → negative (atMost PITCH-HALF (plain l)) ≡ Hundredths v → (angleText v ≡ MINUS ∷ l) × FitsAngle v
+negative-text l v = go (atMost PITCH-HALF (plain l)) refl
   where
-    go : (x : Number) → within PITCH-HALF (plain l) ≡ x → negative x ≡ Hundredths v → (angleText v ≡ MINUS ∷ l) × FitsAngle v
+    go : (x : Number) → atMost PITCH-HALF (plain l) ≡ x → negative x ≡ Hundredths v → (angleText v ≡ MINUS ∷ l) × FitsAngle v
     go NoNumber e z = absurd (no-angle v z)
     go (Decimal zero) e z = absurd (no-angle v z)
-    go (Decimal (suc n)) e z = let q = within-only PITCH-HALF l (suc n) e in
+    go (Decimal (suc n)) e z = let q = at-most-only PITCH-HALF l (suc n) e in
         subst (λ (a : ℤ). (angleText a ≡ MINUS ∷ l) × FitsAngle a) (angle-same (negsuc n) v z) (ap (λ (k : List ℕ). MINUS ∷ k) (q .0), omega arith)
 
-positive-text : (l : List ℕ) (v : ℤ) → positive (within (PITCH-HALF - 1) (plain l)) ≡ Hundredths v → (angleText v ≡ l) × FitsAngle v
-positive-text l v = go (within (PITCH-HALF - 1) (plain l)) refl
+positive-text : (l : List ℕ) (v : ℤ) → positive (atMost (PITCH-HALF - 1) (plain l)) ≡ Hundredths v → (angleText v ≡ l) × FitsAngle v
+positive-text l v = go (atMost (PITCH-HALF - 1) (plain l)) refl
   where
-    go : (x : Number) → within (PITCH-HALF - 1) (plain l) ≡ x → positive x ≡ Hundredths v → (angleText v ≡ l) × FitsAngle v
+    go : (x : Number) → atMost (PITCH-HALF - 1) (plain l) ≡ x → positive x ≡ Hundredths v → (angleText v ≡ l) × FitsAngle v
     go NoNumber e z = absurd (no-angle v z)
-    go (Decimal n) e z = let q = within-only (PITCH-HALF - 1) l n e in
+    go (Decimal n) e z = let q = at-most-only (PITCH-HALF - 1) l n e in
         subst (λ (a : ℤ). (angleText a ≡ l) × FitsAngle a) (angle-same (pos n) v z) (q .0, omega arith)
 
 pub angle-text : (l : List ℕ) (v : ℤ) → angle l ≡ Hundredths v → (angleText v ≡ l) × FitsAngle v
 unfolding angle
 angle-text [] v e = absurd (no-angle v e)
-angle-text (b ∷ l) v e = pick-split (λ (x : Angle). x ≡ Hundredths v → (angleText v ≡ b ∷ l) × FitsAngle v) (eqb b MINUS)
+angle-text (b ∷ l) v e = choose-split (λ (x : Angle). x ≡ Hundredths v → (angleText v ≡ b ∷ l) × FitsAngle v) (eqb b MINUS)
     (λ t z. let q = negative-text l v z in (q .0 ∙ ap (λ (c : ℕ). c ∷ l) (sym (eqb-true b MINUS t)), q .1))
     (λ _ z. positive-text (b ∷ l) v z)
     e
@@ -96,10 +96,10 @@ module _ (Q : Line → Type 0) (bad : Q Unread) where
   given-only (Decimal n) f h = h n refl
 
   narrow-only : (l : List ℕ) (f : ℕ → Line) → ((n : ℕ) → decimal n ≡ l → FitsNarrow n → Q (f n)) → Q (ifNumber (narrow l) f)
-  narrow-only l f h = given-only (narrow l) f (λ n e. let q = within-only NARROW-MAX l n e in h n (q .0) (omega arith))
+  narrow-only l f h = given-only (narrow l) f (λ n e. let q = at-most-only NARROW-MAX l n e in h n (q .0) (omega arith))
 
   wide-only : (l : List ℕ) (f : ℕ → Line) → ((n : ℕ) → decimal n ≡ l → FitsWide n → Q (f n)) → Q (ifNumber (wide l) f)
-  wide-only l f h = given-only (wide l) f (λ n e. let q = within-only NUMBER-MAX l n e in h n (q .0) (omega arith))
+  wide-only l f h = given-only (wide l) f (λ n e. let q = at-most-only NUMBER-MAX l n e in h n (q .0) (omega arith))
 
   kind-only : (l : List ℕ) (f : ℕ → Line) → ((kind : ℕ) → kindText kind ≡ l → (kind ≡ KIND-NEW) ⊎ (kind ≡ KIND-OLD) → Q (f kind)) → Q (ifNumber (kindNamed l) f)
   kind-only l f h = named-only (λ x. Q (ifNumber x f)) NoNumber l kinds ((λ e. h KIND-NEW e (inl refl)) else (λ e. h KIND-OLD e (inr refl)) else bad)
@@ -148,7 +148,7 @@ angle-some (negsuc n) = cons-some MINUS (decimal (suc n))
 -- Between the brackets: unread, or the command's own text.
 abbrev Inner : List ℕ → Line → Type 0
 Inner part Unread = Unit {0}
-Inner part (Read c) = (innerText c ≡ part) × Fits c
+Inner part (Read c) = (innerText c ≡ part) × CommandFits c
 
 module _ (part : List ℕ) where
   -- A word with one number behind it, with two, and with a number and a pitch.
@@ -225,7 +225,7 @@ in-brackets (b ∷ rest) e = go (length rest) refl
 -- A whole line: unread, or the command's own text.
 abbrev IsText : List ℕ → Line → Type 0
 IsText l Unread = Unit {0}
-IsText l (Read c) = (commandText c ≡ l) × Fits c
+IsText l (Read c) = (commandText c ≡ l) × CommandFits c
 
 is-text-inner : (l part : List ℕ) → inBrackets part ≡ l → (x : Line) → Inner part x → IsText l x
 is-text-inner l part e Unread i = tt
@@ -236,23 +236,23 @@ is-text-bracketed l e = let part : List ℕ = inner l in is-text-inner l part (i
 
 is-text : (l : List ℕ) → IsText l (lineOf l)
 unfolding lineOf
-is-text l = pick-split (IsText l) (ltb LINE-MAX (length l)) (λ _. tt) (λ _. pick-split (IsText l) (bracketed l) (is-text-bracketed l) (λ _. tt))
+is-text l = choose-split (IsText l) (ltb LINE-MAX (length l)) (λ _. tt) (λ _. choose-split (IsText l) (bracketed l) (is-text-bracketed l) (λ _. tt))
 
 -- A line that is read as a command is the command's own text, and the command fits.
 pub only-text : (l : List ℕ) (c : Command) → lineOf l ≡ Read c → commandText c ≡ l
 only-text l c e = subst (IsText l) e (is-text l) .0
 
-pub read-fits : (l : List ℕ) (c : Command) → lineOf l ≡ Read c → Fits c
+pub read-fits : (l : List ℕ) (c : Command) → lineOf l ≡ Read c → CommandFits c
 read-fits l c e = subst (IsText l) e (is-text l) .1
 
 -- So a line is read as a command exactly if it is the text of that command and the command fits; and it is unread exactly if it is the text of none that fits.
-pub read-exactly : (l : List ℕ) (c : Command) → (lineOf l ≡ Read c) ↔ ((commandText c ≡ l) × Fits c)
+pub read-exactly : (l : List ℕ) (c : Command) → (lineOf l ≡ Read c) ↔ ((commandText c ≡ l) × CommandFits c)
 read-exactly l c = (λ e. (only-text l c e, read-fits l c e), λ p. ap lineOf (sym (p .0)) ∙ reads-back c (p .1))
 
-pub unread-exactly : (l : List ℕ) → (lineOf l ≡ Unread) ↔ ((c : Command) → Fits c → commandText c ≢ l)
+pub unread-exactly : (l : List ℕ) → (lineOf l ≡ Unread) ↔ ((c : Command) → CommandFits c → commandText c ≢ l)
 unread-exactly l = (λ e c f z. let q : Read c ≡ Unread = sym (read-exactly l c .1 (z, f)) ∙ e in let n : _≡_ {A = ℕ} 0 1 = cc in omega arith, λ h. go h (lineOf l) refl)
   where
-    go : ((c : Command) → Fits c → commandText c ≢ l) → (x : Line) → lineOf l ≡ x → lineOf l ≡ Unread
+    go : ((c : Command) → CommandFits c → commandText c ≢ l) → (x : Line) → lineOf l ≡ x → lineOf l ≡ Unread
     go h Unread e = e
     go h (Read c) e = absurd (h c (read-fits l c e) (only-text l c e))
 

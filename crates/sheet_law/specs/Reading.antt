@@ -6,7 +6,7 @@ use mathlib.Core.List.{List, [], _∷_}
 use lib.Dec.{eqb, ltb}
 use lib.IntN.{ℤ, pos, negsuc}
 use lib.ListN.{length, getD, take, drop}
-use Rattle.base.specs.Base.{pick}
+use Rattle.base.specs.Base.{choose}
 use Rattle.base.specs.Rows.{outside}
 use Rattle.calls.specs.declared.Call.{Call}
 use Rattle.calls.specs.declared.Call.the-variants as call
@@ -20,7 +20,7 @@ use Rattle.sheet_law.specs.declared.Keyword.the-variants.{Store, Enter, 
 use Rattle.sheet_law.specs.declared.Command.the-variants.{Make, Run}
 use Rattle.sheet_law.specs.declared.Line.{Line}
 use Rattle.sheet_law.specs.declared.Line.the-variants.{Read, Unread}
-use Rattle.sheet_law.specs.Text.{text, same, SPACE, OPEN, CLOSE, MINUS, DIGIT-0, DIGIT-9}
+use Rattle.sheet_law.specs.Text.{text, sameText, SPACE, OPEN, CLOSE, MINUS, DIGIT-0, DIGIT-9}
 
 -- Widths: 80 bytes a line; pitches signed PITCH-BITS (the size of the least is PITCH-HALF), versions 64, all other arguments 16, unsigned.
 abbrev pub LINE-MAX : ℕ
@@ -32,33 +32,33 @@ NARROW-MAX = 65535
 -- One space between: the text before the first space and the text after it; where there is no space, all of it and nothing.
 unfoldable pub upToSpace : List ℕ → List ℕ
 upToSpace [] = []
-upToSpace (b ∷ l) = pick (eqb b SPACE) [] (b ∷ upToSpace l)
+upToSpace (b ∷ l) = choose (eqb b SPACE) [] (b ∷ upToSpace l)
 
 unfoldable pub afterSpace : List ℕ → List ℕ
 afterSpace [] = []
-afterSpace (b ∷ l) = pick (eqb b SPACE) l (afterSpace l)
+afterSpace (b ∷ l) = choose (eqb b SPACE) l (afterSpace l)
 
 -- Digits, read from the left after those that came to n.
 unfoldable pub digits : ℕ → List ℕ → Number
 digits n [] = Decimal n
-digits n (b ∷ l) = pick (outside DIGIT-0 DIGIT-9 b) NoNumber (digits (n * 10 + (b - DIGIT-0)) l)
+digits n (b ∷ l) = choose (outside DIGIT-0 DIGIT-9 b) NoNumber (digits (n * 10 + (b - DIGIT-0)) l)
 
 -- Plain decimals without leading zeros.
 unfoldable pub plain : List ℕ → Number
 plain [] = NoNumber
 plain (b ∷ []) = digits 0 (b ∷ [])
-plain (b ∷ c ∷ l) = pick (eqb b DIGIT-0) NoNumber (digits 0 (b ∷ c ∷ l))
+plain (b ∷ c ∷ l) = choose (eqb b DIGIT-0) NoNumber (digits 0 (b ∷ c ∷ l))
 
 -- A number too wide gives unread.
-abbrev pub within : ℕ → Number → Number
-within most NoNumber = NoNumber
-within most (Decimal n) = pick (ltb most n) NoNumber (Decimal n)
+abbrev pub atMost : ℕ → Number → Number
+atMost most NoNumber = NoNumber
+atMost most (Decimal n) = choose (ltb most n) NoNumber (Decimal n)
 
 abbrev pub narrow : List ℕ → Number
-narrow l = within NARROW-MAX (plain l)
+narrow l = atMost NARROW-MAX (plain l)
 
 abbrev pub wide : List ℕ → Number
-wide l = within NUMBER-MAX (plain l)
+wide l = atMost NUMBER-MAX (plain l)
 
 -- A minus for a negative pitch; `-0` gives unread.
 abbrev pub negative : Number → Angle
@@ -72,19 +72,19 @@ positive (Decimal n) = Hundredths (pos n)
 
 unfoldable pub angle : List ℕ → Angle
 angle [] = NoAngle
-angle (b ∷ l) = pick (eqb b MINUS) (negative (within PITCH-HALF (plain l))) (positive (within (PITCH-HALF - 1) (plain (b ∷ l))))
+angle (b ∷ l) = choose (eqb b MINUS) (negative (atMost PITCH-HALF (plain l))) (positive (atMost (PITCH-HALF - 1) (plain (b ∷ l))))
 
 -- Words with what they name. A text names what the first row with that text does; `none` if there is no such row.
 infix 70 _names_
-pub data Row (A : Type 0) : Type 0 where
-  _names_ : String → A → Row A
+pub data Naming (A : Type 0) : Type 0 where
+  _names_ : String → A → Naming A
 
-unfoldable pub namedIn : {A : Type 0} → List (Row A) → A → List ℕ → A
+unfoldable pub namedIn : {A : Type 0} → List (Naming A) → A → List ℕ → A
 namedIn [] none word = none
-namedIn ((name names x) ∷ rows) none word = pick (same word (text name)) x (namedIn rows none word)
+namedIn ((name names x) ∷ rows) none word = choose (sameText word (text name)) x (namedIn rows none word)
 
 -- Words are the calls in small letters and `store`.
-abbrev pub keywords : List (Row Keyword)
+abbrev pub keywords : List (Naming Keyword)
 keywords =
     "store" names Store
     ∷ "enter" names Enter
@@ -103,7 +103,7 @@ abbrev pub keyword : List ℕ → Keyword
 keyword word = namedIn keywords Unknown word
 
 -- `store`, whose kind is `new` or `old`.
-abbrev pub kinds : List (Row Number)
+abbrev pub kinds : List (Naming Number)
 kinds =
     "new" names Decimal KIND-NEW
     ∷ "old" names Decimal KIND-OLD
@@ -166,4 +166,4 @@ inner l = take (length l - 2) (drop 1 l)
 
 -- A line is a bracketed word with arguments; a misshapen or empty line or one over 80 bytes gives unread.
 unfoldable pub lineOf : List ℕ → Line
-lineOf l = pick (ltb LINE-MAX (length l)) Unread (pick (bracketed l) (command (keyword (upToSpace (inner l))) (afterSpace (inner l))) Unread)
+lineOf l = choose (ltb LINE-MAX (length l)) Unread (choose (bracketed l) (command (keyword (upToSpace (inner l))) (afterSpace (inner l))) Unread)

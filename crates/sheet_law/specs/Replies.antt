@@ -7,7 +7,7 @@ use mathlib.Core.List.{List, _∷_, _++_, append-cancel-right}
 use mathlib.Core.Option.{Option, none, some}
 use lib.IntN.{ℤ, pos, negsuc}
 use lib.ListN.{drop}
-use Rattle.base.specs.Base.{pick}
+use Rattle.base.specs.Base.{choose}
 use Rattle.calls.specs.declared.Reply.{Reply}
 use Rattle.calls.specs.declared.Reply.the-variants as reply
 use Rattle.calls.specs.declared.WalkReply.{WalkReply}
@@ -16,7 +16,7 @@ use Rattle.sheet_law.specs.declared.Number.{Number}
 use Rattle.sheet_law.specs.declared.Number.the-variants.{Decimal, NoNumber}
 use Rattle.sheet_law.specs.declared.Angle.{Angle}
 use Rattle.sheet_law.specs.declared.Angle.the-variants.{Hundredths, NoAngle}
-use Rattle.sheet_law.specs.Text.{text, same, SPACE, decimal}
+use Rattle.sheet_law.specs.Text.{text, sameText, SPACE, decimal}
 use Rattle.sheet_law.specs.Reading.{upToSpace, afterSpace, plain}
 use Rattle.sheet_law.specs.Printing.{walkText, replyText, printedLine}
 use Rattle.sheet_law.specs.Decimals.{decimal-injective, plain-decimal, decimal-up-to-space, decimal-after-space, signed, signed-decimal}
@@ -37,22 +37,22 @@ replyWithPitch (Hundredths v) = some (reply.Pitch v)
 -- The reply that a text is of, if any.
 abbrev pub replyNamed : List ℕ → Option Reply
 replyNamed l =
-    pick (same (upToSpace l) (text "made")) (some reply.Made)
-    (pick (same (upToSpace l) (text "at")) (replyWithNumber (plain (afterSpace l)) reply.At)
-    (pick (same (upToSpace l) (text "pitch")) (replyWithPitch (signed (λ x. x) (λ x. x) (afterSpace l)))
-    (pick (same (upToSpace l) (text "left")) (some reply.Left)
-    (pick (same (upToSpace l) (text "claimed")) (replyWithNumber (plain (afterSpace l)) reply.Claimed)
-    (pick (same (upToSpace l) (text "written")) (replyWithNumber (plain (afterSpace l)) reply.Written)
-    (pick (same (upToSpace l) (text "swapped")) (replyWithNumber (plain (afterSpace l)) reply.Swapped)
-    (pick (same (upToSpace l) (text "synced")) (replyWithNumber (plain (afterSpace l)) reply.Synced)
-    (pick (same (upToSpace l) (text "raised")) (some reply.Raised)
-    (pick (same (upToSpace l) (text "shared")) (some reply.Shared)
-    (pick (same (upToSpace l) (text "waiting")) (replyWithNumber (plain (afterSpace l)) (λ awaited. reply.Walked (Waiting awaited)))
-    (pick (same (upToSpace l) (text "spent")) (some (reply.Walked Spent))
-    (pick (same (upToSpace l) (text "quiet")) (some (reply.Walked Quiet))
-    (pick (same (upToSpace l) (text "returned")) (replyWithNumbers (plain (upToSpace (afterSpace l))) (plain (afterSpace (afterSpace l))) (λ looks waits. reply.Walked (Returned looks waits)))
-    (pick (same (upToSpace l) (text "freed")) (replyWithNumbers (plain (upToSpace (afterSpace l))) (plain (afterSpace (afterSpace l))) reply.Freed)
-    (pick (same (upToSpace l) (text "refused")) (replyWithNumber (plain (afterSpace l)) reply.Refused)
+    choose (sameText (upToSpace l) (text "made")) (some reply.Made)
+    (choose (sameText (upToSpace l) (text "at")) (replyWithNumber (plain (afterSpace l)) reply.At)
+    (choose (sameText (upToSpace l) (text "pitch")) (replyWithPitch (signed (λ x. x) (λ x. x) (afterSpace l)))
+    (choose (sameText (upToSpace l) (text "left")) (some reply.Left)
+    (choose (sameText (upToSpace l) (text "claimed")) (replyWithNumber (plain (afterSpace l)) reply.Claimed)
+    (choose (sameText (upToSpace l) (text "written")) (replyWithNumber (plain (afterSpace l)) reply.Written)
+    (choose (sameText (upToSpace l) (text "swapped")) (replyWithNumber (plain (afterSpace l)) reply.Swapped)
+    (choose (sameText (upToSpace l) (text "synced")) (replyWithNumber (plain (afterSpace l)) reply.Synced)
+    (choose (sameText (upToSpace l) (text "raised")) (some reply.Raised)
+    (choose (sameText (upToSpace l) (text "shared")) (some reply.Shared)
+    (choose (sameText (upToSpace l) (text "waiting")) (replyWithNumber (plain (afterSpace l)) (λ awaited. reply.Walked (Waiting awaited)))
+    (choose (sameText (upToSpace l) (text "spent")) (some (reply.Walked Spent))
+    (choose (sameText (upToSpace l) (text "quiet")) (some (reply.Walked Quiet))
+    (choose (sameText (upToSpace l) (text "returned")) (replyWithNumbers (plain (upToSpace (afterSpace l))) (plain (afterSpace (afterSpace l))) (λ looks waits. reply.Walked (Returned looks waits)))
+    (choose (sameText (upToSpace l) (text "freed")) (replyWithNumbers (plain (upToSpace (afterSpace l))) (plain (afterSpace (afterSpace l))) reply.Freed)
+    (choose (sameText (upToSpace l) (text "refused")) (replyWithNumber (plain (afterSpace l)) reply.Refused)
     none)))))))))))))))
 
 number-back : (n : ℕ) (f : ℕ → Reply) → replyWithNumber (plain (decimal n)) f ≡ some (f n)

@@ -3,7 +3,7 @@ use Prim.Native.Nat.{ℕ, _+_, _*_, _%_}
 use mathlib.Core.List.{List, [], _∷_, _++_}
 use lib.IntN.{ℤ, pos}
 use lib.ListN.{length, take, drop, replicate}
-use Rattle.base.specs.Base.{pick}
+use Rattle.base.specs.Base.{choose}
 use Rattle.calls.specs.Numbers.{MODULUS, TABLE, SLOTS-MAX}
 use Rattle.layout.specs.Layout.{WORDS, kindWord, slots}
 use Rattle.statement.specs.Machine.{State, state, Outcome, outcome, given}
@@ -41,7 +41,7 @@ played s (Run c) = lent (slots (s .words) * TABLE) (λ (part : State). anyStep p
 abbrev pub known : ℕ → Line → Line
 known made Unread = Unread
 known made (Read (Make kind rs ps ss version)) = Read (Make kind rs ps ss version)
-known made (Read (Run c)) = pick (lackedBy (kindOfNumber made) c) Unread (Read (Run c))
+known made (Read (Run c)) = choose (lackedBy (kindOfNumber made) c) Unread (Read (Run c))
 
 abbrev pub lineFor : State → List ℕ → Line
 lineFor s l = known (kindWord (s .words)) (lineOf l)

@@ -1,4 +1,4 @@
--- Laws of the numbers that are read: of `within`, and of what was read of a part of a text. Assumes nothing.
+-- Laws of the numbers that are read: of `atMost`, and of what was read of a part of a text. Assumes nothing.
 use Prim.Native.Nat.{ℕ, _-_, _<_, _≤_}
 use native.Mathlib.Omega.{arith}
 use mathlib.Core.Path.{_≡_, refl, sym, _∙_, ap}
@@ -8,10 +8,10 @@ use mathlib.Core.List.{List}
 use lib.ListN.{length, take, drop, length-drop}
 use lib.Seq.{take-all}
 use borrow.Author.Tests.{lt-ltb, le-ltb, ltb-false, ltb-true}
-use Rattle.base.specs.Base.{pick}
+use Rattle.base.specs.Base.{choose}
 use Rattle.sheet_law.specs.declared.Number.{Number}
 use Rattle.sheet_law.specs.declared.Number.the-variants.{Decimal, NoNumber}
-use Rattle.sheet_law.specs.Reading.{within}
+use Rattle.sheet_law.specs.Reading.{atMost}
 
 -- What is read is one number, or none.
 pub decimal-same : (n m : ℕ) → Decimal n ≡ Decimal m → n ≡ m
@@ -21,35 +21,35 @@ pub no-decimal : (n : ℕ) → NoNumber ≡ Decimal n → ⊥
 no-decimal n e = let z : _≡_ {A = ℕ} 0 1 = cc in omega arith
 
 -- What is at most a number, and what is not.
-pub within-decimal : (most n : ℕ) → n ≤ most → within most (Decimal n) ≡ Decimal n
-within-decimal most n h = rw (le-ltb most n h) refl
+pub at-most-decimal : (most n : ℕ) → n ≤ most → atMost most (Decimal n) ≡ Decimal n
+at-most-decimal most n h = rw (le-ltb most n h) refl
 
-pub within-bad : (most n : ℕ) → most < n → within most (Decimal n) ≡ NoNumber
-within-bad most n h = rw (lt-ltb most n h) refl
+pub at-most-bad : (most n : ℕ) → most < n → atMost most (Decimal n) ≡ NoNumber
+at-most-bad most n h = rw (lt-ltb most n h) refl
 
-pub within-most : (most : ℕ) (x : Number) (n : ℕ) → within most x ≡ Decimal n → n ≤ most
-within-most most NoNumber n e = absurd (no-decimal n e)
-within-most most (Decimal m) n e = go (ltb most m) refl e
+pub at-most-bound : (most : ℕ) (x : Number) (n : ℕ) → atMost most x ≡ Decimal n → n ≤ most
+at-most-bound most NoNumber n e = absurd (no-decimal n e)
+at-most-bound most (Decimal m) n e = go (ltb most m) refl e
   where
-    go : (t : Bool) → t ≡ ltb most m → pick t NoNumber (Decimal m) ≡ Decimal n → n ≤ most
+    go : (t : Bool) → t ≡ ltb most m → choose t NoNumber (Decimal m) ≡ Decimal n → n ≤ most
     go true d f = absurd (no-decimal n f)
     go false d f = let a : m ≤ most = ltb-false most m (sym d) in omega (arith, a, decimal-same m n f)
 
-pub within-is : (most : ℕ) (x : Number) (n : ℕ) → within most x ≡ Decimal n → x ≡ Decimal n
-within-is most NoNumber n e = e
-within-is most (Decimal m) n e = go (ltb most m) e
+pub at-most-is : (most : ℕ) (x : Number) (n : ℕ) → atMost most x ≡ Decimal n → x ≡ Decimal n
+at-most-is most NoNumber n e = e
+at-most-is most (Decimal m) n e = go (ltb most m) e
   where
-    go : (t : Bool) → pick t NoNumber (Decimal m) ≡ Decimal n → Decimal m ≡ Decimal n
+    go : (t : Bool) → choose t NoNumber (Decimal m) ≡ Decimal n → Decimal m ≡ Decimal n
     go true f = absurd (no-decimal n f)
     go false f = f
 
 -- What is too wide for the greater bound is too wide for the less.
-pub within-less : (less more : ℕ) (x : Number) → less ≤ more → within more x ≡ NoNumber → within less x ≡ NoNumber
-within-less less more NoNumber h e = refl
-within-less less more (Decimal m) h e = go (ltb more m) refl e
+pub at-most-less : (less more : ℕ) (x : Number) → less ≤ more → atMost more x ≡ NoNumber → atMost less x ≡ NoNumber
+at-most-less less more NoNumber h e = refl
+at-most-less less more (Decimal m) h e = go (ltb more m) refl e
   where
-    go : (t : Bool) → t ≡ ltb more m → pick t NoNumber (Decimal m) ≡ NoNumber → within less (Decimal m) ≡ NoNumber
-    go true d f = let a : more < m = ltb-true more m (sym d) in within-bad less m (omega arith)
+    go : (t : Bool) → t ≡ ltb more m → choose t NoNumber (Decimal m) ≡ NoNumber → atMost less (Decimal m) ≡ NoNumber
+    go true d f = let a : more < m = ltb-true more m (sym d) in at-most-bad less m (omega arith)
     go false d f = absurd (no-decimal m (sym f))
 
 -- a part that reaches the end

@@ -4,7 +4,7 @@ use mathlib.Core.Path.{_≡_}
 use mathlib.Core.List.{List}
 use lib.Dec.{eqb}
 use lib.ListN.{take}
-use Rattle.base.specs.Base.{pick}
+use Rattle.base.specs.Base.{choose}
 use Rattle.sheet_law.specs.Printing.{withOne, withTwo}
 use Rattle.sheet_printing.specs.declared.ReplyWord.{ReplyWord}
 use Rattle.sheet_printing.specs.declared.Phrase.{Phrase}
@@ -15,7 +15,7 @@ wordText w = take (w .1) (w .0)
 
 -- A word with as many numbers as come after it: none, one or two.
 abbrev pub withNumbers : ReplyWord → ℕ → ℕ → List ℕ
-withNumbers w a b = pick (eqb (w .2) 0) (wordText w) (pick (eqb (w .2) 1) (withOne (wordText w) a) (withTwo (wordText w) a b))
+withNumbers w a b = choose (eqb (w .2) 0) (wordText w) (choose (eqb (w .2) 1) (withOne (wordText w) a) (withTwo (wordText w) a b))
 
 abbrev pub phraseText : Phrase → List ℕ
 phraseText p = withNumbers (p .word) (p .first) (p .second)

@@ -9,7 +9,7 @@ use Rattle.sheet_law.specs.Widths.{decimal-same, no-decimal}
 use lib.ListN.{length, getD, take, drop}
 use borrow.Author.Tests.{lt-ltb, le-ltb, eq-eqb, ne-eqb}
 use Rattle.calls.specs.declared.Call.{Call}
-use Rattle.base.specs.Base.{pick}
+use Rattle.base.specs.Base.{choose}
 use Rattle.calls.specs.Numbers.{KIND-NEW, KIND-OLD}
 use Rattle.sheet_law.specs.declared.Number.the-variants.{Decimal, NoNumber}
 use Rattle.sheet_law.specs.declared.Angle.the-variants.{Hundredths, NoAngle}
@@ -28,18 +28,18 @@ kind-narrow w n = named-only (λ x. x ≡ Decimal n → n ≤ NARROW-MAX) NoNumb
 
 -- The arguments of a call, each read or not.
 module _ (l : List ℕ) where
-  pub one-read : (build : ℕ → Call) (a : Bool) (n : ℕ) → narrow l ≡ pick a (Decimal n) NoNumber → pick a (Read (Run (build n))) Unread ≡ one l build
+  pub one-read : (build : ℕ → Call) (a : Bool) (n : ℕ) → narrow l ≡ choose a (Decimal n) NoNumber → choose a (Read (Run (build n))) Unread ≡ one l build
   one-read build true n e = rw e refl
   one-read build false n e = rw e refl
 
-  pub two-read : (build : ℕ → ℕ → Call) (a b : Bool) (n m : ℕ) → narrow (upToSpace l) ≡ pick a (Decimal n) NoNumber → narrow (afterSpace l) ≡ pick b (Decimal m) NoNumber
-      → pick (a && b) (Read (Run (build n m))) Unread ≡ two l build
+  pub two-read : (build : ℕ → ℕ → Call) (a b : Bool) (n m : ℕ) → narrow (upToSpace l) ≡ choose a (Decimal n) NoNumber → narrow (afterSpace l) ≡ choose b (Decimal m) NoNumber
+      → choose (a && b) (Read (Run (build n m))) Unread ≡ two l build
   two-read build true true n m e f = rw (e, f) refl
   two-read build true false n m e f = rw (e, f) refl
   two-read build false b n m e f = rw e refl
 
-  pub pitched-read : (build : ℕ → ℤ → Call) (a b : Bool) (n : ℕ) (v : ℤ) → narrow (upToSpace l) ≡ pick a (Decimal n) NoNumber → angle (afterSpace l) ≡ pick b (Hundredths v) NoAngle
-      → pick (a && b) (Read (Run (build n v))) Unread ≡ pitched l build
+  pub pitched-read : (build : ℕ → ℤ → Call) (a b : Bool) (n : ℕ) (v : ℤ) → narrow (upToSpace l) ≡ choose a (Decimal n) NoNumber → angle (afterSpace l) ≡ choose b (Hundredths v) NoAngle
+      → choose (a && b) (Read (Run (build n v))) Unread ≡ pitched l build
   pitched-read build true true n v e f = rw (e, f) refl
   pitched-read build true false n v e f = rw (e, f) refl
   pitched-read build false b n v e f = rw e refl

@@ -1,8 +1,8 @@
 // A run sheet's line to a command, by the definition of sheet_law.
 // A word, its arguments, and the whole line; only `parse` is for others.
 ghost use mathlib.Core.Path.{_≡_};
-ghost use Rattle.base.specs.Base.{pick};
-ghost use Rattle.sheet_law.specs.Text.{same as Text·same};
+ghost use Rattle.base.specs.Base.{choose};
+ghost use Rattle.sheet_law.specs.Text.{sameText};
 ghost use Rattle.sheet_law.specs.Reading.{keyword as Reading·keyword, narrow as Reading·narrow, angle as Reading·angle, kindNamed, storeLine, storeLineRest, command as Reading·command, lineOf};
 use calls::Call;
 use calls::KIND_NEW;
@@ -27,7 +27,7 @@ const CLOSE: u8 = b')';
 
 // A row of a table of words: what it names, or else what the rows after it do.
 fn keyword_row(s: &[u8], text: &[u8], named: Keyword, after: Keyword) -> Keyword
-    ensures { λ r. ⌜ r ≡ pick (Text·same (now (s .entry)) (now (text .entry))) named after ⌝ }
+    ensures { λ r. ⌜ r ≡ choose (sameText (now (s .entry)) (now (text .entry))) named after ⌝ }
 {
     if same(s, text) {
         return named;
@@ -36,7 +36,7 @@ fn keyword_row(s: &[u8], text: &[u8], named: Keyword, after: Keyword) -> Keyword
 }
 
 fn kind_row(s: &[u8], text: &[u8], named: Number, after: Number) -> Number
-    ensures { λ r. ⌜ r ≡ pick (Text·same (now (s .entry)) (now (text .entry))) named after ⌝ }
+    ensures { λ r. ⌜ r ≡ choose (sameText (now (s .entry)) (now (text .entry))) named after ⌝ }
 {
     if same(s, text) {
         return named;
@@ -83,7 +83,7 @@ struct PitchRead {
 }
 
 fn narrow(s: &[u8]) -> NumberRead
-    ensures { λ r. ⌜ Reading·narrow (now (s .entry)) ≡ pick (r .read) (Number.Decimal (r .value)) Number.NoNumber ⌝ }
+    ensures { λ r. ⌜ Reading·narrow (now (s .entry)) ≡ choose (r .read) (Number.Decimal (r .value)) Number.NoNumber ⌝ }
 {
     let Number::Decimal(n) = number(s, NARROW_MAX) else {
         return NumberRead {
@@ -98,7 +98,7 @@ fn narrow(s: &[u8]) -> NumberRead
 }
 
 fn pitch(s: &[u8]) -> PitchRead
-    ensures { λ r. ⌜ Reading·angle (now (s .entry)) ≡ pick (r .read) (Angle.Hundredths (r .value)) Angle.NoAngle ⌝ }
+    ensures { λ r. ⌜ Reading·angle (now (s .entry)) ≡ choose (r .read) (Angle.Hundredths (r .value)) Angle.NoAngle ⌝ }
 {
     let Angle::Hundredths(v) = angle(s) else {
         return PitchRead {
@@ -157,7 +157,7 @@ fn store_line_rest(k: u16, readers: u16, s: &[u8]) -> Line
 
 // The line of a call, if its arguments were read.
 fn run(read: bool, call: Call) -> Line
-    ensures { λ r. ⌜ r ≡ pick read (Line.Read (Command.Run call)) Line.Unread ⌝ }
+    ensures { λ r. ⌜ r ≡ choose read (Line.Read (Command.Run call)) Line.Unread ⌝ }
 {
     if read {
         return Line::Read(Command::Run(call));

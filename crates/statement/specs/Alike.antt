@@ -16,7 +16,7 @@ use Rattle.calls.specs.Tally.{Tally}
 use Rattle.statement.specs.Machine.{State, outcome, Given, Machine, Fresh, events, afterAll}
 use Rattle.statement.specs.Demand3.{Demand3}
 use Rattle.statement.specs.Companions.{Traits, GraceTraits, MakingAccepts, MakesFresh, StateCompanions, GraceStateCompanions, Companions, GraceCompanions}
-use Rattle.statement.specs.Examples.{lentFor, replies, repliesAfter, played, answers, leadTo, Example, Holds, AllHold}
+use Rattle.statement.specs.Examples.{lentFor, replies, repliesAfter, repliesFrom, repliesOn, leadTo, Example, Holds, AllHold}
 use Rattle.statement.specs.Examples.Example.{shows, unchanged, makes, each}
 
 pub record Alike (M N : Machine) : Type 0 where
@@ -70,7 +70,7 @@ module _ (M N : Machine) where
   replies-same s e [] = refl
   replies-same s e (c ∷ cs) = rw (e [] c, replies-same (M .step s c .after) (λ ds d. e (c ∷ ds) d) cs) refl
 
-  answers-same : (s : State) → SameAt M N s → (cs : List Call) → answers N s cs ≡ answers M s cs
+  answers-same : (s : State) → SameAt M N s → (cs : List Call) → repliesOn N s cs ≡ repliesOn M s cs
   answers-same s e [] = refl
   answers-same s e (c ∷ cs) = rw (e c, answers-same s e cs) refl
 
@@ -154,14 +154,14 @@ module _ (M N : Machine) where
     made-fresh : (z : Given) (s : State) → M .making z s .reply ≡ Made → Fresh M (M .making z s .after)
     made-fresh z s e = record { arguments = z; lent = s; made = ap (λ a. outcome a (M .making z s .after)) e }
 
-    played-alike : (z : Given) (ds cs : List Call) → M .making z (lentFor z) .reply ≡ Made → played N z ds cs ≡ played M z ds cs
+    played-alike : (z : Given) (ds cs : List Call) → M .making z (lentFor z) .reply ≡ Made → repliesFrom N z ds cs ≡ repliesFrom M z ds cs
     played-alike z ds cs e =
         rw (like .makings z (lentFor z), led-same true (M .making z (lentFor z) .after) (like .steps _ (made-fresh z (lentFor z) e)) ds cs) refl
 
     lead-alike : (z : Given) (ds : List Call) → M .making z (lentFor z) .reply ≡ Made → leadTo N z ds ≡ leadTo M z ds
     lead-alike z ds e = rw (like .makings z (lentFor z)) (after-same (M .making z (lentFor z) .after) (like .steps _ (made-fresh z (lentFor z) e)) ds)
 
-    shows-alike : (z : Given) (ds cs : List Call) (due : List Reply) → firstReply due ≡ Made → played M z ds cs ≡ due → played N z ds cs ≡ due
+    shows-alike : (z : Given) (ds cs : List Call) (due : List Reply) → firstReply due ≡ Made → repliesFrom M z ds cs ≡ due → repliesFrom N z ds cs ≡ due
     shows-alike z ds cs due e shown = played-alike z ds cs (ap firstReply shown ∙ e) ∙ shown
 
     unchanged-alike : (z : Given) (ds : List Call) (c : Call) (a : Reply) → Holds (unchanged M z ds c a) → Holds (unchanged N z ds c a)

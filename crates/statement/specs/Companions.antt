@@ -46,7 +46,7 @@ pub record GraceTraits : Type 0 where
   -- the mark of a synchronise at a version: the version's successor
   pub successor : ℕ → ℕ
   -- the place that follows a reader's place
-  pub onward : ℕ → ℕ
+  pub nextPlace : ℕ → ℕ
   -- whether readers publish versions, so that a LEAVE publishes too
   pub publishes : Bool
 
@@ -115,7 +115,7 @@ pub record StateCompanions (M : Machine) (traits : Traits) (z : Given) (h : Mode
 -- What holds of it besides, in a kind with sections and grace periods.
 pub record GraceStateCompanions (M : Machine) (traits : GraceTraits) (z : Given) (h : Model) (t : Told) (u : Tally) (s : State) : Type 0 where
   -- readers never wait: the next ENTER replies the next place, whatever stands between; LEAVE is accepted in an open section
-  pub enters : (r : ℕ) → r < z .readers → u .place r < PLACE-PICKED → M .step s (Enter r) .reply ≡ At (traits .onward (u .place r))
+  pub enters : (r : ℕ) → r < z .readers → u .place r < PLACE-PICKED → M .step s (Enter r) .reply ≡ At (traits .nextPlace (u .place r))
   pub leaves : (r : ℕ) → r < z .readers → PLACE-OPEN ≤ u .place r → M .step s (Leave r) .reply ≡ Left
   -- who is idle is told to hold nothing: so busy speaks of every other publisher that holds a slot; with idle-if, told idle is told to hold nothing
   pub idle-only-if : (p : ℕ) → u .phase p ≡ idle → (slot : ℕ) → holds t p slot ≡ false

@@ -5,7 +5,7 @@ use mathlib.Core.Bool.{Bool, true, _&&_}
 use mathlib.Core.List.{List, [], _∷_, _++_}
 use lib.IntN.{ℤ, pos, negℤ}
 use lib.ListN.{replicate}
-use Rattle.base.specs.Base.{pick}
+use Rattle.base.specs.Base.{choose}
 use Rattle.calls.specs.declared.Call.{Call}
 use Rattle.calls.specs.declared.Call.the-variants.{Enter, Claim, Write, Swap}
 use Rattle.calls.specs.declared.Reply.{Reply}
@@ -26,17 +26,17 @@ replies M s (c ∷ cs) = let o = M .step s c in o .reply ∷ replies M (o .after
 
 -- The same after some calls that lead there; each of those must be accepted, else there are no replies.
 abbrev pub repliesAfter : Machine → Bool → State → List Call → List Call → List Reply
-repliesAfter M ok s [] cs = pick ok (replies M s cs) []
+repliesAfter M ok s [] cs = choose ok (replies M s cs) []
 repliesAfter M ok s (d ∷ ds) cs = let o = M .step s d in repliesAfter M (ok && accepted (o .reply)) (o .after) ds cs
 
 -- The same from the making on, whose reply is the first.
-abbrev pub played : Machine → Given → List Call → List Call → List Reply
-played M z ds cs = let o = M .making z (lentFor z) in o .reply ∷ repliesAfter M true (o .after) ds cs
+abbrev pub repliesFrom : Machine → Given → List Call → List Call → List Reply
+repliesFrom M z ds cs = let o = M .making z (lentFor z) in o .reply ∷ repliesAfter M true (o .after) ds cs
 
 -- The reply to each of some calls on one and the same state.
-abbrev pub answers : Machine → State → List Call → List Reply
-answers M s [] = []
-answers M s (c ∷ cs) = M .step s c .reply ∷ answers M s cs
+abbrev pub repliesOn : Machine → State → List Call → List Reply
+repliesOn M s [] = []
+repliesOn M s (c ∷ cs) = M .step s c .reply ∷ repliesOn M s cs
 
 -- An example: calls that lead there, the calls shown, and the replies due; or a call, its reply, and that it leaves the whole state unchanged;
 -- or a making on what is lent to it, and its reply; or a state put together by hand, calls that are each made on it, and their replies.
@@ -50,10 +50,10 @@ abbrev pub leadTo : Machine → Given → List Call → State
 leadTo M z ds = afterAll M (M .making z (lentFor z) .after) ds
 
 abbrev pub Holds : Example → Type 0
-Holds (shows M z ds cs due) = played M z ds cs ≡ due
-Holds (unchanged M z ds c a) = (played M z ds (c ∷ []) ≡ Made ∷ a ∷ []) × (M .step (leadTo M z ds) c .after ≡ leadTo M z ds)
+Holds (shows M z ds cs due) = repliesFrom M z ds cs ≡ due
+Holds (unchanged M z ds c a) = (repliesFrom M z ds (c ∷ []) ≡ Made ∷ a ∷ []) × (M .step (leadTo M z ds) c .after ≡ leadTo M z ds)
 Holds (makes M z s a) = M .making z s .reply ≡ a
-Holds (each M s cs due) = answers M s cs ≡ due
+Holds (each M s cs due) = repliesOn M s cs ≡ due
 
 abbrev pub AllHold : List Example → Type 0
 AllHold [] = Unit {0}

@@ -78,24 +78,24 @@ pub record HeldAndWalkStay (y y′ : Publisher) : Type 0 where
 -- What stays of the record that a call names, in a kind that publishes readers' versions or does not: of LOOK all; CLAIM may move place and held,
 -- WRITE, RAISE and RELEASE the place, SWAP place and held, SYNC place and walk, WALK place, next, looks and waits,
 -- ENTER the place and at most one more, LEAVE the place and, where it publishes, the published version.
-abbrev pub OwnStays : Bool → Call → List ℕ → List ℕ → Type 0
-OwnStays publishes (Enter r) w w′ = PlaceAndOne (readerAt w r) (readerAt w′ r)
-OwnStays publishes (Look r k) w w′ = readerAt w′ r ≡ readerAt w r
-OwnStays publishes (Leave r) w w′ = LeaveStays publishes (readerAt w r) (readerAt w′ r)
-OwnStays publishes (Claim p slot) w w′ = publisherAt w′ p .walk ≡ publisherAt w p .walk
-OwnStays publishes (Write p v) w w′ = HeldAndWalkStay (publisherAt w p) (publisherAt w′ p)
-OwnStays publishes (Swap p) w w′ = publisherAt w′ p .walk ≡ publisherAt w p .walk
-OwnStays publishes (Sync p) w w′ = publisherAt w′ p .held ≡ publisherAt w p .held
-OwnStays publishes (Raise p) w w′ = HeldAndWalkStay (publisherAt w p) (publisherAt w′ p)
-OwnStays publishes (Walk p b) w w′ = (publisherAt w′ p .held ≡ publisherAt w p .held) × (publisherAt w′ p .walk .mark ≡ publisherAt w p .walk .mark)
-OwnStays publishes (Release p) w w′ = HeldAndWalkStay (publisherAt w p) (publisherAt w′ p)
+abbrev pub NamedStays : Bool → Call → List ℕ → List ℕ → Type 0
+NamedStays publishes (Enter r) w w′ = PlaceAndOne (readerAt w r) (readerAt w′ r)
+NamedStays publishes (Look r k) w w′ = readerAt w′ r ≡ readerAt w r
+NamedStays publishes (Leave r) w w′ = LeaveStays publishes (readerAt w r) (readerAt w′ r)
+NamedStays publishes (Claim p slot) w w′ = publisherAt w′ p .walk ≡ publisherAt w p .walk
+NamedStays publishes (Write p v) w w′ = HeldAndWalkStay (publisherAt w p) (publisherAt w′ p)
+NamedStays publishes (Swap p) w w′ = publisherAt w′ p .walk ≡ publisherAt w p .walk
+NamedStays publishes (Sync p) w w′ = publisherAt w′ p .held ≡ publisherAt w p .held
+NamedStays publishes (Raise p) w w′ = HeldAndWalkStay (publisherAt w p) (publisherAt w′ p)
+NamedStays publishes (Walk p b) w w′ = (publisherAt w′ p .held ≡ publisherAt w p .held) × (publisherAt w′ p .walk .mark ≡ publisherAt w p .walk .mark)
+NamedStays publishes (Release p) w w′ = HeldAndWalkStay (publisherAt w p) (publisherAt w′ p)
 
 -- Only what is named moved.
 pub record Framed (publishes : Bool) (c : Call) (w w′ : List ℕ) : Type 0 where
   pub long : length w′ ≡ length w
   pub readers : (r : ℕ) → readerNamed c ≢ some r → readerAt w′ r ≡ readerAt w r
   pub publishers : (p : ℕ) → publisherNamed c ≢ some p → publisherAt w′ p ≡ publisherAt w p
-  pub own-stays : OwnStays publishes c w w′
+  pub own-stays : NamedStays publishes c w w′
   pub head : (i : ℕ) → i < HEAD → headNamed publishes c i ≡ false → getD w′ i 0 ≡ getD w i 0
   pub one : One w w′
 

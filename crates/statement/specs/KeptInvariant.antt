@@ -11,18 +11,18 @@ use lib.IntN.{ℤ}
 use lib.ListN.{length}
 use lib.Dec.{eqb}
 use borrow.Author.Tests.{eqb-true}
-use Rattle.base.specs.Base.{pick, upd, is}
-use Rattle.base.specs.RowLaws.{not-both, same, pick-split}
+use Rattle.base.specs.Base.{choose, upd, is}
+use Rattle.base.specs.RowLaws.{not-both, same, choose-split}
 use Rattle.calls.specs.declared.Call.{Call}
 use Rattle.calls.specs.declared.Call.the-variants.{Enter, Look, Leave, Claim, Write, Swap, Sync, Raise, Walk, Release}
 use Rattle.calls.specs.declared.Reply.{Reply}
 use Rattle.calls.specs.declared.Reply.the-variants.{Pitch, Walked}
 use Rattle.calls.specs.declared.WalkReply.the-variants.{Returned}
 use Rattle.calls.specs.Numbers.{TABLE, PLACE-OPEN, PLACE-PICKED}
-use Rattle.calls.specs.Events.{Event, accepted, placeOf, moved, foldEvents}
+use Rattle.calls.specs.Events.{Event, accepted, placeOf, movedBy, foldEvents}
 use Rattle.calls.specs.Events.Event.{_⇒_}
 use Rattle.calls.specs.Model.{Model, model₀, modelStep, entry}
-use Rattle.calls.specs.Told.{Told, told₀, tell, entered}
+use Rattle.calls.specs.Told.{Told, told₀, tell, afterEnter}
 use Rattle.calls.specs.Tally.{Tally, tally₀, tally}
 use Rattle.calls.specs.Tally.Phase.{raised, returned}
 use Rattle.statement.specs.Machine.{State, Given, Machine, Fresh, events, afterAll}
@@ -56,22 +56,22 @@ abbrev pub ghost₀ : List ℤ → Ghost
 ghost₀ first = record { model = model₀ first; told = told₀; pend = λ p r. false; tally = tally₀ }
 
 -- After an accepted call, and after any call.
-abbrev pub advance : Ghost → Call → Reply → Ghost
-advance g c a = record { model = modelStep (g .model) c a; told = tell (g .told) c a; pend = pending (g .pend) (g .told) c; tally = tally (g .tally) c a }
+abbrev pub ghostStep : Ghost → Call → Reply → Ghost
+ghostStep g c a = record { model = modelStep (g .model) c a; told = tell (g .told) c a; pend = pending (g .pend) (g .told) c; tally = tally (g .tally) c a }
 
 abbrev pub afterEvent : Ghost → Event → Ghost
-afterEvent g e = moved advance g e
+afterEvent g e = movedBy ghostStep g e
 
 abbrev pub afterEvents : Ghost → List Event → Ghost
-afterEvents g es = foldEvents advance g es
+afterEvents g es = foldEvents ghostStep g es
 
 -- The parts of the ghost are the folds of the statement.
-all-part : {A : Type 0} (part : Ghost → A) (fold : A → Call → Reply → A) → ((g : Ghost) (c : Call) (a : Reply) → part (advance g c a) ≡ fold (part g) c a)
+all-part : {A : Type 0} (part : Ghost → A) (fold : A → Call → Reply → A) → ((g : Ghost) (c : Call) (a : Reply) → part (ghostStep g c a) ≡ fold (part g) c a)
     → (g : Ghost) (es : List Event) → part (afterEvents g es) ≡ foldEvents fold (part g) es
 all-part part fold along g [] = refl
 all-part part fold along g ((c ⇒ a) ∷ es) = all-part part fold along (afterEvent g (c ⇒ a)) es ∙ ap (λ value. foldEvents fold value es) (go (accepted a))
   where
-    go : (test : Bool) → part (pick test (advance g c a) g) ≡ pick test (fold (part g) c a) (part g)
+    go : (test : Bool) → part (choose test (ghostStep g c a) g) ≡ choose test (fold (part g) c a) (part g)
     go true = along g c a
     go false = refl
 
@@ -146,26 +146,26 @@ record Still (g : Ghost) (p r : ℕ) : Type 0 where
   awaited : g .pend p r ≡ true
   opened : g .told .inside r ≡ true
 
-pick-true : (test one other : Bool) → one ≡ true → other ≡ true → pick test one other ≡ true
-pick-true true one other e d = e
-pick-true false one other e d = d
+choose-true : (test one other : Bool) → one ≡ true → other ≡ true → choose test one other ≡ true
+choose-true true one other e d = e
+choose-true false one other e d = d
 
 -- ENTER closes no section.
-entered-inside : (t : Told) (q r : ℕ) (place : Option ℕ) → t .inside r ≡ true → entered t q place .inside r ≡ true
-entered-inside t q r place e = pick-split (λ (t′ : Told). t′ .inside r ≡ true) (is place PLACE-OPEN)
-    (λ _. pick-true (eqb r q) true (t .inside r) refl e)
-    (λ _. pick-split (λ (t′ : Told). t′ .inside r ≡ true) (is place PLACE-PICKED) (λ _. there (eqb r q) refl) (λ _. e))
+entered-inside : (t : Told) (q r : ℕ) (place : Option ℕ) → t .inside r ≡ true → afterEnter t q place .inside r ≡ true
+entered-inside t q r place e = choose-split (λ (t′ : Told). t′ .inside r ≡ true) (is place PLACE-OPEN)
+    (λ _. choose-true (eqb r q) true (t .inside r) refl e)
+    (λ _. choose-split (λ (t′ : Told). t′ .inside r ≡ true) (is place PLACE-PICKED) (λ _. there (eqb r q) refl) (λ _. e))
   where
-    there : (test : Bool) → eqb r q ≡ test → pick (eqb r q) (t .inside q) (t .inside r) ≡ true
+    there : (test : Bool) → eqb r q ≡ test → choose (eqb r q) (t .inside q) (t .inside r) ≡ true
     there true d = rw (d, ← eqb-true r q d) e
     there false d = rw d e
 
-still-call : (g : Ghost) (p r : ℕ) → Still g p r → (c : Call) (a : Reply) → (c ≡ Leave r) ⊎ Still (advance g c a) p r
+still-call : (g : Ghost) (p r : ℕ) → Still g p r → (c : Call) (a : Reply) → (c ≡ Leave r) ⊎ Still (ghostStep g c a) p r
 still-call g p r awaits (Enter q) a = inr (record { awaited = awaits .awaited; opened = entered-inside (g .told) q r (placeOf a) (awaits .opened) })
 still-call g p r awaits (Look q k) a = inr (record { awaited = awaits .awaited; opened = awaits .opened })
 still-call g p r awaits (Leave q) a = go (eqb r q) refl
   where
-    go : (test : Bool) → eqb r q ≡ test → (Leave q ≡ Leave r) ⊎ Still (advance g (Leave q) a) p r
+    go : (test : Bool) → eqb r q ≡ test → (Leave q ≡ Leave r) ⊎ Still (ghostStep g (Leave q) a) p r
     go true e = inl (ap Leave (sym (eqb-true r q e)))
     go false e = inr (record { awaited = rw e (awaits .awaited); opened = rw e (awaits .opened) })
 still-call g p r awaits (Claim q slot) a = inr (record { awaited = awaits .awaited; opened = awaits .opened })
@@ -173,7 +173,7 @@ still-call g p r awaits (Write q v) a = inr (record { awaited = awaits .awaited;
 still-call g p r awaits (Swap q) a = inr (record { awaited = awaits .awaited; opened = awaits .opened })
 still-call g p r awaits (Sync q) a = inr (record { awaited = go (eqb p q); opened = awaits .opened })
   where
-    go : (test : Bool) → pick test (g .told .inside) (g .pend p) r ≡ true
+    go : (test : Bool) → choose test (g .told .inside) (g .pend p) r ≡ true
     go true = awaits .opened
     go false = awaits .awaited
 still-call g p r awaits (Raise q) a = inr (record { awaited = awaits .awaited; opened = awaits .opened })
@@ -183,7 +183,7 @@ still-call g p r awaits (Release q) a = inr (record { awaited = awaits .awaited;
 still-one : (g : Ghost) (p r : ℕ) → Still g p r → (c : Call) (a : Reply) → ((c ≡ Leave r) × (accepted a ≡ true)) ⊎ Still (afterEvent g (c ⇒ a)) p r
 still-one g p r awaits c a = go (accepted a) refl (still-call g p r awaits c a)
   where
-    go : (test : Bool) → accepted a ≡ test → (c ≡ Leave r) ⊎ Still (advance g c a) p r → ((c ≡ Leave r) × (accepted a ≡ true)) ⊎ Still (afterEvent g (c ⇒ a)) p r
+    go : (test : Bool) → accepted a ≡ test → (c ≡ Leave r) ⊎ Still (ghostStep g c a) p r → ((c ≡ Leave r) × (accepted a ≡ true)) ⊎ Still (afterEvent g (c ⇒ a)) p r
     go true e (inl q) = inl (q, e)
     go true e (inr after) = inr (rw e after)
     go false e either = inr (rw e awaits)

@@ -6,7 +6,7 @@ use mathlib.Core.List.{List, [], _∷_}
 use mathlib.Core.Option.{Option, none, some}
 use lib.IntN.{ℤ}
 use lib.Dec.{eqb}
-use Rattle.base.specs.Base.{pick}
+use Rattle.base.specs.Base.{choose}
 use Rattle.calls.specs.declared.Call.{Call}
 use Rattle.calls.specs.declared.Reply.{Reply}
 use Rattle.calls.specs.declared.Reply.the-variants.{Made}
@@ -71,4 +71,4 @@ abbrev pub heldSlot : State → ℕ → ℕ → Bool
 heldSlot s p slot = not (eqb (publisherAt (s .words) p .place) PLACE-IDLE) && eqb (publisherAt (s .words) p .held) slot
 
 abbrev pub pickedSlot : State → ℕ → Option ℕ
-pickedSlot s r = pick (eqb (readerAt (s .words) r .place) PLACE-PICKED) (some (readerAt (s .words) r .picked)) none
+pickedSlot s r = choose (eqb (readerAt (s .words) r .place) PLACE-PICKED) (some (readerAt (s .words) r .picked)) none

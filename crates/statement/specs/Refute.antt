@@ -7,7 +7,7 @@ use mathlib.Core.Option.{Option, none}
 use lib.IntN.{ℤ}
 use lib.Dec.{eqb}
 use borrow.Author.Tests.{eqb-true}
-use Rattle.base.specs.Base.{pick, upd, is}
+use Rattle.base.specs.Base.{choose, upd, is}
 use Rattle.base.specs.RowLaws.{clash, or-right}
 use Rattle.calls.specs.declared.Call.{Call}
 use Rattle.calls.specs.declared.Call.the-variants.{Enter, Look, Leave, Claim, Write, Swap, Sync, Raise, Walk, Release}
@@ -15,9 +15,9 @@ use Rattle.calls.specs.declared.Reply.{Reply}
 use Rattle.calls.specs.declared.Reply.the-variants.{Walked}
 use Rattle.calls.specs.declared.WalkReply.the-variants.{Returned}
 use Rattle.calls.specs.Numbers.{PLACE-OPEN, PLACE-PICKED}
-use Rattle.calls.specs.Events.{Event, accepted, placeOf, moved, foldEvents}
+use Rattle.calls.specs.Events.{Event, accepted, placeOf, movedBy, foldEvents}
 use Rattle.calls.specs.Events.Event.{_⇒_}
-use Rattle.calls.specs.Told.{Told, told₀, tell, entered, withSection}
+use Rattle.calls.specs.Told.{Told, told₀, tell, afterEnter, withSection}
 use Rattle.statement.specs.Machine.{State, Given, Machine, Fresh, events, afterAll}
 use Rattle.statement.specs.Demand3.{LeftIn, Demand3}
 
@@ -77,28 +77,28 @@ events-append M s (c ∷ cs) ds = ap (λ (es : List Event). (c ⇒ M .step s c .
 -- Counted from place 4 it is demand 3's own.
 inside-same : (es : List Event) (opened : ℕ → Bool) (t : Told) → ((r : ℕ) → opened r ≡ t .inside r) → (r : ℕ) → foldEvents (openedFrom PLACE-OPEN) opened es r ≡ foldEvents tell t es .inside r
 inside-same [] opened t e r = e r
-inside-same ((c ⇒ a) ∷ es) opened t e r = inside-same es (moved (openedFrom PLACE-OPEN) opened (c ⇒ a)) (moved tell t (c ⇒ a)) (one c (accepted a)) r
+inside-same ((c ⇒ a) ∷ es) opened t e r = inside-same es (movedBy (openedFrom PLACE-OPEN) opened (c ⇒ a)) (movedBy tell t (c ⇒ a)) (one c (accepted a)) r
   where
     other : (q j : ℕ) (left right : Bool) → left ≡ right → upd opened q left j ≡ upd (t .inside) q right j
     other q j left right d = go (eqb j q)
       where
-        go : (test : Bool) → pick test left (opened j) ≡ pick test right (t .inside j)
+        go : (test : Bool) → choose test left (opened j) ≡ choose test right (t .inside j)
         go true = d
         go false = e j
 
-    enters : (q j : ℕ) (place : Option ℕ) → upd opened q (is place PLACE-OPEN || opened q) j ≡ entered t q place .inside j
+    enters : (q j : ℕ) (place : Option ℕ) → upd opened q (is place PLACE-OPEN || opened q) j ≡ afterEnter t q place .inside j
     enters q j place = go (is place PLACE-OPEN) (is place PLACE-PICKED)
       where
         stay : (test : Bool) → eqb j q ≡ test → upd opened q (opened q) j ≡ t .inside j
         stay true d = rw (d, eqb-true j q d) (e q)
         stay false d = rw d (e j)
 
-        go : (opens picks : Bool) → upd opened q (opens || opened q) j ≡ pick opens (withSection t q true none) (pick picks (withSection t q (t .inside q) (t .current)) t) .inside j
+        go : (opens picks : Bool) → upd opened q (opens || opened q) j ≡ choose opens (withSection t q true none) (choose picks (withSection t q (t .inside q) (t .current)) t) .inside j
         go true picks = other q j true true refl
         go false true = other q j (opened q) (t .inside q) (e q)
         go false false = stay (eqb j q) refl
 
-    one : (c : Call) (taken : Bool) (j : ℕ) → pick taken (openedFrom PLACE-OPEN opened c a) opened j ≡ pick taken (tell t c a) t .inside j
+    one : (c : Call) (taken : Bool) (j : ℕ) → choose taken (openedFrom PLACE-OPEN opened c a) opened j ≡ choose taken (tell t c a) t .inside j
     one c false j = e j
     one (Enter q) true j = enters q j (placeOf a)
     one (Look q k) true j = e j

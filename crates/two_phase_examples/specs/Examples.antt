@@ -7,7 +7,7 @@ use Rattle.calls.specs.declared.Call.{Call}
 use Rattle.calls.specs.declared.Call.the-variants.{Enter, Look, Leave, Claim, Swap, Sync, Raise, Walk, Release}
 use Rattle.calls.specs.declared.Reply.the-variants.{Made, At, Pitch, Left, Swapped, Synced, Raised, Walked, Freed, Refused}
 use Rattle.calls.specs.declared.WalkReply.the-variants.{Waiting, Spent, Quiet, Returned}
-use Rattle.layout.specs.Layout.{indicator, readerAt, publisherAt, withReader, withPublisher, withReaders, fresh}
+use Rattle.layout.specs.Layout.{indicator, readerAt, publisherAt, withReader, withPublisher, withReaders, freshWords}
 use Rattle.statement.specs.Machine.{given}
 use Rattle.statement.specs.Examples.{Example, AllHold, leadTo, enters, publication, tableFrom, P9, P10}
 use Rattle.statement.specs.Examples.Example.{shows, unchanged}
@@ -55,7 +55,7 @@ examples = P5 ∷ P6 ∷ P9 TwoPhase ∷ P10 TwoPhase ∷ P11 ∷ whole ∷ load
 
 -- The reply of P6's call, at the state that it starts from.
 p6-spent : step rules (leadTo TwoPhase (given 1 1 2 0) to37) (Walk 0 0) .reply ≡ Walked Spent
-unfolding indicator readerAt publisherAt withReader withPublisher withReaders fresh anyBelow countBelow damaged onward lookAt step making
+unfolding indicator readerAt publisherAt withReader withPublisher withReaders freshWords anyBelow countBelow damaged onward lookAt step making
 p6-spent = refl
 
 p6-same : step rules (leadTo TwoPhase (given 1 1 2 0) to37) (Walk 0 0) .after ≡ leadTo TwoPhase (given 1 1 2 0) to37
@@ -63,5 +63,5 @@ p6-same = old-walk-zero _ 0 p6-spent
 
 -- Each by computation, and that P6's call changes nothing by what is promised of every such call.
 pub bench : AllHold examples
-unfolding examples indicator readerAt publisherAt withReader withPublisher withReaders fresh anyBelow countBelow damaged onward lookAt step making
+unfolding examples indicator readerAt publisherAt withReader withPublisher withReaders freshWords anyBelow countBelow damaged onward lookAt step making
 bench = (refl, ((refl, p6-same), (refl, (refl, (refl, (refl, (refl, tt)))))))

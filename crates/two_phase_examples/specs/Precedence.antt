@@ -8,7 +8,7 @@ use Rattle.calls.specs.declared.Call.the-variants.{Claim}
 use Rattle.calls.specs.declared.Reply.the-variants.{Made, Claimed, Refused}
 use Rattle.calls.specs.Numbers.{PLACE-CLAIMED}
 use Rattle.layout.specs.declared.Publisher.{Publisher}
-use Rattle.layout.specs.Layout.{indicator, readerAt, publisherAt, withReader, withPublisher, withReaders, noPublisher, fresh}
+use Rattle.layout.specs.Layout.{indicator, readerAt, publisherAt, withReader, withPublisher, withReaders, noPublisher, freshWords}
 use Rattle.layout.specs.Records.{_atPlace_, _held≔_}
 use Rattle.statement.specs.Machine.{State, given}
 use Rattle.statement.specs.Examples.{Example, AllHold}
@@ -34,7 +34,7 @@ abbrev pub bothClaimed : State
 bothClaimed = withPublisherAs oneClaimed 1 (claimed 2)
 
 pub both-claimed-undamaged : damaged rules bothClaimed ≡ false
-unfolding indicator readerAt publisherAt withReader withPublisher withReaders fresh anyBelow countBelow damaged making
+unfolding indicator readerAt publisherAt withReader withPublisher withReaders freshWords anyBelow countBelow damaged making
 both-claimed-undamaged = refl
 
 -- CLAIM of the free slot there, by a publisher that has claimed and by the idle one: 21 before 31.
@@ -45,5 +45,5 @@ unfoldable pub inOrder : List Example
 inOrder = busyRows ∷ turnRows ∷ sharedRows TwoPhase 9223372036854775807 3
 
 pub precedence : AllHold inOrder
-unfolding inOrder indicator readerAt publisherAt withReader withPublisher withReaders fresh anyBelow countBelow damaged onward lookAt step making
+unfolding inOrder indicator readerAt publisherAt withReader withPublisher withReaders freshWords anyBelow countBelow damaged onward lookAt step making
 precedence = (refl, (refl, (refl, (refl, (refl, (refl, (refl, (refl, (refl, (refl, (refl, (refl, (refl, (refl, (refl, (refl, (refl, (refl, (refl, (refl, (refl, (refl, (refl, (refl, (refl, tt)))))))))))))))))))))))))

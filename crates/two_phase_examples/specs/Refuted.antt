@@ -6,7 +6,7 @@ use mathlib.Core.Bool.{Bool, true, false, not, _&&_}
 use mathlib.Core.List.{List, [], _∷_, _++_}
 use lib.IntN.{pos}
 use lib.Dec.{ltb, eqb}
-use Rattle.base.specs.Base.{pick}
+use Rattle.base.specs.Base.{choose}
 use Rattle.base.specs.Rows.{anyBelow, countBelow}
 use Rattle.calls.specs.declared.Call.{Call}
 use Rattle.calls.specs.declared.Call.the-variants.{Enter, Look, Leave, Claim, Write, Swap, Sync, Raise, Walk, Release}
@@ -17,7 +17,7 @@ use Rattle.calls.specs.Events.{Event}
 use Rattle.calls.specs.Events.Event.{_⇒_}
 use Rattle.calls.specs.Model.{firstTable}
 use Rattle.calls.specs.Told.{toldBy}
-use Rattle.layout.specs.Layout.{publishers, version, indicator, readerAt, publisherAt, withReader, withPublisher, withReaders, fresh}
+use Rattle.layout.specs.Layout.{publishers, version, indicator, readerAt, publisherAt, withReader, withPublisher, withReaders, freshWords}
 use Rattle.layout.specs.Records.{_atPlace_}
 use Rattle.statement.specs.Machine.{State, Outcome, outcome, Given, given, Machine, Fresh, events, afterAll}
 use Rattle.statement.specs.Demand3.{Demand3}
@@ -25,19 +25,19 @@ use Rattle.statement.specs.Examples.{lentFor, claimAndWrite, publication}
 use Rattle.statement.specs.Refute.{someLeave, not-left, events-append}
 use Rattle.publication_law.specs.Steps.{publisher, putPublisher}
 use Rattle.publication_law.specs.Table.{damaged, step, making}
-use Rattle.publication_law.specs.Rules.{Rules, tableBy}
+use Rattle.publication_law.specs.SectionRules.{SectionRules, tableBy}
 use Rattle.publication_law.specs.Varied.{varied}
-use Rattle.two_phase_law.specs.Steps.{onward, watched, lookAt, fixed}
+use Rattle.two_phase_law.specs.Steps.{onward, lookedAt, lookAt, fixed}
 
 -- Several publishers: no 31.
-several : Rules
+several : SectionRules
 several = varied fixed false (fixed .looks)
 
 -- Line 21: while the first indicator is not empty, a walk whose version has become its mark breaks off the first wait; the second one follows.
 breaksOff : State → ℕ → Bool
 unfolding several
 breaksOff s p = not (damaged (tableBy several) s) && (ltb p (publishers (s .words)) && (eqb (publisher s p .place) PLACE-SYNCHRONISING
-    && (not (eqb (indicator (s .words) (watched (publisher s p))) 0) && eqb (version (s .words)) (publisher s p .walk .mark))))
+    && (not (eqb (indicator (s .words) (lookedAt (publisher s p))) 0) && eqb (version (s .words)) (publisher s p .walk .mark))))
 
 publishedStep : State → Call → Outcome
 unfolding several breaksOff
@@ -49,7 +49,7 @@ publishedStep s (Write p v) = step (tableBy several) s (Write p v)
 publishedStep s (Swap p) = step (tableBy several) s (Swap p)
 publishedStep s (Sync p) = step (tableBy several) s (Sync p)
 publishedStep s (Raise p) = step (tableBy several) s (Raise p)
-publishedStep s (Walk p b) = pick (breaksOff s p) (outcome (Walked Spent) (putPublisher s p (publisher s p atPlace PLACE-RAISED))) (step (tableBy several) s (Walk p b))
+publishedStep s (Walk p b) = choose (breaksOff s p) (outcome (Walked Spent) (putPublisher s p (publisher s p atPlace PLACE-RAISED))) (step (tableBy several) s (Walk p b))
 publishedStep s (Release p) = step (tableBy several) s (Release p)
 
 pub Published : Machine
@@ -78,12 +78,12 @@ trapped : List Event
 trapped = (Sync 1 ⇒ Synced 2) ∷ (Raise 0 ⇒ Raised) ∷ (Walk 1 1 ⇒ Walked Spent) ∷ (Walk 1 1 ⇒ Walked (Returned 1 0)) ∷ []
 
 trap-events : events Published (afterAll Published start before) trap ≡ trapped
-unfolding Published publishedStep breaksOff several start small before trap trapped indicator readerAt publisherAt withReader withPublisher withReaders fresh anyBelow countBelow damaged onward lookAt step making
+unfolding Published publishedStep breaksOff several start small before trap trapped indicator readerAt publisherAt withReader withPublisher withReaders freshWords anyBelow countBelow damaged onward lookAt step making
 trap-events = refl
 
 -- The reader's section is open then ..
 reader-inside : toldBy (events Published start before) .inside 0 ≡ true
-unfolding Published publishedStep breaksOff several start small before indicator readerAt publisherAt withReader withPublisher withReaders fresh anyBelow countBelow damaged onward lookAt step making
+unfolding Published publishedStep breaksOff several start small before indicator readerAt publisherAt withReader withPublisher withReaders freshWords anyBelow countBelow damaged onward lookAt step making
 reader-inside = refl
 
 start-fresh : Fresh Published start

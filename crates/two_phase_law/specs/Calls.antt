@@ -10,9 +10,9 @@ use mathlib.Core.List.{List, [], _∷_}
 use lib.ListN.{getD, set}
 use lib.Dec.{eqb}
 use borrow.Author.Tests.{eqb-true, eq-eqb, ne-eqb, lt-leb, le-leb, lt-ltb, not-false}
-use Rattle.base.specs.Base.{pick}
+use Rattle.base.specs.Base.{choose}
 use Rattle.base.specs.Rows.{anyTrue, countBelow}
-use Rattle.base.specs.RowLaws.{clash, pick-split, or-false, count-zero}
+use Rattle.base.specs.RowLaws.{clash, choose-split, or-false, count-zero}
 use Rattle.calls.specs.declared.Call.the-variants.{Enter, Leave}
 use Rattle.calls.specs.declared.Reply.the-variants.{At, Left}
 use Rattle.calls.specs.declared.WalkReply.the-variants.{Waiting, Spent, Quiet, Returned}
@@ -25,11 +25,11 @@ use Rattle.layout.specs.Records.{_place≔_, _first≔_, _picked≔_}
 use Rattle.statement.specs.Machine.{State, state, outcome}
 use Rattle.publication_law.specs.Steps.{reader}
 use Rattle.publication_law.specs.Looks.{withLook}
-use Rattle.publication_law.specs.Damage.{headRows, readersTest, publishersTest}
+use Rattle.publication_law.specs.Damage.{headRows, readersAreDamaged, publishersAreDamaged}
 use Rattle.publication_law.specs.DamageLaws.{Undamaged}
 use Rattle.publication_law.specs.Table.{damaged, step}
 use Rattle.publication_law.specs.Calls.{undamaged, undamaged-facts, undamaged-further, damaged-readers, damaged-further, enter-accepted, leave-accepted}
-use Rattle.two_phase_law.specs.Steps.{damageRules, readerRows, addedTo, miscounted, onward, entered, leaving, watched, lookAt, fixed, rules}
+use Rattle.two_phase_law.specs.Steps.{damageRules, readerRows, addedTo, miscounted, onward, entered, leaving, lookedAt, lookAt, fixed, rules}
 use Rattle.two_phase_law.specs.Counts.{Counted}
 use Rattle.two_phase_law.specs.Safety.{picked-rows}
 
@@ -37,7 +37,7 @@ use Rattle.two_phase_law.specs.Safety.{picked-rows}
 abbrev pub addedCounts : List ℕ → ℕ → List ℕ
 addedCounts w n = countBelow (λ r. addedTo 0 (readerAt w r)) n ∷ countBelow (λ r. addedTo 1 (readerAt w r)) n ∷ []
 
-count-more : (f : ℕ → Bool) (i : ℕ) → countBelow f (i + 1) ≡ pick (f i) (countBelow f i + 1) (countBelow f i)
+count-more : (f : ℕ → Bool) (i : ℕ) → countBelow f (i + 1) ≡ choose (f i) (countBelow f i + 1) (countBelow f i)
 unfolding countBelow
 count-more f i = rw (add-one i, add-one (countBelow f i)) refl
 
@@ -46,7 +46,7 @@ unfolding countBelow
 count-most f zero = omega arith
 count-most f (suc n) = go (f n) (count-most f n)
   where
-    go : (test : Bool) → countBelow f n ≤ n → pick test (suc (countBelow f n)) (countBelow f n) ≤ suc n
+    go : (test : Bool) → countBelow f n ≤ n → choose test (suc (countBelow f n)) (countBelow f n) ≤ suc n
     go true l = omega arith
     go false l = omega arith
 
@@ -64,8 +64,8 @@ module _ (w : List ℕ) where
   counts-in r i l e = rw (count-more (λ r′. addedTo 0 (readerAt w r′)) r, count-more (λ r′. addedTo 1 (readerAt w r′)) r, le-leb 4 (readerAt w r .place) l, ← e) (go i (omega arith))
     where
       go : (j : ℕ) → j < 2 → set (addedCounts w r) j (getD (addedCounts w r) j 0 + 1)
-          ≡ pick (eqb j 0) (countBelow (λ r′. addedTo 0 (readerAt w r′)) r + 1) (countBelow (λ r′. addedTo 0 (readerAt w r′)) r)
-          ∷ pick (eqb j 1) (countBelow (λ r′. addedTo 1 (readerAt w r′)) r + 1) (countBelow (λ r′. addedTo 1 (readerAt w r′)) r) ∷ []
+          ≡ choose (eqb j 0) (countBelow (λ r′. addedTo 0 (readerAt w r′)) r + 1) (countBelow (λ r′. addedTo 0 (readerAt w r′)) r)
+          ∷ choose (eqb j 1) (countBelow (λ r′. addedTo 1 (readerAt w r′)) r + 1) (countBelow (λ r′. addedTo 1 (readerAt w r′)) r) ∷ []
       go zero l = refl
       go (suc zero) l = refl
       go (suc (suc j)) l = absurd (omega arith)
@@ -80,13 +80,13 @@ no-damage = undamaged-facts rules
 
 -- The code tests the readers and the indicators in one pass.
 module _ (s : State) where
-  pub scan-undamaged : anyTrue (headRows damageRules s) ≡ false → readersTest damageRules s || rules .further s ≡ false → publishersTest damageRules s ≡ false → damaged rules s ≡ false
-  scan-undamaged head-ok readers-ok publishers-ok = let parts = or-false (readersTest damageRules s) (rules .further s) readers-ok in undamaged rules s head-ok (parts .0) (parts .1) publishers-ok
+  pub scan-undamaged : anyTrue (headRows damageRules s) ≡ false → readersAreDamaged damageRules s || rules .further s ≡ false → publishersAreDamaged damageRules s ≡ false → damaged rules s ≡ false
+  scan-undamaged head-ok readers-ok publishers-ok = let parts = or-false (readersAreDamaged damageRules s) (rules .further s) readers-ok in undamaged rules s head-ok (parts .0) (parts .1) publishers-ok
 
-  pub scan-damaged : readersTest damageRules s || rules .further s ≡ true → damaged rules s ≡ true
-  scan-damaged e = go (readersTest damageRules s) refl e
+  pub scan-damaged : readersAreDamaged damageRules s || rules .further s ≡ true → damaged rules s ≡ true
+  scan-damaged e = go (readersAreDamaged damageRules s) refl e
     where
-      go : (test : Bool) → readersTest damageRules s ≡ test → test || rules .further s ≡ true → damaged rules s ≡ true
+      go : (test : Bool) → readersAreDamaged damageRules s ≡ test → test || rules .further s ≡ true → damaged rules s ≡ true
       go true d e = damaged-readers rules s d
       go false d e = damaged-further rules s e
 
@@ -163,31 +163,31 @@ module _ (ver cur : ℕ) (x : Reader) where
   unfolding onward
   onward-picks not-0 not-1 = rw (ne-eqb (x .place) 0 not-0, ne-eqb (x .place) 1 not-1) refl
 
-module _ (s : State) (clean : damaged rules s ≡ false) where
+module _ (s : State) (no-damage : damaged rules s ≡ false) where
   -- ENTER to 4 counts the reader, and to 1 and 5 leaves the indicators.
   pub arrive-is : (w′ : List ℕ) (r i count : ℕ) (x x′ : Reader) → r < readers (s .words) → x ≡ reader s r → x .place ≡ PLACE-LOADED → x′ ≡ onward (version (s .words)) (current (s .words)) x
       → i ≡ x .first % 2 → count ≡ indicator (s .words) i → w′ ≡ withIndicator (withReader (s .words) r x′) i (count + 1)
       → outcome (At (x′ .place)) (state w′ (s .entries)) ≡ step rules s (Enter r)
   arrive-is w′ r i count x x′ named is turn moved index counted put =
       let at1 : reader s r .place ≡ PLACE-LOADED = rw is at turn in
-      rw (put, counted, index, moved, is) (words at1 ∙ enter-accepted fixed s clean r x named is (omega (arith, turn)))
+      rw (put, counted, index, moved, is) (words at1 ∙ enter-accepted fixed s no-damage r x named is (omega (arith, turn)))
     where
       words : reader s r .place ≡ PLACE-LOADED
           → outcome (At (entered s r .place)) (state (withIndicator (withReader (s .words) r (entered s r)) (reader s r .first % 2) (indicator (s .words) (reader s r .first % 2) + 1)) (s .entries)) ≡ rules .act s (Enter r)
-      words at1 = ap (λ (test : Bool). outcome (At (entered s r .place)) (state (pick test (withIndicator (withReader (s .words) r (entered s r)) (reader s r .first % 2) (indicator (s .words) (reader s r .first % 2) + 1)) (withReader (s .words) r (entered s r))) (s .entries))) (sym (eq-eqb (reader s r .place) 1 at1))
+      words at1 = ap (λ (test : Bool). outcome (At (entered s r .place)) (state (choose test (withIndicator (withReader (s .words) r (entered s r)) (reader s r .first % 2) (indicator (s .words) (reader s r .first % 2) + 1)) (withReader (s .words) r (entered s r))) (s .entries))) (sym (eq-eqb (reader s r .place) 1 at1))
 
   pub enter-is : (w′ : List ℕ) (r : ℕ) (x x′ : Reader) → r < readers (s .words) → x ≡ reader s r → x .place < PLACE-PICKED → x .place ≢ PLACE-LOADED → x′ ≡ onward (version (s .words)) (current (s .words)) x → w′ ≡ withReader (s .words) r x′
       → outcome (At (x′ .place)) (state w′ (s .entries)) ≡ step rules s (Enter r)
   enter-is w′ r x x′ named is turn ne moved put =
-      rw (put, moved, is) (words (rw is at ne) ∙ enter-accepted fixed s clean r x named is turn)
+      rw (put, moved, is) (words (rw is at ne) ∙ enter-accepted fixed s no-damage r x named is turn)
     where
       words : reader s r .place ≢ PLACE-LOADED → outcome (At (entered s r .place)) (state (withReader (s .words) r (entered s r)) (s .entries)) ≡ rules .act s (Enter r)
-      words at1 = ap (λ (test : Bool). outcome (At (entered s r .place)) (state (pick test (withIndicator (withReader (s .words) r (entered s r)) (reader s r .first % 2) (indicator (s .words) (reader s r .first % 2) + 1)) (withReader (s .words) r (entered s r))) (s .entries))) (sym (ne-eqb (reader s r .place) 1 at1))
+      words at1 = ap (λ (test : Bool). outcome (At (entered s r .place)) (state (choose test (withIndicator (withReader (s .words) r (entered s r)) (reader s r .first % 2) (indicator (s .words) (reader s r .first % 2) + 1)) (withReader (s .words) r (entered s r))) (s .entries))) (sym (ne-eqb (reader s r .place) 1 at1))
 
   pub leave-is : (w′ : List ℕ) (r i count : ℕ) (x : Reader) → r < readers (s .words) → x ≡ reader s r → PLACE-OPEN ≤ x .place → i ≡ x .first % 2 → count ≡ indicator (s .words) i
       → w′ ≡ withIndicator (withReader (s .words) r (leaving x)) i (count - 1) → outcome Left (state w′ (s .entries)) ≡ step rules s (Leave r)
   leave-is w′ r i count x named is turn index counted put =
-      rw (put, counted, index, is) (leave-accepted fixed s clean r x named is turn)
+      rw (put, counted, index, is) (leave-accepted fixed s no-damage r x named is turn)
 
 -- WALK's two places.
 pub walks-at : (pl : ℕ) → (pl ≡ PLACE-SYNCHRONISING) ⊎ (pl ≡ PLACE-RAISED) → (eqb pl PLACE-SYNCHRONISING || eqb pl PLACE-RAISED) ≡ true
@@ -198,8 +198,8 @@ pub walks-not : (pl : ℕ) → ((pl ≡ PLACE-SYNCHRONISING) ⊎ (pl ≡ PLACE-R
 walks-not pl f = rw (ne-eqb pl 35 (λ e. f (inl e)), ne-eqb pl 37 (λ e. f (inr e))) refl
 
 -- There are two indicators.
-pub watched-low : (y : Publisher) → watched y < 2
-watched-low y = pick-split (λ (i : ℕ). i < 2) (eqb (y .place) PLACE-SYNCHRONISING) (λ _. omega arith) (λ _. omega arith)
+pub watched-low : (y : Publisher) → lookedAt y < 2
+watched-low y = choose-split (λ (i : ℕ). i < 2) (eqb (y .place) PLACE-SYNCHRONISING) (λ _. omega arith) (λ _. omega arith)
 
 -- What a look gives; one that is made leaves the walk moved.
 module _ (count : ℕ) (y : Publisher) (b : ℕ) where
@@ -207,7 +207,7 @@ module _ (count : ℕ) (y : Publisher) (b : ℕ) where
   unfolding lookAt
   look-spent e = rw e refl
 
-  pub look-waits : (moved : WalkRecord) → moved ≡ withLook (y .walk) 0 1 → b ≢ 0 → count ≢ 0 → record { walk = moved; reply = Waiting (watched y) } ≡ lookAt count y b
+  pub look-waits : (moved : WalkRecord) → moved ≡ withLook (y .walk) 0 1 → b ≢ 0 → count ≢ 0 → record { walk = moved; reply = Waiting (lookedAt y) } ≡ lookAt count y b
   unfolding lookAt
   look-waits moved is e f = rw (is, add-zero (y .walk .next), ne-eqb b 0 e, ne-eqb count 0 f) refl
 

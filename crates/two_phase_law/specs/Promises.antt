@@ -13,7 +13,7 @@ use Rattle.statement.specs.Demand3.{Demand3}
 use Rattle.publication_law.specs.Steps.{publisher}
 use Rattle.publication_law.specs.Table.{step}
 use Rattle.publication_law.specs.Promises.{Promises, promises-of, WalkFacts, walk-facts}
-use Rattle.two_phase_law.specs.Steps.{watched, looksOf, fixed, rules, TwoPhase}
+use Rattle.two_phase_law.specs.Steps.{lookedAt, looksOf, fixed, rules, TwoPhase}
 use Rattle.two_phase_law.specs.Traits.{traits}
 use Rattle.two_phase_law.specs.Counts.{LookFacts, walk-places, look-facts}
 use Rattle.two_phase_law.specs.Safety.{kind-shows}
@@ -29,5 +29,5 @@ old-walk-zero = old-promises .walk-zero
 
 -- An accepted WALK says waiting, spent, quiet and returned of the look made.
 pub old-walk-facts : (s : State) (p b : ℕ) → accepted (step rules s (Walk p b) .reply) ≡ true
-    → let progress = looksOf s (publisher s p) b in WalkFacts s p progress (LookFacts (indicator (s .words) (watched (publisher s p))) (publisher s p) b progress) (step rules s (Walk p b))
-old-walk-facts s p b = walk-facts fixed s p b _ (λ no-damage lt turn. look-facts (indicator (s .words) (watched (publisher s p))) (publisher s p) b (walk-places (publisher s p .place) turn))
+    → let result = looksOf s (publisher s p) b in WalkFacts s p result (LookFacts (indicator (s .words) (lookedAt (publisher s p))) (publisher s p) b result) (step rules s (Walk p b))
+old-walk-facts s p b = walk-facts fixed s p b _ (λ no-damage lt turn. look-facts (indicator (s .words) (lookedAt (publisher s p))) (publisher s p) b (walk-places (publisher s p .place) turn))

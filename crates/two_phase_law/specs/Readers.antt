@@ -6,7 +6,7 @@ use mathlib.Core.Bool.{Bool, true, false, _&&_}
 use lib.ListN.{length}
 use lib.Dec.{eqb}
 use borrow.Author.Tests.{leb-false}
-use Rattle.base.specs.Base.{pick}
+use Rattle.base.specs.Base.{choose}
 use Rattle.base.specs.RowLaws.{clash}
 use Rattle.calls.specs.declared.Call.the-variants.{Enter, Leave}
 use Rattle.calls.specs.declared.Reply.the-variants.{At, Left}
@@ -36,27 +36,27 @@ pub record EnterFacts (s : State) (r : ℕ) (o : Outcome) : Type 0 where
       → reader (o .after) r ≡ reader s r place≔ PLACE-OPEN
   pub from-4 : reader s r .place ≡ PLACE-OPEN
       → reader (o .after) r ≡ reader s r place≔ PLACE-PICKED picked≔ current (s .words)
-  pub counts : (i : ℕ) → indicator (o .after .words) i ≡ pick (eqb (reader s r .place) PLACE-LOADED && eqb (reader s r .first % 2) i) (indicator (s .words) i + 1) (indicator (s .words) i)
+  pub counts : (i : ℕ) → indicator (o .after .words) i ≡ choose (eqb (reader s r .place) PLACE-LOADED && eqb (reader s r .first % 2) i) (indicator (s .words) i + 1) (indicator (s .words) i)
 
 -- LEAVE goes to 0 and takes one from the indicator that r added to.
 pub record LeaveFacts (s : State) (r : ℕ) (o : Outcome) : Type 0 where
   pub reply-is : o .reply ≡ Left
   pub record-is : reader (o .after) r ≡ reader s r place≔ PLACE-OUT
-  pub counts : (i : ℕ) → indicator (o .after .words) i ≡ pick (eqb (reader s r .first % 2) i) (indicator (s .words) i - 1) (indicator (s .words) i)
+  pub counts : (i : ℕ) → indicator (o .after .words) i ≡ choose (eqb (reader s r .first % 2) i) (indicator (s .words) i - 1) (indicator (s .words) i)
 
 module _ (s : State) (no-damage : Undamaged damageRules s) (r : ℕ) where
   long : HEAD ≤ length (s .words)
   long = omega (arith, no-damage .head .long)
 
-  enter-counts : (i : ℕ) → indicator (enterWords s r) i ≡ pick (eqb (reader s r .place) PLACE-LOADED && eqb (reader s r .first % 2) i) (indicator (s .words) i + 1) (indicator (s .words) i)
+  enter-counts : (i : ℕ) → indicator (enterWords s r) i ≡ choose (eqb (reader s r .place) PLACE-LOADED && eqb (reader s r .first % 2) i) (indicator (s .words) i + 1) (indicator (s .words) i)
   enter-counts i = go (eqb (reader s r .place) PLACE-LOADED)
     where
-      go : (b : Bool) → indicator (pick b (withIndicator (withReader (s .words) r (entered s r)) (reader s r .first % 2) (indicator (s .words) (reader s r .first % 2) + 1)) (withReader (s .words) r (entered s r))) i
-          ≡ pick (b && eqb (reader s r .first % 2) i) (indicator (s .words) i + 1) (indicator (s .words) i)
+      go : (b : Bool) → indicator (choose b (withIndicator (withReader (s .words) r (entered s r)) (reader s r .first % 2) (indicator (s .words) (reader s r .first % 2) + 1)) (withReader (s .words) r (entered s r))) i
+          ≡ choose (b && eqb (reader s r .first % 2) i) (indicator (s .words) i + 1) (indicator (s .words) i)
       go true = changed-indicator (s .words) long r (entered s r) (reader s r .first % 2) (omega arith) (λ n. n + 1) i
       go false = ap (λ (f : ℕ → ℕ). f i) (indicator-reader (s .words) r (entered s r))
 
-  leave-counts : (i : ℕ) → indicator (leaveWords s r) i ≡ pick (eqb (reader s r .first % 2) i) (indicator (s .words) i - 1) (indicator (s .words) i)
+  leave-counts : (i : ℕ) → indicator (leaveWords s r) i ≡ choose (eqb (reader s r .first % 2) i) (indicator (s .words) i - 1) (indicator (s .words) i)
   leave-counts i = changed-indicator (s .words) long r (leaving (reader s r)) (reader s r .first % 2) (omega arith) (λ n. n - 1) i
 
 pub old-enter-facts : (s : State) (r : ℕ) → accepted (step rules s (Enter r) .reply) ≡ true → EnterFacts s r (step rules s (Enter r))

@@ -10,9 +10,9 @@ use mathlib.Core.List.{List}
 use lib.ListN.{length}
 use lib.Dec.{leb, ltb, eqb}
 use borrow.Author.Tests.{eqb-true, eqb-false, eq-eqb, ne-eqb, leb-false, le-leb, lt-leb, ltb-false, le-ltb}
-use Rattle.base.specs.Base.{pick, upd}
+use Rattle.base.specs.Base.{choose, upd}
 use Rattle.base.specs.Rows.{anyTrue}
-use Rattle.base.specs.RowLaws.{clash, by-test, neither, or-none, all-false, none-true, count-none, pick-split, AllClear, AllFalse}
+use Rattle.base.specs.RowLaws.{clash, by-test, neither, or-none, all-false, none-true, count-none, choose-split, AllClear, AllFalse}
 use Rattle.calls.specs.declared.Call.the-variants.{Enter, Leave, Sync, Raise, Walk}
 use Rattle.calls.specs.declared.Reply.the-variants.{At, Left, Synced, Walked}
 use Rattle.calls.specs.declared.WalkReply.{WalkReply}
@@ -34,8 +34,8 @@ use Rattle.publication_law.specs.Moves.{MovesReader, reader-moves, reader-moves
 use Rattle.publication_law.specs.KindLaw.{KindLaw, up-to-law}
 use Rattle.publication_law.specs.Frames.{place-and-one}
 use Rattle.publication_law.specs.KindShows.{WholeInvariant, KindShows}
-use Rattle.publication_law.specs.Detector.{Detector, OwnOf, start-own, early-own, enter-invariant, leave-invariant, sync-invariant, raise-invariant, walk-invariant, return-from-invariant}
-use Rattle.two_phase_law.specs.Steps.{LAST, versions, damageRules, readerRows, parity, addedTo, onward, placeOn, entered, enterWords, leaving, leaveWords, watched, looksOf, lookAt, freshReader, fixed}
+use Rattle.publication_law.specs.Detector.{Detector, invariantOf, start-own, early-own, enter-invariant, leave-invariant, sync-invariant, raise-invariant, walk-invariant, return-from-invariant}
+use Rattle.two_phase_law.specs.Steps.{LAST, versions, damageRules, readerRows, parity, addedTo, onward, nextPlace, entered, enterWords, leaving, leaveWords, lookedAt, looksOf, lookAt, freshReader, fixed}
 use Rattle.two_phase_law.specs.Traits.{traits}
 use Rattle.two_phase_law.specs.Counts.{Counted, counted-to, none-added, stays-counted, arrives-counted, leaves-counted, passedAt, LookFacts, look-mark, walk-places, turn-low, turn-high, look-facts}
 
@@ -79,13 +79,13 @@ module _ (ver cur : ℕ) where
   onward-fits slots x (suc zero) low = (refl, (refl, (refl, (refl, tt))))
   onward-fits slots x (suc (suc pl)) low = rw (ne-eqb (suc (suc pl)) 0 (λ eq. omega arith), ne-eqb (suc (suc pl)) 1 (λ eq. omega arith)) (refl, (refl, (refl, (lt-leb slots cur low, tt))))
 
-onward-place : (ver cur : ℕ) (x : Reader) → onward ver cur x .place ≡ placeOn (x .place)
+onward-place : (ver cur : ℕ) (x : Reader) → onward ver cur x .place ≡ nextPlace (x .place)
 unfolding onward
 onward-place ver cur x = go (eqb (x .place) PLACE-OUT) (eqb (x .place) PLACE-LOADED)
   where
-    go : (at-0 at-1 : Bool) → pick {A = Reader} at-0 (x place≔ PLACE-LOADED first≔ ver)
-        (pick at-1 (x place≔ PLACE-OPEN)
-        (x place≔ PLACE-PICKED picked≔ cur)) .place ≡ pick at-0 PLACE-LOADED (pick at-1 PLACE-OPEN PLACE-PICKED)
+    go : (at-0 at-1 : Bool) → choose {A = Reader} at-0 (x place≔ PLACE-LOADED first≔ ver)
+        (choose at-1 (x place≔ PLACE-OPEN)
+        (x place≔ PLACE-PICKED picked≔ cur)) .place ≡ choose at-0 PLACE-LOADED (choose at-1 PLACE-OPEN PLACE-PICKED)
     go true at-1 = refl
     go false true = refl
     go false false = refl
@@ -97,14 +97,14 @@ onward-first ver cur x l = rw (ne-eqb (x .place) 0 (λ eq. omega arith), ne-eqb 
 -- The place and at most one number more.
 onward-stays : (ver cur : ℕ) (x : Reader) → PlaceAndOne x (onward ver cur x)
 unfolding onward
-onward-stays ver cur x = pick-split (PlaceAndOne x) (eqb (x .place) PLACE-OUT) (λ _. place-and-one _ _ 1 (λ ne. absurd (ne refl)) (λ _. refl) (λ _. refl) (λ _. refl))
-    (λ _. pick-split (PlaceAndOne x) (eqb (x .place) PLACE-LOADED) (λ _. place-and-one _ _ 0 (λ _. refl) (λ _. refl) (λ _. refl) (λ _. refl))
+onward-stays ver cur x = choose-split (PlaceAndOne x) (eqb (x .place) PLACE-OUT) (λ _. place-and-one _ _ 1 (λ ne. absurd (ne refl)) (λ _. refl) (λ _. refl) (λ _. refl))
+    (λ _. choose-split (PlaceAndOne x) (eqb (x .place) PLACE-LOADED) (λ _. place-and-one _ _ 0 (λ _. refl) (λ _. refl) (λ _. refl) (λ _. refl))
     (λ _. place-and-one _ _ 4 (λ _. refl) (λ _. refl) (λ _. refl) (λ ne. absurd (ne refl))))
 
 -- The words after an ENTER and a LEAVE.
 pub enter-moves : (s : State) → Undamaged damageRules s → (r : ℕ) → r < readers (s .words) → MovesReader (s .words) (enterWords s r) r (entered s r)
 enter-moves s f r l =
-    pick-split (λ (w : List ℕ). MovesReader (s .words) w r (entered s r)) (eqb (reader s r .place) PLACE-LOADED)
+    choose-split (λ (w : List ℕ). MovesReader (s .words) w r (entered s r)) (eqb (reader s r .place) PLACE-LOADED)
     (λ _. reader-moves-indicator f r (entered s r) l (INDICATORS-AT + parity (reader s r .first)) _ (omega arith) (omega arith)) (λ _. reader-moves f r (entered s r) l)
 
 pub leave-moves : (s : State) → Undamaged damageRules s → (r : ℕ) → r < readers (s .words) → MovesReader (s .words) (leaveWords s r) r (leaving (reader s r))
@@ -112,15 +112,15 @@ leave-moves s f r l = reader-moves-indicator f r (leaving (reader s r)) l (INDIC
 
 -- The indicators after a reader is written, with one of them changed.
 pub changed-indicator : (w : List ℕ) → HEAD ≤ length w → (r : ℕ) (x : Reader) (j : ℕ) → j < INDICATORS → (f : ℕ → ℕ) (j′ : ℕ)
-    → indicator (withIndicator (withReader w r x) j (f (indicator w j))) j′ ≡ pick (eqb j j′) (f (indicator w j′)) (indicator w j′)
+    → indicator (withIndicator (withReader w r x) j (f (indicator w j))) j′ ≡ choose (eqb j j′) (f (indicator w j′)) (indicator w j′)
 changed-indicator w len r x j low f j′ = indicator-put (withReader w r x) j (f (indicator w j)) low (rw (length-reader w r x) len) j′ ∙ rw (indicator-reader w r x) (go (eqb j j′) refl)
   where
-    go : (test : Bool) → eqb j j′ ≡ test → pick test (f (indicator w j)) (indicator w j′) ≡ pick test (f (indicator w j′)) (indicator w j′)
+    go : (test : Bool) → eqb j j′ ≡ test → choose test (f (indicator w j)) (indicator w j′) ≡ choose test (f (indicator w j′)) (indicator w j′)
     go true e = rw (eqb-true j j′ e) refl
     go false e = refl
 
 -- Each of the kind's own steps keeps the invariant.
-module _ (z : Given) (g : Ghost) (s : State) (i : WholeInvariant damageRules (OwnOf detector) z g s) where
+module _ (z : Given) (g : Ghost) (s : State) (i : WholeInvariant damageRules (invariantOf detector) z g s) where
   head-long : HEAD ≤ length (s .words)
   head-long = omega (arith, i .shared .every .no-damage .head .long)
 
@@ -149,7 +149,7 @@ module _ (z : Given) (g : Ghost) (s : State) (i : WholeInvariant damageRules (Ow
       rw (ne-eqb (reader s r .place) 0 (λ eq. omega arith), ne-eqb (reader s r .place) 1 (λ eq. omega arith)) (same-counted r x rn (λ j. sym (in-added (reader s r) j (omega arith))))
   arrived r (suc (suc (suc (suc (suc pl))))) rn e l n2 n3 = absurd (omega arith)
 
-  enter-kept : (r : ℕ) → AllClear (enterTests s r) → WholeInvariant damageRules (OwnOf detector) z (kept.advance g (Enter r) (At (entered s r .place))) (state (enterWords s r) (s .entries))
+  enter-kept : (r : ℕ) → AllClear (enterTests s r) → WholeInvariant damageRules (invariantOf detector) z (kept.ghostStep g (Enter r) (At (entered s r .place))) (state (enterWords s r) (s .entries))
   enter-kept r f =
       let lt : r < readers (s .words) = leb-false _ _ (f .0) in
       let l : reader s r .place ≤ PLACE-OPEN = let less = leb-false 5 (reader s r .place) (f .1 .0) in omega arith in
@@ -160,25 +160,25 @@ module _ (z : Given) (g : Ghost) (s : State) (i : WholeInvariant damageRules (Ow
       (none-true (readerRows (slots (s .words)) (entered s r)) (onward-fits _ _ _ (reader s r) _ (i .shared .every .no-damage .head .current-below)))
       (arrived r _ lt refl l n2 n3) lt (onward-goes _ _ (reader s r) _ l n2 n3) (λ four y behind. rw (onward-first (version (s .words)) (current (s .words)) (reader s r) four) behind)
 
-  leave-kept : (r : ℕ) → AllClear (leaveTests s r) → WholeInvariant damageRules (OwnOf detector) z (kept.advance g (Leave r) Left) (state (leaveWords s r) (s .entries))
+  leave-kept : (r : ℕ) → AllClear (leaveTests s r) → WholeInvariant damageRules (invariantOf detector) z (kept.ghostStep g (Leave r) Left) (state (leaveWords s r) (s .entries))
   leave-kept r f =
       let lt : r < readers (s .words) = leb-false _ _ (f .0) in
       leave-invariant detector damageRules law z g s i _ r (leaving (reader s r)) (leave-moves s (i .shared .every .no-damage) r lt) refl
       (leaves-counted _ (indicator (s .words)) (readerAt (s .words)) (i .own .readers-are) r lt _ _ (ltb-false _ _ (f .1 .0)) (omega arith)
       (λ j _. changed-indicator (s .words) head-long r _ (parity (reader s r .first)) (omega arith) (λ n. n - 1) j)) refl
 
-  sync-kept : (p : ℕ) → AllClear (syncTests versions s p) → WholeInvariant damageRules (OwnOf detector) z (kept.advance g (Sync p) (Synced (version (s .words) + 1))) (sync versions s p .after)
+  sync-kept : (p : ℕ) → AllClear (syncTests versions s p) → WholeInvariant damageRules (invariantOf detector) z (kept.ghostStep g (Sync p) (Synced (version (s .words) + 1))) (sync versions s p .after)
   sync-kept p f = sync-invariant detector damageRules law z g s i p f refl refl (λ r _ l. absurd (omega arith))
 
-  raise-kept : (p : ℕ) → p < publishers (s .words) → eqb (publisher s p .place) PLACE-QUIET ≡ true → WholeInvariant damageRules (OwnOf detector) z (kept.advance g (Raise p) (raise versions s p .reply)) (raise versions s p .after)
+  raise-kept : (p : ℕ) → p < publishers (s .words) → eqb (publisher s p .place) PLACE-QUIET ≡ true → WholeInvariant damageRules (invariantOf detector) z (kept.ghostStep g (Raise p) (raise versions s p .reply)) (raise versions s p .after)
   raise-kept p lt turn =
       let at36 = eqb-true (publisher s p .place) 36 turn in
       raise-invariant detector damageRules law z g s i p lt (omega arith) (omega arith) refl (rw at36 refl) (λ r behind _. behind (omega arith)) (λ _. i .own .readers-are)
 
   -- A look of publisher p.
   module _ (p b : ℕ) (lt : p < publishers (s .words)) (turn : (publisher s p .place ≡ PLACE-SYNCHRONISING) ⊎ (publisher s p .place ≡ PLACE-RAISED)) where
-    came : LookFacts (indicator (s .words) (watched (publisher s p))) (publisher s p) b (looksOf s (publisher s p) b)
-    came = look-facts (indicator (s .words) (watched (publisher s p))) (publisher s p) b turn
+    came : LookFacts (indicator (s .words) (lookedAt (publisher s p))) (publisher s p) b (looksOf s (publisher s p) b)
+    came = look-facts (indicator (s .words) (lookedAt (publisher s p))) (publisher s p) b turn
 
     low : PLACE-SYNCHRONISING ≤ publisher s p .place
     low = turn-low (publisher s p .place) turn
@@ -218,7 +218,7 @@ module _ (z : Given) (g : Ghost) (s : State) (i : WholeInvariant damageRules (Ow
     still-counted : looksOf s (publisher s p) b .walk .looks ≡ passedAt (placeAfter (publisher s p .place) (looksOf s (publisher s p) b .reply)) + looksOf s (publisher s p) b .walk .waits
     still-counted = omega (arith, came .counted, i .own .counted p low)
 
-    walk-kept : WholeInvariant damageRules (OwnOf detector) z (kept.advance g (Walk p b) (Walked (looksOf s (publisher s p) b .reply))) (walk s p (looksOf s (publisher s p) b) .after)
+    walk-kept : WholeInvariant damageRules (invariantOf detector) z (kept.ghostStep g (Walk p b) (Walked (looksOf s (publisher s p) b .reply))) (walk s p (looksOf s (publisher s p) b) .after)
     walk-kept = walk-invariant detector damageRules law z g s i p b lt low high (looksOf s (publisher s p) b) (came .waits-are) still-counted
         none-pending (came .mark-same) (le-ltb 38 _ (came .high)) (λ r e′ l. rw (came .mark-same) (after-behind r e′ l))
 
@@ -241,7 +241,7 @@ start-counted z s j _ = fresh-indicator KIND-OLD (z .readers) (z .publishers) (z
     w = made KIND-OLD freshReader z s .words
 
     none : (r : ℕ) → addedTo j (readerAt w r) ≡ false
-    none r = rw (fresh-reader KIND-OLD (z .readers) (z .publishers) (z .slots) (z .version) freshReader r) (pick-split (λ (x : Reader). addedTo j x ≡ false) (ltb r READERS-MAX) (λ _. refl) (λ _. refl))
+    none r = rw (fresh-reader KIND-OLD (z .readers) (z .publishers) (z .slots) (z .version) freshReader r) (choose-split (λ (x : Reader). addedTo j x ≡ false) (ltb r READERS-MAX) (λ _. refl) (λ _. refl))
 
 no-looks : (s : State) (p : ℕ) → looksOf s (publisher s p) 0 ≡ record { walk = publisher s p .walk; reply = Spent }
 unfolding lookAt
@@ -261,9 +261,9 @@ kind-shows = record {
   below-last = λ ver l. ne-eqb ver LAST (λ e. omega arith);
   raises-late = λ pl l. ne-eqb pl 36 (λ e. omega arith);
   walks-late = λ pl l. neither (eqb pl 35) (eqb pl 37) (ne-eqb pl 35 (λ e. omega arith)) (ne-eqb pl 37 (λ e. omega arith));
-  mark-stays = λ s p b. look-mark (indicator (s .words) (watched (publisher s p))) (publisher s p) b;
+  mark-stays = λ s p b. look-mark (indicator (s .words) (lookedAt (publisher s p))) (publisher s p) b;
   no-looks = no-looks;
-  Own = OwnOf detector;
+  KindInvariant = invariantOf detector;
   start-own = λ z s f. start-own detector KIND-OLD freshReader z s (start-counted z s);
   fresh-is = refl;
   fresh-reader-fits = λ rs ss. refl;

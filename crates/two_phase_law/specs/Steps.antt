@@ -4,21 +4,21 @@ use Prim.Native.Nat.{ℕ, _+_, _-_, _%_}
 use mathlib.Core.Bool.{Bool, true, not, _&&_, _||_}
 use mathlib.Core.List.{List, [], _∷_}
 use lib.Dec.{leb, ltb, eqb}
-use Rattle.base.specs.Base.{pick}
+use Rattle.base.specs.Base.{choose}
 use Rattle.base.specs.Rows.{anyTrue, countBelow}
 use Rattle.calls.specs.declared.WalkReply.{WalkReply}
 use Rattle.calls.specs.declared.WalkReply.the-variants.{Waiting, Spent, Quiet, Returned}
 use Rattle.calls.specs.Numbers.{NOT-READING, KIND-OLD, PLACE-OUT, PLACE-LOADED, PLACE-PUBLISHED, PLACE-LOADED-AGAIN, PLACE-OPEN, PLACE-PICKED, PLACE-SYNCHRONISING, PLACE-QUIET, PLACE-RAISED, PLACE-RETURNED}
 use Rattle.layout.specs.declared.Reader.{Reader}
 use Rattle.layout.specs.declared.Publisher.{Publisher}
-use Rattle.layout.specs.declared.Progress.{Progress}
+use Rattle.layout.specs.declared.WalkResult.{WalkResult}
 use Rattle.layout.specs.Layout.{readers, current, version, indicator, readerAt, withIndicator, withReader, blankReader}
 use Rattle.layout.specs.Records.{_place≔_, _first≔_, _picked≔_, _looks≔_, _waits≔_}
 use Rattle.statement.specs.Machine.{State, Machine}
 use Rattle.publication_law.specs.Steps.{Versions, upTo, reader, publisher}
 use Rattle.publication_law.specs.Damage.{DamageRules, wrongPick, publisherRows}
 use Rattle.publication_law.specs.Table.{Table, machine}
-use Rattle.publication_law.specs.Rules.{Rules, tableBy}
+use Rattle.publication_law.specs.SectionRules.{SectionRules, tableBy}
 
 -- The last version: 2^63 - 1.
 abbrev pub LAST : ℕ
@@ -58,13 +58,13 @@ miscounted s i = miscountedAt (s .words) (readers (s .words)) i
 -- ENTER r: 0 to 1 loads the version; 1 to 4 adds one to the indicator of its parity; 4 to 5 picks.
 unfoldable pub onward : ℕ → ℕ → Reader → Reader
 onward version current x =
-    pick (eqb (x .place) PLACE-OUT) (x place≔ PLACE-LOADED first≔ version)
-    (pick (eqb (x .place) PLACE-LOADED) (x place≔ PLACE-OPEN)
+    choose (eqb (x .place) PLACE-OUT) (x place≔ PLACE-LOADED first≔ version)
+    (choose (eqb (x .place) PLACE-LOADED) (x place≔ PLACE-OPEN)
     (x place≔ PLACE-PICKED picked≔ current))
 
 -- The place that follows: 1, 4, 5.
-abbrev pub placeOn : ℕ → ℕ
-placeOn place = pick (eqb place PLACE-OUT) PLACE-LOADED (pick (eqb place PLACE-LOADED) PLACE-OPEN PLACE-PICKED)
+abbrev pub nextPlace : ℕ → ℕ
+nextPlace place = choose (eqb place PLACE-OUT) PLACE-LOADED (choose (eqb place PLACE-LOADED) PLACE-OPEN PLACE-PICKED)
 
 abbrev pub entered : State → ℕ → Reader
 entered s r = onward (version (s .words)) (current (s .words)) (reader s r)
@@ -73,7 +73,7 @@ abbrev pub enterWords : State → ℕ → List ℕ
 enterWords s r =
     let w = withReader (s .words) r (entered s r) in
     let i = parity (reader s r .first) in
-    pick (eqb (reader s r .place) PLACE-LOADED) (withIndicator w i (indicator (s .words) i + 1)) w
+    choose (eqb (reader s r .place) PLACE-LOADED) (withIndicator w i (indicator (s .words) i + 1)) w
 
 -- LEAVE r goes to 0 and takes one from the indicator that r added to. The slot that was picked stays in its word, and counts no more.
 abbrev pub leaving : Reader → Reader
@@ -85,30 +85,30 @@ leaveWords s r =
     withIndicator (withReader (s .words) r (leaving (reader s r))) i (indicator (s .words) i - 1)
 
 -- WALK p b, at most one look. At 35 at indicator (mark mod 2), at 37 at the other.
-abbrev pub watched : Publisher → ℕ
-watched y = pick (eqb (y .place) PLACE-SYNCHRONISING) (parity (y .walk .mark)) (1 - parity (y .walk .mark))
+abbrev pub lookedAt : Publisher → ℕ
+lookedAt y = choose (eqb (y .place) PLACE-SYNCHRONISING) (parity (y .walk .mark)) (1 - parity (y .walk .mark))
 
-abbrev pub lookResult : Publisher → ℕ → ℕ → WalkReply → Progress
+abbrev pub lookResult : Publisher → ℕ → ℕ → WalkReply → WalkResult
 lookResult y looks waits a = record { walk = y .walk looks≔ looks waits≔ waits; reply = a }
 
 -- At 35 zero gives quiet and place 36; at 37 zero gives returned and place 38. Nonzero: waits rises, waiting with the indicator's number.
 -- Spent exactly if b = 0. Every look, passed or not, adds one to looks.
-unfoldable pub lookAt : ℕ → Publisher → ℕ → Progress
+unfoldable pub lookAt : ℕ → Publisher → ℕ → WalkResult
 lookAt count y b =
-    pick (eqb b 0) (lookResult y (y .walk .looks) (y .walk .waits) Spent)
-    (pick (eqb count 0)
-    (lookResult y (y .walk .looks + 1) (y .walk .waits) (pick (eqb (y .place) PLACE-SYNCHRONISING) Quiet (Returned (y .walk .looks + 1) (y .walk .waits))))
-    (lookResult y (y .walk .looks + 1) (y .walk .waits + 1) (Waiting (watched y))))
+    choose (eqb b 0) (lookResult y (y .walk .looks) (y .walk .waits) Spent)
+    (choose (eqb count 0)
+    (lookResult y (y .walk .looks + 1) (y .walk .waits) (choose (eqb (y .place) PLACE-SYNCHRONISING) Quiet (Returned (y .walk .looks + 1) (y .walk .waits))))
+    (lookResult y (y .walk .looks + 1) (y .walk .waits + 1) (Waiting (lookedAt y))))
 
-abbrev pub looksOf : State → Publisher → ℕ → Progress
-looksOf s y b = lookAt (indicator (s .words) (watched y)) y b
+abbrev pub looksOf : State → Publisher → ℕ → WalkResult
+looksOf s y b = lookAt (indicator (s .words) (lookedAt y)) y b
 
 -- A fresh reader's published version is NOT_READING, in all 64 records.
 abbrev pub freshReader : Reader
 freshReader = blankReader NOT-READING
 
 -- 31 another publisher not at place 0; RAISE p at 36; WALK p b at 35 and 37.
-abbrev pub fixed : Rules
+abbrev pub fixed : SectionRules
 fixed = record {
   damage = damageRules;
   further = λ s. miscounted s 0 || miscounted s 1;

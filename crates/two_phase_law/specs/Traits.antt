@@ -2,7 +2,7 @@
 use Prim.Native.Nat.{_+_}
 use mathlib.Core.Bool.{true, false, _||_}
 use lib.Dec.{eqb}
-use Rattle.base.specs.Base.{pick}
+use Rattle.base.specs.Base.{choose}
 use Rattle.calls.specs.Numbers.{PLACE-OUT, PLACE-LOADED, PLACE-OPEN, PLACE-PICKED}
 use Rattle.calls.specs.Model.{firstTable}
 use Rattle.calls.specs.Tally.{inPhase}
@@ -23,6 +23,6 @@ traits = record {
   };
   passes = λ z. 2;
   successor = λ ver. ver + 1;
-  onward = λ place. pick (eqb place PLACE-OUT) PLACE-LOADED (pick (eqb place PLACE-LOADED) PLACE-OPEN PLACE-PICKED);
+  nextPlace = λ place. choose (eqb place PLACE-OUT) PLACE-LOADED (choose (eqb place PLACE-LOADED) PLACE-OPEN PLACE-PICKED);
   publishes = false;
 }

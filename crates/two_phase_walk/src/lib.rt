@@ -5,7 +5,7 @@ ghost use Rattle.calls.specs.declared.Call.the-variants.{Walk as WALK};
 ghost use Rattle.calls.specs.Numbers.{NUMBER-MAX};
 ghost use Rattle.statement.specs.Machine.{state, outcome};
 ghost use Rattle.publication_law.specs.Table.{step};
-ghost use Rattle.two_phase_law.specs.Steps.{watched, lookAt, rules};
+ghost use Rattle.two_phase_law.specs.Steps.{lookedAt, lookAt, rules};
 use calls::DAMAGED;
 use calls::NO_SUCH_PUBLISHER;
 use calls::NUMBER_MAX;
@@ -15,8 +15,8 @@ use calls::Pitch;
 use calls::Reply;
 use calls::TOO_MANY_LOOKS;
 use calls::WalkReply;
-use layout::Progress;
 use layout::Publisher;
+use layout::WalkResult;
 use layout::indicator_of;
 use layout::publisher_at;
 use layout::publishers_of;
@@ -28,7 +28,7 @@ use two_phase_damage::readers_are_damaged;
 
 // The indicator that a walk looks at: at 35 that of the mark's parity, at 37 the other.
 fn looked_at(y: Publisher) -> u64
-    ensures { λ i. ⌜ i ≡ watched y ⌝ }
+    ensures { λ i. ⌜ i ≡ lookedAt y ⌝ }
 {
     let parity = y.walk.mark % 2;
     if y.place == PLACE_SYNCHRONISING {
@@ -38,14 +38,14 @@ fn looked_at(y: Publisher) -> u64
 }
 
 // What up to b looks of publisher y at an indicator with this count give: at most one is made.
-fn look(count: u64, y: Publisher, b: u16) -> Progress
+fn look(count: u64, y: Publisher, b: u16) -> WalkResult
     requires { ⌜ (y .walk .looks + b ≤ NUMBER-MAX) × (y .walk .waits ≤ y .walk .looks) ⌝ }
     ensures { λ k. ⌜ k ≡ lookAt count y b ⌝ }
 {
     let walk = y.walk;
     if b == 0 {
         let reply = WalkReply::Spent;
-        return Progress {
+        return WalkResult {
             walk: walk,
             reply: reply,
         };
@@ -53,7 +53,7 @@ fn look(count: u64, y: Publisher, b: u16) -> Progress
     if count != 0 {
         let moved = look_counted(walk, 0, 1);
         let reply = WalkReply::Waiting(looked_at(y));
-        return Progress {
+        return WalkResult {
             walk: moved,
             reply: reply,
         };
@@ -61,13 +61,13 @@ fn look(count: u64, y: Publisher, b: u16) -> Progress
     let moved = look_counted(walk, 0, 0);
     if y.place == PLACE_SYNCHRONISING {
         let reply = WalkReply::Quiet;
-        return Progress {
+        return WalkResult {
             walk: moved,
             reply: reply,
         };
     }
     let reply = WalkReply::Returned(moved.looks, moved.waits);
-    Progress {
+    WalkResult {
         walk: moved,
         reply: reply,
     }

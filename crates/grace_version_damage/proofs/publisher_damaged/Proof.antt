@@ -4,7 +4,7 @@ use mathlib.Core.Path.{sym, _∙_}
 use Rattle.layout.specs.Layout.{publisherAt}
 use Rattle.publication_law.specs.KindLaw.{publisher-idle, publisher-early, extra-damages, held-large, wrong-mark, more-waits, extra-decides}
 use Rattle.grace_version_law.specs.Safety.{law}
-use Rattle.grace_version_law.specs.Calls.{no-such-place, own-returned, own-walking}
+use Rattle.grace_version_law.specs.Calls.{no-such-place, extra-returned, extra-walking}
 use Rattle.grace_version_damage.proofs.publisher_damaged.Statement.{statement}
 use Rattle.grace_version_damage.proofs.publisher_damaged.Tie as tie
 use Rattle.grace_version_damage.proofs.publisher_damaged.Reads as reads
@@ -40,7 +40,7 @@ returns-5 c = sym (more-waits law (c .before .before .before .before .before .be
 
 -- false: at 38
 returns-6 : tie.Need-returns-6
-returns-6 c = sym (extra-decides law (c .before .before .before .before .before .before .before .before .before .before .before .before .before .before .args .readers) (c .before .before .before .before .before .before .before .before .before .before .before .before .before .before .args .slots) (publisherAt (c .before .before .before .before .before .before .before .before .before .before .before .before .before .before .args .words .now) (c .before .before .before .before .before .before .before .before .before .before .before .before .before .before .args .p)) (rw (c .before .before .before .before .before .before .before .before .before .before .publisher-at .ensures) at (c .before .before .before .before .before .before .before .before .if2 .left)) (rw (c .before .before .before .before .before .before .before .before .before .before .before .before .publisher-place .ensures) at (c .before .before .before .before .before .before .before .if3 .left)) (rw (c .before .before .before .before .before .before .before .before .before .before .publisher-at .ensures) at (c .before .before .before .if4 .left)) (rw (c .before .before .before .before .before .before .before .before .before .before .publisher-at .ensures) at (c .before .if5 .left)) ∙ own-returned (c .before .before .before .before .before .before .before .before .before .before .before .before .before .before .args .readers) (publisherAt (c .before .before .before .before .before .before .before .before .before .before .before .before .before .before .args .words .now) (c .before .before .before .before .before .before .before .before .before .before .before .before .before .before .args .p)) (rw (c .before .before .before .before .before .before .before .before .before .before .before .before .publisher-place .ensures) at (c .if6 .taken)))
+returns-6 c = sym (extra-decides law (c .before .before .before .before .before .before .before .before .before .before .before .before .before .before .args .readers) (c .before .before .before .before .before .before .before .before .before .before .before .before .before .before .args .slots) (publisherAt (c .before .before .before .before .before .before .before .before .before .before .before .before .before .before .args .words .now) (c .before .before .before .before .before .before .before .before .before .before .before .before .before .before .args .p)) (rw (c .before .before .before .before .before .before .before .before .before .before .publisher-at .ensures) at (c .before .before .before .before .before .before .before .before .if2 .left)) (rw (c .before .before .before .before .before .before .before .before .before .before .before .before .publisher-place .ensures) at (c .before .before .before .before .before .before .before .if3 .left)) (rw (c .before .before .before .before .before .before .before .before .before .before .publisher-at .ensures) at (c .before .before .before .if4 .left)) (rw (c .before .before .before .before .before .before .before .before .before .before .publisher-at .ensures) at (c .before .if5 .left)) ∙ extra-returned (c .before .before .before .before .before .before .before .before .before .before .before .before .before .before .args .readers) (publisherAt (c .before .before .before .before .before .before .before .before .before .before .before .before .before .before .args .words .now) (c .before .before .before .before .before .before .before .before .before .before .before .before .before .before .args .p)) (rw (c .before .before .before .before .before .before .before .before .before .before .before .before .publisher-place .ensures) at (c .if6 .taken)))
 
 -- true: above 38, or at 36
 returns-7 : tie.Need-returns-7
@@ -48,7 +48,7 @@ returns-7 c = sym (extra-damages law (c .before .before .before .before .before 
 
 -- at 35 or 37: whether its next reader is no reader of the store
 returns-8 : tie.Need-returns-8
-returns-8 c = rw (c .before .before .before .before .before .before .before .before .before .before .before .before .publisher-at .ensures) (sym (extra-decides law (c .before .before .before .before .before .before .before .before .before .before .before .before .before .before .before .before .args .readers) (c .before .before .before .before .before .before .before .before .before .before .before .before .before .before .before .before .args .slots) (publisherAt (c .before .before .before .before .before .before .before .before .before .before .before .before .before .before .before .before .args .words .now) (c .before .before .before .before .before .before .before .before .before .before .before .before .before .before .before .before .args .p)) (rw (c .before .before .before .before .before .before .before .before .before .before .before .before .publisher-at .ensures) at (c .before .before .before .before .before .before .before .before .before .before .if2 .left)) (rw (c .before .before .before .before .before .before .before .before .before .before .before .before .before .before .publisher-place .ensures) at (c .before .before .before .before .before .before .before .before .before .if3 .left)) (rw (c .before .before .before .before .before .before .before .before .before .before .before .before .publisher-at .ensures) at (c .before .before .before .before .before .if4 .left)) (rw (c .before .before .before .before .before .before .before .before .before .before .before .before .publisher-at .ensures) at (c .before .before .before .if5 .left)) ∙ own-walking (c .before .before .before .before .before .before .before .before .before .before .before .before .before .before .before .before .args .readers) (publisherAt (c .before .before .before .before .before .before .before .before .before .before .before .before .before .before .before .before .args .words .now) (c .before .before .before .before .before .before .before .before .before .before .before .before .before .before .before .before .args .p)) (rw (c .before .before .before .before .before .before .before .before .before .before .before .before .before .before .publisher-place .ensures) at (c .before .before .before .before .before .before .before .before .before .if3 .left)) (rw (c .before .before .before .before .before .before .before .before .before .before .before .before .before .before .publisher-place .ensures) at (c .before .if7 .left)) (rw (c .before .before .before .before .before .before .before .before .before .before .before .before .before .before .publisher-place .ensures) at (c .before .before .if6 .left))))
+returns-8 c = rw (c .before .before .before .before .before .before .before .before .before .before .before .before .publisher-at .ensures) (sym (extra-decides law (c .before .before .before .before .before .before .before .before .before .before .before .before .before .before .before .before .args .readers) (c .before .before .before .before .before .before .before .before .before .before .before .before .before .before .before .before .args .slots) (publisherAt (c .before .before .before .before .before .before .before .before .before .before .before .before .before .before .before .before .args .words .now) (c .before .before .before .before .before .before .before .before .before .before .before .before .before .before .before .before .args .p)) (rw (c .before .before .before .before .before .before .before .before .before .before .before .before .publisher-at .ensures) at (c .before .before .before .before .before .before .before .before .before .before .if2 .left)) (rw (c .before .before .before .before .before .before .before .before .before .before .before .before .before .before .publisher-place .ensures) at (c .before .before .before .before .before .before .before .before .before .if3 .left)) (rw (c .before .before .before .before .before .before .before .before .before .before .before .before .publisher-at .ensures) at (c .before .before .before .before .before .if4 .left)) (rw (c .before .before .before .before .before .before .before .before .before .before .before .before .publisher-at .ensures) at (c .before .before .before .if5 .left)) ∙ extra-walking (c .before .before .before .before .before .before .before .before .before .before .before .before .before .before .before .before .args .readers) (publisherAt (c .before .before .before .before .before .before .before .before .before .before .before .before .before .before .before .before .args .words .now) (c .before .before .before .before .before .before .before .before .before .before .before .before .before .before .before .before .args .p)) (rw (c .before .before .before .before .before .before .before .before .before .before .before .before .before .before .publisher-place .ensures) at (c .before .before .before .before .before .before .before .before .before .if3 .left)) (rw (c .before .before .before .before .before .before .before .before .before .before .before .before .before .before .publisher-place .ensures) at (c .before .if7 .left)) (rw (c .before .before .before .before .before .before .before .before .before .before .before .before .before .before .publisher-place .ensures) at (c .before .before .if6 .left))))
 
 pub publisher-damaged-spec : {M : Type 1} → statement M
 publisher-damaged-spec =

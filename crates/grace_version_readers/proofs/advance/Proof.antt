@@ -47,35 +47,35 @@ same-length c = search needs
 
 -- at 1
 returns : tie.Need-returns
-returns c = λ es clean. enter-is (state (c .before .before .before .before .before .before .before .before .before .before .args .words .now) es) clean _ _ (c .before .before .before .before .before .before .before .reader-at .result) _ (c .before .before .before .before .before .before .before .before .before .before .pre .1) (c .before .before .before .before .before .before .before .reader-at .ensures) (omega (arith, c .before .before .before .before .before .before .match .keys1)) (onward-loads _ _ (c .before .before .before .before .before .before .before .reader-at .result) (c .before .before .before .before .version-of .result) (c .before .before .before .before .version-of .ensures) (c .before .before .before .before .before .before .match .keys1)) (c .before .before .put-reader .ensures)
+returns c = λ es no-damage. enter-is (state (c .before .before .before .before .before .before .before .before .before .before .args .words .now) es) no-damage _ _ (c .before .before .before .before .before .before .before .reader-at .result) _ (c .before .before .before .before .before .before .before .before .before .before .pre .1) (c .before .before .before .before .before .before .before .reader-at .ensures) (omega (arith, c .before .before .before .before .before .before .match .keys1)) (onward-loads _ _ (c .before .before .before .before .before .before .before .reader-at .result) (c .before .before .before .before .version-of .result) (c .before .before .before .before .version-of .ensures) (c .before .before .before .before .before .before .match .keys1)) (c .before .before .put-reader .ensures)
 
 same-length-2 : tie.Need-same-length-2
 same-length-2 c = search needs
 
 -- at 2
 returns-2 : tie.Need-returns-2
-returns-2 c = λ es clean. enter-is (state (c .before .before .before .before .before .before .before .before .args .words .now) es) clean _ _ (c .before .before .before .before .before .reader-at .result) _ (c .before .before .before .before .before .before .before .before .pre .1) (c .before .before .before .before .before .reader-at .ensures) (omega (arith, c .before .before .before .before .match .keys2)) (onward-publishes _ _ (c .before .before .before .before .before .reader-at .result) (c .before .before .before .before .match .keys2)) (c .before .before .put-reader2 .ensures)
+returns-2 c = λ es no-damage. enter-is (state (c .before .before .before .before .before .before .before .before .args .words .now) es) no-damage _ _ (c .before .before .before .before .before .reader-at .result) _ (c .before .before .before .before .before .before .before .before .pre .1) (c .before .before .before .before .before .reader-at .ensures) (omega (arith, c .before .before .before .before .match .keys2)) (onward-publishes _ _ (c .before .before .before .before .before .reader-at .result) (c .before .before .before .before .match .keys2)) (c .before .before .put-reader2 .ensures)
 
 same-length-3 : tie.Need-same-length-3
 same-length-3 c = search needs
 
 -- at 3
 returns-3 : tie.Need-returns-3
-returns-3 c = λ es clean. enter-is (state (c .before .before .before .before .before .before .before .before .before .before .args .words .now) es) clean _ _ (c .before .before .before .before .before .before .before .reader-at .result) _ (c .before .before .before .before .before .before .before .before .before .before .pre .1) (c .before .before .before .before .before .before .before .reader-at .ensures) (omega (arith, c .before .before .before .before .before .before .match .keys3)) (onward-loads-again _ _ (c .before .before .before .before .before .before .before .reader-at .result) (c .before .before .before .before .version-of2 .result) (c .before .before .before .before .version-of2 .ensures) (c .before .before .before .before .before .before .match .keys3)) (c .before .before .put-reader3 .ensures)
+returns-3 c = λ es no-damage. enter-is (state (c .before .before .before .before .before .before .before .before .before .before .args .words .now) es) no-damage _ _ (c .before .before .before .before .before .before .before .reader-at .result) _ (c .before .before .before .before .before .before .before .before .before .before .pre .1) (c .before .before .before .before .before .before .before .reader-at .ensures) (omega (arith, c .before .before .before .before .before .before .match .keys3)) (onward-loads-again _ _ (c .before .before .before .before .before .before .before .reader-at .result) (c .before .before .before .before .version-of2 .result) (c .before .before .before .before .version-of2 .ensures) (c .before .before .before .before .before .before .match .keys3)) (c .before .before .put-reader3 .ensures)
 
 same-length-4 : tie.Need-same-length-4
 same-length-4 c = search needs
 
 -- at 4
 returns-4 : tie.Need-returns-4
-returns-4 c = λ es clean. let s = state (c .before .before .before .before .before .before .before .before .args .words .now) es in enter-is s clean _ _ (c .before .before .before .before .before .reader-at .result) _ (c .before .before .before .before .before .before .before .before .pre .1) (c .before .before .before .before .before .reader-at .ensures) (omega (arith, c .before .before .before .before .match .keys4)) (onward-publishes-second _ _ (c .before .before .before .before .before .reader-at .result) (c .before .before .before .before .match .keys4) (rw (c .before .before .before .before .before .reader-at .ensures) (published-of s clean (c .before .before .before .before .before .before .before .before .args .r) (c .before .before .before .before .before .before .before .before .pre .1) (rw (c .before .before .before .before .before .reader-at .ensures) at (c .before .before .before .before .match .keys4))))) (c .before .before .put-reader4 .ensures)
+returns-4 c = λ es no-damage. let s = state (c .before .before .before .before .before .before .before .before .args .words .now) es in enter-is s no-damage _ _ (c .before .before .before .before .before .reader-at .result) _ (c .before .before .before .before .before .before .before .before .pre .1) (c .before .before .before .before .before .reader-at .ensures) (omega (arith, c .before .before .before .before .match .keys4)) (onward-publishes-second _ _ (c .before .before .before .before .before .reader-at .result) (c .before .before .before .before .match .keys4) (rw (c .before .before .before .before .before .reader-at .ensures) (published-of s no-damage (c .before .before .before .before .before .before .before .before .args .r) (c .before .before .before .before .before .before .before .before .pre .1) (rw (c .before .before .before .before .before .reader-at .ensures) at (c .before .before .before .before .match .keys4))))) (c .before .before .put-reader4 .ensures)
 
 same-length-5 : tie.Need-same-length-5
 same-length-5 c = search needs
 
 -- at 5
 returns-5 : tie.Need-returns-5
-returns-5 c = λ es clean. enter-is (state (c .before .before .before .before .before .before .before .before .before .before .args .words .now) es) clean _ _ (c .before .before .before .before .before .before .before .reader-at .result) _ (c .before .before .before .before .before .before .before .before .before .before .pre .1) (c .before .before .before .before .before .before .before .reader-at .ensures) (omega (arith, c .before .before .before .before .before .before .match .keys5)) (onward-picks _ _ (c .before .before .before .before .before .before .before .reader-at .result) (c .before .before .before .before .current-of .result) (c .before .before .before .before .current-of .ensures) (c .before .before .before .before .before .before .match .keys5)) (c .before .before .put-reader5 .ensures)
+returns-5 c = λ es no-damage. enter-is (state (c .before .before .before .before .before .before .before .before .before .before .args .words .now) es) no-damage _ _ (c .before .before .before .before .before .before .before .reader-at .result) _ (c .before .before .before .before .before .before .before .before .before .before .pre .1) (c .before .before .before .before .before .before .before .reader-at .ensures) (omega (arith, c .before .before .before .before .before .before .match .keys5)) (onward-picks _ _ (c .before .before .before .before .before .before .before .reader-at .result) (c .before .before .before .before .current-of .result) (c .before .before .before .before .current-of .ensures) (c .before .before .before .before .before .before .match .keys5)) (c .before .before .put-reader5 .ensures)
 
 same-length-6 : tie.Need-same-length-6
 same-length-6 c = search needs
@@ -83,7 +83,7 @@ same-length-6 c = search needs
 -- 20 not this reader's turn
 returns-6 : tie.Need-returns-6
 unfolding step
-returns-6 c = λ es clean. let k = c .match .rest in let high = past-enter (c .before .reader-at .result .place) (k .0 .0 .0 .0 .1) (k .0 .0 .0 .1) (k .0 .0 .1) (k .0 .1) (k .1) in rw (clean, lt-leb _ _ (c .before .before .before .before .pre .1), le-leb 5 _ (rw (c .before .reader-at .ensures) at high)) refl
+returns-6 c = λ es no-damage. let k = c .match .rest in let high = past-enter (c .before .reader-at .result .place) (k .0 .0 .0 .0 .1) (k .0 .0 .0 .1) (k .0 .0 .1) (k .0 .1) (k .1) in rw (no-damage, lt-leb _ _ (c .before .before .before .before .pre .1), le-leb 5 _ (rw (c .before .reader-at .ensures) at high)) refl
 
 pub advance-spec : {M : Type 1} → statement M
 advance-spec =

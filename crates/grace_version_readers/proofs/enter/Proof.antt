@@ -22,8 +22,8 @@ use Rattle.grace_version_damage.proofs.readers_are_damaged.Reads as readers-are
 use Rattle.grace_version_readers.proofs.advance.Reads as advance-reads
 use Rattle.layout.proofs.readers_of.Reads as readers-of-reads
 
-clean : (c : tie.Else3) → let k = c .before .before .before .before .before .before .before .before .before .before .args in damaged rules (state (k .words .now) (k .entries .now)) ≡ false
-clean c =
+no-damage : (c : tie.Else3) → let k = c .before .before .before .before .before .before .before .before .before .before .args in damaged rules (state (k .words .now) (k .entries .now)) ≡ false
+no-damage c =
     let es = c .before .before .before .before .before .before .before .before .before .before .args .entries .now in
     undamaged rules _ (sym (c .before .before .before .before .before .before .before .head-is-damaged .ensures es refl) ∙ c .before .before .before .before .before .before .if1 .left) (sym (c .before .before .before .before .readers-are-damaged .ensures es) ∙ c .before .before .before .if2 .left) refl (sym (c .before .publishers-are-damaged .ensures es) ∙ c .if3 .left)
 
@@ -51,7 +51,7 @@ returns : tie.Need-returns
 returns c = step-damaged rules _ (Enter _) (store-damaged c)
 
 readers-of-requires : tie.Need-readers-of-requires
-readers-of-requires c κs = in-bounds-of rules law _ (clean (c .before)) .long
+readers-of-requires c κs = in-bounds-of rules law _ (no-damage (c .before)) .long
 
 same-length-2 : tie.Need-same-length-2
 same-length-2 c = search needs
@@ -59,17 +59,17 @@ same-length-2 c = search needs
 -- 10 no such reader
 returns-2 : tie.Need-returns-2
 unfolding step
-returns-2 c = rw (clean (c .before .before .before), le-leb _ _ (rw (c .before .readers-of .ensures) at (c .if4 .taken))) refl
+returns-2 c = rw (no-damage (c .before .before .before), le-leb _ _ (rw (c .before .readers-of .ensures) at (c .if4 .taken))) refl
 
 advance-requires : tie.Need-advance-requires
-advance-requires c κs = (in-bounds-of rules law _ (clean (c .before .before .before .before)) .long, rw (c .before .before .readers-of .ensures) at (c .before .if4 .left), omega (arith, in-bounds-of rules law _ (clean (c .before .before .before .before)), c .before .before .readers-of .ensures))
+advance-requires c κs = (in-bounds-of rules law _ (no-damage (c .before .before .before .before)) .long, rw (c .before .before .readers-of .ensures) at (c .before .if4 .left), omega (arith, in-bounds-of rules law _ (no-damage (c .before .before .before .before)), c .before .before .readers-of .ensures))
 
 same-length-3 : tie.Need-same-length-3
 same-length-3 c = search needs
 
 -- what advance replies
 returns-3 : tie.Need-returns-3
-returns-3 c = c .before .before .advance .ensures _ (clean (c .before .before .before .before .before .before .before))
+returns-3 c = c .before .before .advance .ensures _ (no-damage (c .before .before .before .before .before .before .before))
 
 pub enter-spec : {M : Type 1} → statement M
 enter-spec =

@@ -29,8 +29,8 @@ use Rattle.layout.proofs.publishers_of.Reads as publishers-of-reads
 use Rattle.layout.proofs.readers_of.Reads as readers-of-reads
 use Rattle.publication_grace.proofs.end_walk.Reads as end-walk-reads
 
-clean : (c : tie.Else3) → damaged rules (state (c .before .before .before .before .before .before .before .before .before .before .args .words .now) (c .before .before .before .before .before .before .before .before .before .before .args .entries .now)) ≡ false
-clean c = undamaged rules (state (c .before .before .before .before .before .before .before .before .before .before .args .words .now) (c .before .before .before .before .before .before .before .before .before .before .args .entries .now)) (sym (c .before .before .before .before .before .before .before .head-is-damaged .ensures (c .before .before .before .before .before .before .before .before .before .before .args .entries .now) refl) ∙ c .before .before .before .before .before .before .if1 .left) (sym (c .before .before .before .before .readers-are-damaged .ensures (c .before .before .before .before .before .before .before .before .before .before .args .entries .now)) ∙ c .before .before .before .if2 .left) refl (sym (c .before .publishers-are-damaged .ensures (c .before .before .before .before .before .before .before .before .before .before .args .entries .now)) ∙ c .if3 .left)
+no-damage : (c : tie.Else3) → damaged rules (state (c .before .before .before .before .before .before .before .before .before .before .args .words .now) (c .before .before .before .before .before .before .before .before .before .before .args .entries .now)) ≡ false
+no-damage c = undamaged rules (state (c .before .before .before .before .before .before .before .before .before .before .args .words .now) (c .before .before .before .before .before .before .before .before .before .before .args .entries .now)) (sym (c .before .before .before .before .before .before .before .head-is-damaged .ensures (c .before .before .before .before .before .before .before .before .before .before .args .entries .now) refl) ∙ c .before .before .before .before .before .before .if1 .left) (sym (c .before .before .before .before .readers-are-damaged .ensures (c .before .before .before .before .before .before .before .before .before .before .args .entries .now)) ∙ c .before .before .before .if2 .left) refl (sym (c .before .publishers-are-damaged .ensures (c .before .before .before .before .before .before .before .before .before .before .args .entries .now)) ∙ c .if3 .left)
 
 store-damaged : (c : tie.Joined1) → damaged rules (state (c .before .before .before .before .args .words .now) (c .before .before .before .before .args .entries .now)) ≡ true
 store-damaged c = ⊎-elim (λ t. damaged-head rules (state (c .before .before .before .before .args .words .now) (c .before .before .before .before .args .entries .now)) (sym (c .before .head-is-damaged .ensures (c .before .before .before .before .args .entries .now) refl) ∙ t .taken))
@@ -40,12 +40,12 @@ store-damaged c = ⊎-elim (λ t. damaged-head rules (state (c .before .before .
 walker : (c : tie.At-match-keys1) → Synchronising (c .before .publisher-at .result)
 walker c =
     let e = rw (c .before .publisher-at .ensures) at (c .match .keys1) in
-    rw (c .before .publisher-at .ensures) (synchronising-of rules law _ (clean (c .before .before .before .before .before .before)) _ (rw (c .before .before .before .before .publishers-of .ensures) at (c .before .before .before .if4 .left)) (omega (arith, e)))
+    rw (c .before .publisher-at .ensures) (synchronising-of rules law _ (no-damage (c .before .before .before .before .before .before)) _ (rw (c .before .before .before .before .publishers-of .ensures) at (c .before .before .before .if4 .left)) (omega (arith, e)))
 
 left-to-pass : (c : tie.At-match-keys1) → c .before .publisher-at .result .walk .next < readers (c .before .before .before .before .before .before .before .before .before .before .before .before .before .before .before .before .args .words .now)
 left-to-pass c =
     let e = rw (c .before .publisher-at .ensures) at (c .match .keys1) in
-    rw (c .before .publisher-at .ensures) (next-low _ (clean (c .before .before .before .before .before .before)) _ (rw (c .before .before .before .before .publishers-of .ensures) at (c .before .before .before .if4 .left)) (rw e refl))
+    rw (c .before .publisher-at .ensures) (next-low _ (no-damage (c .before .before .before .before .before .before)) _ (rw (c .before .before .before .before .publishers-of .ensures) at (c .before .before .before .if4 .left)) (rw e refl))
 
 room : (c : tie.Else5) → c .before .before .before .before .publisher-at .result .walk .looks + c .before .before .before .before .before .before .before .before .before .before .before .before .before .before .before .before .before .before .before .args .b ≤ NUMBER-MAX
 room c = omega (arith, c .if5 .left, c .before .before .before .before .before .before .before .before .before .before .before .before .before .before .before .before .before .before .before .fits .b)
@@ -70,7 +70,7 @@ returns : tie.Need-returns
 returns c = step-damaged rules _ (Walk _ _) (store-damaged c)
 
 publishers-of-requires : tie.Need-publishers-of-requires
-publishers-of-requires c κs = in-bounds-of rules law _ (clean (c .before)) .long
+publishers-of-requires c κs = in-bounds-of rules law _ (no-damage (c .before)) .long
 
 same-length-2 : tie.Need-same-length-2
 same-length-2 c = search needs
@@ -78,10 +78,10 @@ same-length-2 c = search needs
 -- 11 no such publisher
 returns-2 : tie.Need-returns-2
 unfolding step
-returns-2 c = rw (clean (c .before .before .before), le-leb _ _ (rw (c .before .publishers-of .ensures) at (c .if4 .taken))) refl
+returns-2 c = rw (no-damage (c .before .before .before), le-leb _ _ (rw (c .before .publishers-of .ensures) at (c .if4 .taken))) refl
 
 publisher-at-requires : tie.Need-publisher-at-requires
-publisher-at-requires c κs = omega (arith, in-bounds-of rules law _ (clean (c .before .before .before .before)), c .before .before .publishers-of .ensures)
+publisher-at-requires c κs = omega (arith, in-bounds-of rules law _ (no-damage (c .before .before .before .before)), c .before .before .publishers-of .ensures)
 
 sub-if5 : tie.Need-sub-if5
 sub-if5 c = search needs
@@ -92,23 +92,23 @@ same-length-3 c = search needs
 -- 33 too many looks
 returns-3 : tie.Need-returns-3
 unfolding step
-returns-3 c = rw (clean (c .before .before .before .before .before .before .before .before .before), lt-leb _ _ (rw (c .before .before .before .before .before .before .before .publishers-of .ensures) at (c .before .before .before .before .before .before .if4 .left)), rw (c .before .before .before .before .publisher-at .ensures) at (c .before .before .before .match .keys1), lt-ltb _ _ (full c)) refl
+returns-3 c = rw (no-damage (c .before .before .before .before .before .before .before .before .before), lt-leb _ _ (rw (c .before .before .before .before .before .before .before .publishers-of .ensures) at (c .before .before .before .before .before .before .if4 .left)), rw (c .before .before .before .before .publisher-at .ensures) at (c .before .before .before .match .keys1), lt-ltb _ _ (full c)) refl
 
 readers-of-requires : tie.Need-readers-of-requires
-readers-of-requires c κs = in-bounds-of rules law _ (clean (c .before .before .before .before .before .before .before .before .before .before)) .long
+readers-of-requires c κs = in-bounds-of rules law _ (no-damage (c .before .before .before .before .before .before .before .before .before .before)) .long
 
 looks-requires : tie.Need-looks-requires
-looks-requires c κs = (in-bounds-of rules law _ (clean (c .before .before .before .before .before .before .before .before .before .before .before)) .long, rw (c .readers-of .ensures) (in-bounds-of rules law _ (clean (c .before .before .before .before .before .before .before .before .before .before .before)) .readers-high), rw (c .readers-of .ensures) (left-to-pass (c .before .before .before .before .before)), room (c .before .before), walker (c .before .before .before .before .before) .waits-low)
+looks-requires c κs = (in-bounds-of rules law _ (no-damage (c .before .before .before .before .before .before .before .before .before .before .before)) .long, rw (c .readers-of .ensures) (in-bounds-of rules law _ (no-damage (c .before .before .before .before .before .before .before .before .before .before .before)) .readers-high), rw (c .readers-of .ensures) (left-to-pass (c .before .before .before .before .before)), room (c .before .before), walker (c .before .before .before .before .before) .waits-low)
 
 end-walk-requires : tie.Need-end-walk-requires
-end-walk-requires c κs = (in-bounds-of rules law _ (clean (c .before .before .before .before .before .before .before .before .before .before .before .before .before)), rw (c .before .before .before .before .before .before .before .before .before .before .before .publishers-of .ensures) at (c .before .before .before .before .before .before .before .before .before .before .if4 .left), c .before .before .before .before .before .before .before .before .publisher-at .ensures)
+end-walk-requires c κs = (in-bounds-of rules law _ (no-damage (c .before .before .before .before .before .before .before .before .before .before .before .before .before)), rw (c .before .before .before .before .before .before .before .before .before .before .before .publishers-of .ensures) at (c .before .before .before .before .before .before .before .before .before .before .if4 .left), c .before .before .before .before .before .before .before .before .publisher-at .ensures)
 
 same-length-4 : tie.Need-same-length-4
 same-length-4 c = search needs
 
 -- what end_walk replies
 returns-4 : tie.Need-returns-4
-returns-4 c = walk-is fixed _ (clean (c .before .before .before .before .before .before .before .before .before .before .before .before .before .before .before .before)) _ _ _ (rw (c .before .before .before .before .before .before .before .before .before .before .before .before .before .before .publishers-of .ensures) at (c .before .before .before .before .before .before .before .before .before .before .before .before .before .if4 .left)) (c .before .before .before .before .before .before .before .before .before .before .before .publisher-at .ensures) _ _ (eq-eqb _ 37 (c .before .before .before .before .before .before .before .before .before .before .match .keys1)) (room (c .before .before .before .before .before .before .before)) (rw (c .before .before .before .before .before .readers-of .ensures, c .before .before .before .before .before .before .before .before .before .before .before .publisher-at .ensures) at (c .before .before .before .before .looks .ensures)) (c .before .before .end-walk .ensures (c .before .before .before .before .before .before .before .before .before .before .before .before .before .before .before .before .before .before .before .before .before .before .before .before .before .before .args .entries .now))
+returns-4 c = walk-is fixed _ (no-damage (c .before .before .before .before .before .before .before .before .before .before .before .before .before .before .before .before)) _ _ _ (rw (c .before .before .before .before .before .before .before .before .before .before .before .before .before .before .publishers-of .ensures) at (c .before .before .before .before .before .before .before .before .before .before .before .before .before .if4 .left)) (c .before .before .before .before .before .before .before .before .before .before .before .publisher-at .ensures) _ _ (eq-eqb _ 37 (c .before .before .before .before .before .before .before .before .before .before .match .keys1)) (room (c .before .before .before .before .before .before .before)) (rw (c .before .before .before .before .before .readers-of .ensures, c .before .before .before .before .before .before .before .before .before .before .before .publisher-at .ensures) at (c .before .before .before .before .looks .ensures)) (c .before .before .end-walk .ensures (c .before .before .before .before .before .before .before .before .before .before .before .before .before .before .before .before .before .before .before .before .before .before .before .before .before .before .args .entries .now))
 
 same-length-5 : tie.Need-same-length-5
 same-length-5 c = search needs
@@ -116,7 +116,7 @@ same-length-5 c = search needs
 -- 21 not this publisher's turn
 returns-5 : tie.Need-returns-5
 unfolding step
-returns-5 c = rw (clean (c .before .before .before .before .before .before), lt-leb _ _ (rw (c .before .before .before .before .publishers-of .ensures) at (c .before .before .before .if4 .left)), ne-eqb _ 37 (rw (c .before .publisher-at .ensures) at (c .match .rest .1))) refl
+returns-5 c = rw (no-damage (c .before .before .before .before .before .before), lt-leb _ _ (rw (c .before .before .before .before .publishers-of .ensures) at (c .before .before .before .if4 .left)), ne-eqb _ 37 (rw (c .before .publisher-at .ensures) at (c .match .rest .1))) refl
 
 pub walk-spec : {M : Type 1} → statement M
 walk-spec =

@@ -1,9 +1,9 @@
--- `put_fresh` meets its contract: `fresh` is the readers published and then the head. Assumes nothing.
+-- `put_fresh` meets its contract: `freshWords` is the readers published and then the head. Assumes nothing.
 use borrow.Author.Needs.{needs}
 use native.Mathlib.Omega.{arith}
 use lib.ListN.{length-set}
 use mathlib.Core.Path.{refl}
-use Rattle.layout.specs.Layout.{fresh}
+use Rattle.layout.specs.Layout.{freshWords}
 use Rattle.layout.proofs.put_fresh.Statement.{statement}
 use Rattle.layout.proofs.put_fresh.Tie as tie
 use Rattle.layout.proofs.put_fresh.Reads as reads
@@ -36,7 +36,7 @@ same-length : tie.Need-same-length
 same-length c = simp length-set (omega arith)
 
 returns : tie.Need-returns
-unfolding fresh
+unfolding freshWords
 returns c = rw (c .before .before .publish-all .ensures) refl
 
 pub put-fresh-spec : {M : Type 1} → statement M

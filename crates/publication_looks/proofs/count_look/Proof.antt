@@ -15,7 +15,7 @@ use prog.Wp.{Heap, Calls, Loops, WpFn, Tables}
 use ghost.Atoms.{Atoms, sem}
 use contract.Monad.{Fun, fact}
 use contract.Running.{givenOf, tables, tablesOf}
-use types.Kit.{Given, ‵, raw, _⊛_, some, later, _$_, _∵_, !, qed, by, move, keep, drop, use1, split, join, pick, rewrite, fsplit, fsplit3, fjoin, fjoin3, feqI, suffices, frame, await, done}
+use types.Kit.{Given, ‵, raw, _⊛_, some, later, _$_, _∵_, !, qed, by, move, keep, drop, use1, split, join, choose, rewrite, fsplit, fsplit3, fjoin, fjoin3, feqI, suffices, frame, await, done}
 use types.Part.{whole, sub, look-in, store-in}
 use types.Run.{look, init, forget, stop, hop, fld, from, load, unit-lit, of-opd, and-then, no-more, land, assigns, returns, enter, alloc1, alloc0, params1, pass1, pass0, free1, free0}
 use types.SemTy.{Body}
@@ -41,7 +41,7 @@ use denote.Exit.{yes}
 use Rattle.layout.specs.declared.WalkRecord.{WalkRecord}
 use Rattle.layout.specs.Records.{_mark≔_}
 use Rattle.publication_law.specs.Looks.{withLook}
-use Rattle.publication_looks.specs.Fits.{Fits}
+use Rattle.publication_looks.specs.LookFits.{LookFits}
 use Rattle.layout.proofs.WalkRecord as T
 use Rattle.layout.proofs.WalkRecord.Laws as T′
 use Rattle.publication_looks.proofs.moved as moved
@@ -67,7 +67,7 @@ module _ {M : Type 1} (𝓤 : URA M) (H : Heap 𝓤) (A : Atoms 𝓤) (mem : Mem
   moved-of : (h : WalkRecord) (p q : ℕ) (r : WalkRecord) → ent 𝓤 (ensured 𝓤 H A moved.ended (moved.clauses 𝓤 H A mem run) tt (args h p q) tt r) (fact 𝓤 (r ≡ withLook h p q))
   moved-of h p q r = exE 𝓤 _ (λ ws. snd∗ 𝓤 (sem 𝓤 H A (lasts moved.ended tt (args h p q) ws)) (fact 𝓤 (r ≡ withLook h p q)))
 
-module _ {M : Type 1} (𝓤 : URA M) (H : Heap 𝓤) (A : Atoms 𝓤) (W : Given 𝓤 H A) (at-mem : Memory → SProp 𝓤) (run : Routine → Fun 𝓤) (κ : Lft) (s : Share) (b o : ℕ) (γ : GName) (h : WalkRecord) (p q : ℕ) (p-fits : p < 2 ^ 64) (q-fits : q < 2 ^ 64) (ok : Fits h p q) where
+module _ {M : Type 1} (𝓤 : URA M) (H : Heap 𝓤) (A : Atoms 𝓤) (W : Given 𝓤 H A) (at-mem : Memory → SProp 𝓤) (run : Routine → Fun 𝓤) (κ : Lft) (s : Share) (b o : ℕ) (γ : GName) (h : WalkRecord) (p q : ℕ) (p-fits : p < 2 ^ 64) (q-fits : q < 2 ^ 64) (ok : LookFits h p q) where
   abbrev x : RefT WalkRecord × (ℕ × (ℕ × Unit {0}))
   x = (record { ptr = (b, o); name = γ; now = h }, (p, (q, tt)))
 
@@ -149,7 +149,7 @@ module _ {M : Type 1} (𝓤 : URA M) (H : Heap 𝓤) (A : Atoms 𝓤) (W : Given
         calls-at ! fm (Moved 𝓤 H A at-mem run) known to-moved
         (and-then ! (load ! (from ! (stop !)) (look ! 14 refl)) (and-then ! (load ! (from ! (stop !)) (look ! 12 refl)) (and-then ! (load ! (from ! (stop !)) (look ! 10 refl)) (and-then ! (load ! (from ! (stop !)) (look ! 8 refl))
         (and-then ! (load ! (from ! (stop !)) (look ! 20 refl)) (and-then ! (load ! (from ! (stop !)) (look ! 18 refl)) (no-more !))))))) (λ v.
-        use1 W (later (some (λ (r : WalkRecord). (‵ ftrue ⊛ ‵ (B .own r (v ∷ []))) ⊛ raw (ensured 𝓤 H A moved.ended (moved.clauses 𝓤 H A at-mem run) tt (args 𝓤 H A at-mem run h p q) tt r)))) (id⊢ 𝓤 _) $ await ! tt $ pick ! (λ r.
+        use1 W (later (some (λ (r : WalkRecord). (‵ ftrue ⊛ ‵ (B .own r (v ∷ []))) ⊛ raw (ensured 𝓤 H A moved.ended (moved.clauses 𝓤 H A at-mem run) tt (args 𝓤 H A at-mem run h p q) tt r)))) (id⊢ 𝓤 _) $ await ! tt $ choose ! (λ r.
         split ! $ move ! (1 ∷ []) $ use1 W (raw (fact 𝓤 (r ≡ withLook h p q))) (moved-of 𝓤 H A at-mem run h p q r) $ heard ! (r ≡ withLook h p q) (λ e. split ! $ drop ! $
         peeks ! B (Is B) (shows 𝓤 H A B) r (v ∷ []) (λ is₀.
         land ! (from ! (stop !)) (init ! 16 refl (LL.lawful T.the-type T′.the-laws 𝓤 H A W .typed r _ is₀ .0)) $

@@ -4,7 +4,7 @@ use Prim.Native.Nat.{ℕ}
 use mathlib.Core.Path.{sym, _∙_, ap}
 use mathlib.Core.List.{List}
 use Rattle.calls.specs.Numbers.{PITCH-HALF}
-use Rattle.sheet_law.specs.Reading.{plain, within, negative as negative-of}
+use Rattle.sheet_law.specs.Reading.{plain, atMost, negative as negative-of}
 use Rattle.sheet_law.specs.Widths.{tail}
 use Rattle.sheet_fields.proofs.Bytes.{angle-empty, angle-minus, angle-plain}
 use Rattle.sheet_fields.proofs.angle.Statement.{statement}
@@ -31,7 +31,7 @@ negative-requires c κs = search needs
 
 -- after a minus
 returns-2 : tie.Need-returns-2
-returns-2 c = sym (angle-minus (c .before .before .before .before .before .before .args .s .now) (c .before .before .before .before .if1 .left) (c .before .before .if2 .taken) ∙ ap (λ (l : List ℕ). negative-of (within PITCH-HALF (plain l))) (sym (tail 1 (c .before .before .before .before .before .before .args .s .now))) ∙ sym (c .negative .ensures))
+returns-2 c = sym (angle-minus (c .before .before .before .before .before .before .args .s .now) (c .before .before .before .before .if1 .left) (c .before .before .if2 .taken) ∙ ap (λ (l : List ℕ). negative-of (atMost PITCH-HALF (plain l))) (sym (tail 1 (c .before .before .before .before .before .before .args .s .now))) ∙ sym (c .negative .ensures))
 
 positive-requires : tie.Need-positive-requires
 positive-requires c κs = search needs

@@ -5,14 +5,14 @@ use lib.ListN.{length, drop}
 use Prim.Native.Nat.{_-_, _≤_}
 use mathlib.Core.Path.{_≡_, refl, _∙_, sym, ap}
 use Rattle.sheet_law.specs.declared.Number.{Number}
-use Rattle.sheet_law.specs.Reading.{digits as digits-of, within}
-use Rattle.sheet_law.specs.Widths.{within-decimal}
+use Rattle.sheet_law.specs.Reading.{digits as digits-of, atMost}
+use Rattle.sheet_law.specs.Widths.{at-most-decimal}
 use Rattle.sheet_fields.proofs.Bytes.{digits-end, digits-low, digits-high, digits-next, too-wide}
 use Rattle.sheet_fields.proofs.digits.Statement.{statement}
 use Rattle.sheet_fields.proofs.digits.Tie as tie
 
 abbrev wide-enough : Number → Number
-wide-enough x = within 18446744073709551615 x
+wide-enough x = atMost 18446744073709551615 x
 
 abbrev Inv-loop : tie.InvT-loop
 Inv-loop s n₀ i₀ n i = (i ≤ length s) × (n ≤ 18446744073709551615) × (wide-enough (digits-of 0 s) ≡ wide-enough (digits-of n (drop i s)))
@@ -50,7 +50,7 @@ loop-again c = let k = c .before .before .before .before .before .before .loop i
 
 -- the number: all digits are read
 returns : tie.Need-returns Inv-loop μ-loop
-returns c = let k = c .before .loop in sym (k .inv .2 ∙ ap wide-enough (digits-end _ (k .i) (k .n) (c .if1 .taken)) ∙ within-decimal 18446744073709551615 (k .n) (k .inv .1))
+returns c = let k = c .before .loop in sym (k .inv .2 ∙ ap wide-enough (digits-end _ (k .i) (k .n) (c .if1 .taken)) ∙ at-most-decimal 18446744073709551615 (k .n) (k .inv .1))
 
 -- no number: a byte below 0
 returns-2 : tie.Need-returns-2 Inv-loop μ-loop

@@ -7,7 +7,7 @@ use Rattle.calls.specs.Numbers.{PITCH-HALF}
 use Rattle.calls.specs.PitchLaws.{pitch-back}
 use Rattle.sheet_law.specs.declared.Angle.the-variants.{Hundredths}
 use Rattle.sheet_law.specs.Reading.{plain, negative as negative-of}
-use Rattle.sheet_law.specs.Widths.{within-most}
+use Rattle.sheet_law.specs.Widths.{at-most-bound}
 use Rattle.sheet_fields.proofs.Bytes.{negative-zero, negative-other}
 use Rattle.sheet_fields.proofs.negative.Statement.{statement}
 use Rattle.sheet_fields.proofs.negative.Tie as tie
@@ -33,7 +33,7 @@ sub-below : tie.Need-sub-below
 sub-below c = search needs
 
 below-requires : tie.Need-below-requires
-below-requires c κs = let a = within-most PITCH-HALF (plain (c .before .before .before .before .before .before .args .s .now)) (c .before .before .v .given .0 .0) (sym (c .before .before .before .before .number .ensures) ∙ c .before .before .v .given .1) in omega (arith, a, c .if1 .left)
+below-requires c κs = let a = at-most-bound PITCH-HALF (plain (c .before .before .before .before .before .before .args .s .now)) (c .before .before .v .given .0 .0) (sym (c .before .before .before .before .number .ensures) ∙ c .before .before .v .given .1) in omega (arith, a, c .if1 .left)
 
 -- the pitch
 returns-3 : tie.Need-returns-3

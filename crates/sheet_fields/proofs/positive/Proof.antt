@@ -7,7 +7,7 @@ use Rattle.calls.specs.Numbers.{PITCH-HALF}
 use Rattle.calls.specs.PitchLaws.{pitch-back}
 use Rattle.sheet_law.specs.declared.Angle.the-variants.{Hundredths}
 use Rattle.sheet_law.specs.Reading.{plain, positive as positive-of}
-use Rattle.sheet_law.specs.Widths.{within-most}
+use Rattle.sheet_law.specs.Widths.{at-most-bound}
 use Rattle.sheet_fields.proofs.positive.Statement.{statement}
 use Rattle.sheet_fields.proofs.positive.Tie as tie
 
@@ -25,7 +25,7 @@ returns : tie.Need-returns
 returns c = ap positive-of (sym (sym (c .before .before .number .ensures) ∙ c .enum-told .given .1))
 
 above-requires : tie.Need-above-requires
-above-requires c κs = let a = within-most (PITCH-HALF - 1) (plain (c .before .before .before .before .before .args .s .now)) (c .before .v .given .0 .0) (sym (c .before .before .before .number .ensures) ∙ c .before .v .given .1) in omega (arith, a)
+above-requires c κs = let a = at-most-bound (PITCH-HALF - 1) (plain (c .before .before .before .before .before .args .s .now)) (c .before .v .given .0 .0) (sym (c .before .before .before .number .ensures) ∙ c .before .v .given .1) in omega (arith, a)
 
 -- the pitch
 returns-2 : tie.Need-returns-2

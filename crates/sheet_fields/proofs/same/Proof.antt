@@ -3,7 +3,7 @@ use native.Mathlib.Omega.{arith}
 use lib.ListN.{length, drop}
 use Prim.Native.Nat.{_-_, _≤_}
 use mathlib.Core.Path.{_≡_, refl, _∙_, sym}
-use Rattle.sheet_law.specs.Text.{same as same-texts}
+use Rattle.sheet_law.specs.Text.{sameText as same-texts}
 use Rattle.sheet_fields.proofs.Bytes.{same-lengths, same-differ, same-next, same-end}
 use Rattle.sheet_fields.proofs.same.Statement.{statement}
 use Rattle.sheet_fields.proofs.same.Tie as tie

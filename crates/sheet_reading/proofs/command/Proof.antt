@@ -7,7 +7,7 @@ use mathlib.Core.Bool.{_&&_}
 use mathlib.Core.List.{List}
 use lib.IntN.{ℤ}
 use lib.Seq.{length-take-le}
-use Rattle.base.specs.Base.{pick}
+use Rattle.base.specs.Base.{choose}
 use Rattle.calls.specs.PitchLaws.{pitch-back}
 use Rattle.calls.specs.declared.Call.{Call}
 use Rattle.calls.specs.declared.Call.the-variants as call
@@ -25,23 +25,23 @@ use Rattle.sheet_reading.proofs.command.Tie as tie
 abbrev line : tie.After-pitch → List ℕ
 line c = c .before .before .before .before .before .before .before .before .before .args .s .now
 
-first-is : (c : tie.After-pitch) → narrow-of (upToSpace (line c)) ≡ pick (c .before .before .before .before .narrow2 .result .read) (Decimal (c .before .before .before .before .narrow2 .result .value)) NoNumber
+first-is : (c : tie.After-pitch) → narrow-of (upToSpace (line c)) ≡ choose (c .before .before .before .before .narrow2 .result .read) (Decimal (c .before .before .before .before .narrow2 .result .value)) NoNumber
 first-is c = ap narrow-of (sym (c .before .before .before .before .before .before .before .split-at-space .ensures .2)) ∙ c .before .before .before .before .narrow2 .ensures
 
-second-is : (c : tie.After-pitch) → narrow-of (afterSpace (line c)) ≡ pick (c .before .before .narrow3 .result .read) (Decimal (c .before .before .narrow3 .result .value)) NoNumber
+second-is : (c : tie.After-pitch) → narrow-of (afterSpace (line c)) ≡ choose (c .before .before .narrow3 .result .read) (Decimal (c .before .before .narrow3 .result .value)) NoNumber
 second-is c = ap narrow-of (sym (tail-is (c .before .before .before .before .before .before .before .split-at-space .result .next) (line c) _ (c .before .before .before .before .before .before .before .split-at-space .ensures .3))) ∙ c .before .before .narrow3 .ensures
 
-pitch-is : (c : tie.After-pitch) → angle-of (afterSpace (line c)) ≡ pick (c .pitch .result .read) (Hundredths (c .pitch .result .value)) NoAngle
+pitch-is : (c : tie.After-pitch) → angle-of (afterSpace (line c)) ≡ choose (c .pitch .result .read) (Hundredths (c .pitch .result .value)) NoAngle
 pitch-is c = ap angle-of (sym (tail-is (c .before .before .before .before .before .before .before .split-at-space .result .next) (line c) _ (c .before .before .before .before .before .before .before .split-at-space .ensures .3))) ∙ c .pitch .ensures
 
 -- What each form of arguments gives, whatever the call.
-one-is : (c : tie.After-pitch) (build : ℕ → Call) → pick (c .before .before .before .before .before .before .narrow .result .read) (Read (Run (build (c .before .before .before .before .before .before .narrow .result .value)))) Unread ≡ one (line c) build
+one-is : (c : tie.After-pitch) (build : ℕ → Call) → choose (c .before .before .before .before .before .before .narrow .result .read) (Read (Run (build (c .before .before .before .before .before .before .narrow .result .value)))) Unread ≡ one (line c) build
 one-is c build = one-read (line c) build (c .before .before .before .before .before .before .narrow .result .read) (c .before .before .before .before .before .before .narrow .result .value) (c .before .before .before .before .before .before .narrow .ensures)
 
-two-is : (c : tie.After-pitch) (build : ℕ → ℕ → Call) → pick (c .before .before .before .before .narrow2 .result .read && c .before .before .narrow3 .result .read) (Read (Run (build (c .before .before .before .before .narrow2 .result .value) (c .before .before .narrow3 .result .value)))) Unread ≡ two (line c) build
+two-is : (c : tie.After-pitch) (build : ℕ → ℕ → Call) → choose (c .before .before .before .before .narrow2 .result .read && c .before .before .narrow3 .result .read) (Read (Run (build (c .before .before .before .before .narrow2 .result .value) (c .before .before .narrow3 .result .value)))) Unread ≡ two (line c) build
 two-is c build = two-read (line c) build (c .before .before .before .before .narrow2 .result .read) (c .before .before .narrow3 .result .read) (c .before .before .before .before .narrow2 .result .value) (c .before .before .narrow3 .result .value) (first-is c) (second-is c)
 
-pitched-is : (c : tie.After-pitch) (build : ℕ → ℤ → Call) → pick (c .before .before .before .before .narrow2 .result .read && c .pitch .result .read) (Read (Run (build (c .before .before .before .before .narrow2 .result .value) (c .pitch .result .value)))) Unread ≡ pitched (line c) build
+pitched-is : (c : tie.After-pitch) (build : ℕ → ℤ → Call) → choose (c .before .before .before .before .narrow2 .result .read && c .pitch .result .read) (Read (Run (build (c .before .before .before .before .narrow2 .result .value) (c .pitch .result .value)))) Unread ≡ pitched (line c) build
 pitched-is c build = pitched-read (line c) build (c .before .before .before .before .narrow2 .result .read) (c .pitch .result .read) (c .before .before .before .before .narrow2 .result .value) (c .pitch .result .value) (first-is c) (pitch-is c)
 
 split-at-space-requires : tie.Need-split-at-space-requires

@@ -3,7 +3,7 @@ use borrow.Author.Needs.{needs}
 use native.Mathlib.Omega.{arith}
 use mathlib.Core.Path.{sym, _∙_}
 use Rattle.sheet_law.specs.Reading.{NARROW-MAX, plain}
-use Rattle.sheet_law.specs.Widths.{within-most}
+use Rattle.sheet_law.specs.Widths.{at-most-bound}
 use Rattle.sheet_reading.proofs.narrow.Statement.{statement}
 use Rattle.sheet_reading.proofs.narrow.Tie as tie
 
@@ -21,7 +21,7 @@ returns : tie.Need-returns
 returns c = sym (c .before .before .number .ensures) ∙ c .enum-told .given .1
 
 cast-t4 : tie.Need-cast-t4
-cast-t4 c = let a = within-most NARROW-MAX (plain (c .before .before .before .before .before .args .s .now)) _ (sym (c .before .before .before .number .ensures) ∙ c .before .n .given .1) in omega (arith, a)
+cast-t4 c = let a = at-most-bound NARROW-MAX (plain (c .before .before .before .before .before .args .s .now)) _ (sym (c .before .before .before .number .ensures) ∙ c .before .n .given .1) in omega (arith, a)
 
 -- read
 returns-2 : tie.Need-returns-2

@@ -7,7 +7,7 @@ use mathlib.Core.Path.{_≡_, refl, sym, _∙_, ap}
 use lib.Seq.{length-take-le}
 use Rattle.sheet_law.specs.declared.Number.the-variants.{Decimal, NoNumber}
 use Rattle.sheet_law.specs.Reading.{upToSpace, afterSpace, plain, narrow, kindNamed}
-use Rattle.sheet_law.specs.Widths.{read-part, tail-is, within-most}
+use Rattle.sheet_law.specs.Widths.{read-part, tail-is, at-most-bound}
 use Rattle.sheet_reading.proofs.Lines.{kind-narrow}
 use Rattle.sheet_reading.proofs.store_line.Statement.{statement}
 use Rattle.sheet_reading.proofs.store_line.Tie as tie
@@ -72,7 +72,7 @@ cast-store-line-rest : tie.Need-cast-store-line-rest
 cast-store-line-rest c = let a = kind-narrow (upToSpace (c .before .before .before .before .before .before .before .before .before .before .before .before .before .before .args .s .now)) (c .before .before .before .before .before .before .before .before .k .given .0 .0) (kind-read (c .before .before .before .before .before .before .before)) in omega (arith, a)
 
 cast-store-line-rest-2 : tie.Need-cast-store-line-rest-2
-cast-store-line-rest-2 c = let a = within-most 65535 (plain (upToSpace (afterSpace (c .before .before .before .before .before .before .before .before .before .before .before .before .before .before .args .s .now)))) (c .before .readers .given .0 .0) (readers-read c) in omega (arith, a)
+cast-store-line-rest-2 c = let a = at-most-bound 65535 (plain (upToSpace (afterSpace (c .before .before .before .before .before .before .before .before .before .before .before .before .before .before .args .s .now)))) (c .before .readers .given .0 .0) (readers-read c) in omega (arith, a)
 
 sub-store-line-rest : tie.Need-sub-store-line-rest
 sub-store-line-rest c = omega (arith, c .before .before .before .before .before .split-at-space2 .ensures .1)

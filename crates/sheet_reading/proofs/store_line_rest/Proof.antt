@@ -7,7 +7,7 @@ use mathlib.Core.Path.{_≡_, refl, sym, _∙_, ap}
 use lib.Seq.{length-take-le}
 use Rattle.sheet_law.specs.declared.Number.the-variants.{Decimal, NoNumber}
 use Rattle.sheet_law.specs.Reading.{upToSpace, afterSpace, plain, narrow, wide}
-use Rattle.sheet_law.specs.Widths.{read-part, tail-is, within-most}
+use Rattle.sheet_law.specs.Widths.{read-part, tail-is, at-most-bound}
 use Rattle.sheet_reading.proofs.store_line_rest.Statement.{statement}
 use Rattle.sheet_reading.proofs.store_line_rest.Tie as tie
 
@@ -93,10 +93,10 @@ returns-3 : tie.Need-returns-3
 returns-3 c = rw (publishers-read (c .before .before .before .before .before .before .before .before .before .before .before), slots-read (c .before .before .before .before), sym (ap wide (last-part (c .before .before .before .before))) ∙ sym (c .before .before .number3 .ensures) ∙ c .enum-told3 .given .1) refl
 
 cast-t27 : tie.Need-cast-t27
-cast-t27 c = let a = within-most 65535 (plain (upToSpace (c .before .before .before .before .before .before .before .before .before .before .before .before .before .before .before .before .before .before .before .args .s .now))) (c .before .before .before .before .before .before .before .before .before .before .before .before .before .publishers .given .0 .0) (publishers-read (c .before .before .before .before .before .before .before .before .before .before .before .before)) in omega (arith, a)
+cast-t27 c = let a = at-most-bound 65535 (plain (upToSpace (c .before .before .before .before .before .before .before .before .before .before .before .before .before .before .before .before .before .before .before .args .s .now))) (c .before .before .before .before .before .before .before .before .before .before .before .before .before .publishers .given .0 .0) (publishers-read (c .before .before .before .before .before .before .before .before .before .before .before .before)) in omega (arith, a)
 
 cast-t28 : tie.Need-cast-t28
-cast-t28 c = let a = within-most 65535 (plain (upToSpace (afterSpace (c .before .before .before .before .before .before .before .before .before .before .before .before .before .before .before .before .before .before .before .args .s .now)))) (c .before .before .before .before .before .before .slots .given .0 .0) (slots-read (c .before .before .before .before .before)) in omega (arith, a)
+cast-t28 c = let a = at-most-bound 65535 (plain (upToSpace (afterSpace (c .before .before .before .before .before .before .before .before .before .before .before .before .before .before .before .before .before .before .before .args .s .now)))) (c .before .before .before .before .before .before .slots .given .0 .0) (slots-read (c .before .before .before .before .before)) in omega (arith, a)
 
 -- read
 returns-4 : tie.Need-returns-4

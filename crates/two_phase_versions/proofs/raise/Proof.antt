@@ -24,8 +24,8 @@ use Rattle.two_phase_damage.proofs.head_is_damaged.Reads as head-is-damaged-rea
 use Rattle.two_phase_damage.proofs.publishers_are_damaged.Reads as publishers-are-damaged-reads
 use Rattle.two_phase_damage.proofs.readers_are_damaged.Reads as readers-are-damaged-reads
 
-clean : (c : tie.Else3) → let k = c .before .before .before .before .before .before .before .before .before .before .args in damaged rules (state (k .words .now) (k .entries .now)) ≡ false
-clean c =
+no-damage : (c : tie.Else3) → let k = c .before .before .before .before .before .before .before .before .before .before .args in damaged rules (state (k .words .now) (k .entries .now)) ≡ false
+no-damage c =
     let es = c .before .before .before .before .before .before .before .before .before .before .args .entries .now in
     scan-undamaged _ (sym (c .before .before .before .before .before .before .before .head-is-damaged .ensures es refl) ∙ c .before .before .before .before .before .before .if1 .left) (sym (c .before .before .before .before .readers-are-damaged .ensures es) ∙ c .before .before .before .if2 .left) (sym (c .before .publishers-are-damaged .ensures es) ∙ c .if3 .left)
 
@@ -39,7 +39,7 @@ store-damaged c =
 walker : (c : tie.At-match-keys1) → Synchronising (c .before .publisher-at .result)
 walker c =
     let e = rw (c .before .publisher-at .ensures) at (c .match .keys1) in
-    rw (c .before .publisher-at .ensures) (synchronising-of rules law _ (clean (c .before .before .before .before .before .before)) _ (rw (c .before .before .before .before .publishers-of .ensures) at (c .before .before .before .if4 .left)) (omega (arith, e)))
+    rw (c .before .publisher-at .ensures) (synchronising-of rules law _ (no-damage (c .before .before .before .before .before .before)) _ (rw (c .before .before .before .before .publishers-of .ensures) at (c .before .before .before .if4 .left)) (omega (arith, e)))
 
 head-is-damaged-requires : tie.Need-head-is-damaged-requires
 head-is-damaged-requires c κs = search needs
@@ -58,7 +58,7 @@ returns : tie.Need-returns
 returns c = step-damaged rules _ (Raise _) (store-damaged c)
 
 publishers-of-requires : tie.Need-publishers-of-requires
-publishers-of-requires c κs = in-bounds-of rules law _ (clean (c .before)) .long
+publishers-of-requires c κs = in-bounds-of rules law _ (no-damage (c .before)) .long
 
 same-length-2 : tie.Need-same-length-2
 same-length-2 c = search needs
@@ -66,23 +66,23 @@ same-length-2 c = search needs
 -- 11 no such publisher
 returns-2 : tie.Need-returns-2
 unfolding step
-returns-2 c = rw (clean (c .before .before .before), le-leb _ _ (rw (c .before .publishers-of .ensures) at (c .if4 .taken))) refl
+returns-2 c = rw (no-damage (c .before .before .before), le-leb _ _ (rw (c .before .publishers-of .ensures) at (c .if4 .taken))) refl
 
 publisher-at-requires : tie.Need-publisher-at-requires
-publisher-at-requires c κs = omega (arith, in-bounds-of rules law _ (clean (c .before .before .before .before)), c .before .before .publishers-of .ensures)
+publisher-at-requires c κs = omega (arith, in-bounds-of rules law _ (no-damage (c .before .before .before .before)), c .before .before .publishers-of .ensures)
 
 sub-raise-version : tie.Need-sub-raise-version
 sub-raise-version c = walker (c .before .before) .mark-low
 
 raise-version-requires : tie.Need-raise-version-requires
-raise-version-requires c κs = (in-bounds-of rules law _ (clean (c .before .before .before .before .before .before .before .before)), rw (c .before .before .before .before .before .before .publishers-of .ensures) at (c .before .before .before .before .before .if4 .left), c .before .before .before .publisher-at .ensures)
+raise-version-requires c κs = (in-bounds-of rules law _ (no-damage (c .before .before .before .before .before .before .before .before)), rw (c .before .before .before .before .before .before .publishers-of .ensures) at (c .before .before .before .before .before .if4 .left), c .before .before .before .publisher-at .ensures)
 
 same-length-3 : tie.Need-same-length-3
 same-length-3 c = search needs
 
 -- what raise_version replies
 returns-3 : tie.Need-returns-3
-returns-3 c = raise-is fixed _ (clean (c .before .before .before .before .before .before .before .before .before .before .before)) _ _ _ (rw (c .before .before .before .before .before .before .before .before .before .publishers-of .ensures) at (c .before .before .before .before .before .before .before .before .if4 .left)) (c .before .before .before .before .before .before .publisher-at .ensures) (eq-eqb _ 36 (c .before .before .before .before .before .match .keys1)) (c .before .before .raise-version .ensures versions (c .before .before .before .before .before .before .before .before .before .before .before .before .before .before .before .before .before .before .before .before .before .args .entries .now) refl)
+returns-3 c = raise-is fixed _ (no-damage (c .before .before .before .before .before .before .before .before .before .before .before)) _ _ _ (rw (c .before .before .before .before .before .before .before .before .before .publishers-of .ensures) at (c .before .before .before .before .before .before .before .before .if4 .left)) (c .before .before .before .before .before .before .publisher-at .ensures) (eq-eqb _ 36 (c .before .before .before .before .before .match .keys1)) (c .before .before .raise-version .ensures versions (c .before .before .before .before .before .before .before .before .before .before .before .before .before .before .before .before .before .before .before .before .before .args .entries .now) refl)
 
 same-length-4 : tie.Need-same-length-4
 same-length-4 c = search needs
@@ -90,7 +90,7 @@ same-length-4 c = search needs
 -- 21 not this publisher's turn
 returns-4 : tie.Need-returns-4
 unfolding step
-returns-4 c = rw (clean (c .before .before .before .before .before .before), lt-leb _ _ (rw (c .before .before .before .before .publishers-of .ensures) at (c .before .before .before .if4 .left)), ne-eqb _ 36 (rw (c .before .publisher-at .ensures) at (c .match .rest .1))) refl
+returns-4 c = rw (no-damage (c .before .before .before .before .before .before), lt-leb _ _ (rw (c .before .before .before .before .publishers-of .ensures) at (c .before .before .before .if4 .left)), ne-eqb _ 36 (rw (c .before .publisher-at .ensures) at (c .match .rest .1))) refl
 
 pub raise-spec : {M : Type 1} → statement M
 raise-spec =

@@ -31,8 +31,8 @@ use Rattle.two_phase_damage.proofs.readers_are_damaged.Reads as readers-are-dam
 use Rattle.two_phase_walk.proofs.look.Reads as look-reads
 use Rattle.two_phase_walk.proofs.looked_at.Reads as looked-at-reads
 
-clean : (c : tie.Else3) → damaged rules (state (c .before .before .before .before .before .before .before .before .before .before .args .words .now) (c .before .before .before .before .before .before .before .before .before .before .args .entries .now)) ≡ false
-clean c = scan-undamaged (state (c .before .before .before .before .before .before .before .before .before .before .args .words .now) (c .before .before .before .before .before .before .before .before .before .before .args .entries .now)) (sym (c .before .before .before .before .before .before .before .head-is-damaged .ensures (c .before .before .before .before .before .before .before .before .before .before .args .entries .now) refl) ∙ c .before .before .before .before .before .before .if1 .left) (sym (c .before .before .before .before .readers-are-damaged .ensures (c .before .before .before .before .before .before .before .before .before .before .args .entries .now)) ∙ c .before .before .before .if2 .left) (sym (c .before .publishers-are-damaged .ensures (c .before .before .before .before .before .before .before .before .before .before .args .entries .now)) ∙ c .if3 .left)
+no-damage : (c : tie.Else3) → damaged rules (state (c .before .before .before .before .before .before .before .before .before .before .args .words .now) (c .before .before .before .before .before .before .before .before .before .before .args .entries .now)) ≡ false
+no-damage c = scan-undamaged (state (c .before .before .before .before .before .before .before .before .before .before .args .words .now) (c .before .before .before .before .before .before .before .before .before .before .args .entries .now)) (sym (c .before .before .before .before .before .before .before .head-is-damaged .ensures (c .before .before .before .before .before .before .before .before .before .before .args .entries .now) refl) ∙ c .before .before .before .before .before .before .if1 .left) (sym (c .before .before .before .before .readers-are-damaged .ensures (c .before .before .before .before .before .before .before .before .before .before .args .entries .now)) ∙ c .before .before .before .if2 .left) (sym (c .before .publishers-are-damaged .ensures (c .before .before .before .before .before .before .before .before .before .before .args .entries .now)) ∙ c .if3 .left)
 
 store-damaged : (c : tie.Joined1) → damaged rules (state (c .before .before .before .before .args .words .now) (c .before .before .before .before .args .entries .now)) ≡ true
 store-damaged c = ⊎-elim (λ t. damaged-head rules (state (c .before .before .before .before .args .words .now) (c .before .before .before .before .args .entries .now)) (sym (c .before .head-is-damaged .ensures (c .before .before .before .before .args .entries .now) refl) ∙ t .taken))
@@ -40,7 +40,7 @@ store-damaged c = ⊎-elim (λ t. damaged-head rules (state (c .before .before .
     (c .if1 .came)
 
 walker : (c : tie.At-match-keys1) → Synchronising (c .before .publisher-at .result)
-walker c = rw (c .before .publisher-at .ensures) (synchronising-of rules law _ (clean (c .before .before .before .before .before .before)) _ (rw (c .before .before .before .before .publishers-of .ensures) at (c .before .before .before .if4 .left)) (turn-low _ (rw (c .before .publisher-at .ensures) at (c .match .keys1))))
+walker c = rw (c .before .publisher-at .ensures) (synchronising-of rules law _ (no-damage (c .before .before .before .before .before .before)) _ (rw (c .before .before .before .before .publishers-of .ensures) at (c .before .before .before .if4 .left)) (turn-low _ (rw (c .before .publisher-at .ensures) at (c .match .keys1))))
 
 room : (c : tie.Else5) → c .before .before .before .before .publisher-at .result .walk .looks + c .before .before .before .before .before .before .before .before .before .before .before .before .before .before .before .before .before .before .before .args .b ≤ NUMBER-MAX
 room c = omega (arith, c .if5 .left, c .before .before .before .before .before .before .before .before .before .before .before .before .before .before .before .before .before .before .before .fits .b)
@@ -65,7 +65,7 @@ returns : tie.Need-returns
 returns c = step-damaged rules _ (Walk _ _) (store-damaged c)
 
 publishers-of-requires : tie.Need-publishers-of-requires
-publishers-of-requires c κs = in-bounds-of rules law _ (clean (c .before)) .long
+publishers-of-requires c κs = in-bounds-of rules law _ (no-damage (c .before)) .long
 
 same-length-2 : tie.Need-same-length-2
 same-length-2 c = search needs
@@ -73,10 +73,10 @@ same-length-2 c = search needs
 -- 11 no such publisher
 returns-2 : tie.Need-returns-2
 unfolding step
-returns-2 c = rw (clean (c .before .before .before), le-leb _ _ (rw (c .before .publishers-of .ensures) at (c .if4 .taken))) refl
+returns-2 c = rw (no-damage (c .before .before .before), le-leb _ _ (rw (c .before .publishers-of .ensures) at (c .if4 .taken))) refl
 
 publisher-at-requires : tie.Need-publisher-at-requires
-publisher-at-requires c κs = omega (arith, in-bounds-of rules law _ (clean (c .before .before .before .before)), c .before .before .publishers-of .ensures)
+publisher-at-requires c κs = omega (arith, in-bounds-of rules law _ (no-damage (c .before .before .before .before)), c .before .before .publishers-of .ensures)
 
 sub-if5 : tie.Need-sub-if5
 sub-if5 c = search needs
@@ -87,26 +87,26 @@ same-length-3 c = search needs
 -- 33 too many looks
 returns-3 : tie.Need-returns-3
 unfolding step
-returns-3 c = rw (clean (c .before .before .before .before .before .before .before .before .before), lt-leb _ _ (rw (c .before .before .before .before .before .before .before .publishers-of .ensures) at (c .before .before .before .before .before .before .if4 .left)), walks-at _ (rw (c .before .before .before .before .publisher-at .ensures) at (c .before .before .before .match .keys1)), lt-ltb _ _ (full c)) refl
+returns-3 c = rw (no-damage (c .before .before .before .before .before .before .before .before .before), lt-leb _ _ (rw (c .before .before .before .before .before .before .before .publishers-of .ensures) at (c .before .before .before .before .before .before .if4 .left)), walks-at _ (rw (c .before .before .before .before .publisher-at .ensures) at (c .before .before .before .match .keys1)), lt-ltb _ _ (full c)) refl
 
 looked-at-requires : tie.Need-looked-at-requires
 looked-at-requires c κs = search needs
 
 indicator-of-requires : tie.Need-indicator-of-requires
-indicator-of-requires c κs = (in-bounds-of rules law _ (clean (c .before .before .before .before .before .before .before .before .before .before .before)) .long, rw (c .before .looked-at .ensures) (watched-low (c .before .before .before .before .before .before .publisher-at .result)))
+indicator-of-requires c κs = (in-bounds-of rules law _ (no-damage (c .before .before .before .before .before .before .before .before .before .before .before)) .long, rw (c .before .looked-at .ensures) (watched-low (c .before .before .before .before .before .before .publisher-at .result)))
 
 look-requires : tie.Need-look-requires
 look-requires c κs = (room (c .before .before .before), walker (c .before .before .before .before .before .before) .waits-low)
 
 end-walk-requires : tie.Need-end-walk-requires
-end-walk-requires c κs = (in-bounds-of rules law _ (clean (c .before .before .before .before .before .before .before .before .before .before .before .before .before .before)), rw (c .before .before .before .before .before .before .before .before .before .before .before .before .publishers-of .ensures) at (c .before .before .before .before .before .before .before .before .before .before .before .if4 .left), c .before .before .before .before .before .before .before .before .before .publisher-at .ensures)
+end-walk-requires c κs = (in-bounds-of rules law _ (no-damage (c .before .before .before .before .before .before .before .before .before .before .before .before .before .before)), rw (c .before .before .before .before .before .before .before .before .before .before .before .before .publishers-of .ensures) at (c .before .before .before .before .before .before .before .before .before .before .before .if4 .left), c .before .before .before .before .before .before .before .before .before .publisher-at .ensures)
 
 same-length-4 : tie.Need-same-length-4
 same-length-4 c = search needs
 
 -- what end_walk replies
 returns-4 : tie.Need-returns-4
-returns-4 c = walk-is fixed _ (clean (c .before .before .before .before .before .before .before .before .before .before .before .before .before .before .before .before .before)) _ _ _ (rw (c .before .before .before .before .before .before .before .before .before .before .before .before .before .before .before .publishers-of .ensures) at (c .before .before .before .before .before .before .before .before .before .before .before .before .before .before .if4 .left)) (c .before .before .before .before .before .before .before .before .before .before .before .before .publisher-at .ensures) _ _ (walks-at _ (c .before .before .before .before .before .before .before .before .before .before .before .match .keys1)) (room (c .before .before .before .before .before .before .before .before)) (rw (c .before .before .before .before .before .indicator-of .ensures, c .before .before .before .before .before .before .before .looked-at .ensures, c .before .before .before .before .before .before .before .before .before .before .before .before .publisher-at .ensures) at (c .before .before .before .before .look .ensures)) (c .before .before .end-walk .ensures (c .before .before .before .before .before .before .before .before .before .before .before .before .before .before .before .before .before .before .before .before .before .before .before .before .before .before .before .args .entries .now))
+returns-4 c = walk-is fixed _ (no-damage (c .before .before .before .before .before .before .before .before .before .before .before .before .before .before .before .before .before)) _ _ _ (rw (c .before .before .before .before .before .before .before .before .before .before .before .before .before .before .before .publishers-of .ensures) at (c .before .before .before .before .before .before .before .before .before .before .before .before .before .before .if4 .left)) (c .before .before .before .before .before .before .before .before .before .before .before .before .publisher-at .ensures) _ _ (walks-at _ (c .before .before .before .before .before .before .before .before .before .before .before .match .keys1)) (room (c .before .before .before .before .before .before .before .before)) (rw (c .before .before .before .before .before .indicator-of .ensures, c .before .before .before .before .before .before .before .looked-at .ensures, c .before .before .before .before .before .before .before .before .before .before .before .before .publisher-at .ensures) at (c .before .before .before .before .look .ensures)) (c .before .before .end-walk .ensures (c .before .before .before .before .before .before .before .before .before .before .before .before .before .before .before .before .before .before .before .before .before .before .before .before .before .before .before .args .entries .now))
 
 same-length-5 : tie.Need-same-length-5
 same-length-5 c = search needs
@@ -114,7 +114,7 @@ same-length-5 c = search needs
 -- 21 not this publisher's turn
 returns-5 : tie.Need-returns-5
 unfolding step
-returns-5 c = rw (clean (c .before .before .before .before .before .before), lt-leb _ _ (rw (c .before .before .before .before .publishers-of .ensures) at (c .before .before .before .if4 .left)), walks-not _ (rw (c .before .publisher-at .ensures) at (c .match .rest .1))) refl
+returns-5 c = rw (no-damage (c .before .before .before .before .before .before), lt-leb _ _ (rw (c .before .before .before .before .publishers-of .ensures) at (c .before .before .before .if4 .left)), walks-not _ (rw (c .before .publisher-at .ensures) at (c .match .rest .1))) refl
 
 pub walk-spec : {M : Type 1} → statement M
 walk-spec =

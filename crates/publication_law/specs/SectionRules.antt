@@ -7,13 +7,13 @@ use Rattle.calls.specs.declared.Call.{Call}
 use Rattle.calls.specs.declared.Call.the-variants.{Enter, Look, Leave, Claim, Write, Swap, Sync, Raise, Walk, Release}
 use Rattle.calls.specs.declared.Reply.the-variants.{At, Left}
 use Rattle.layout.specs.declared.Reader.{Reader}
-use Rattle.layout.specs.declared.Progress.{Progress}
+use Rattle.layout.specs.declared.WalkResult.{WalkResult}
 use Rattle.statement.specs.Machine.{State, state, Outcome, outcome}
 use Rattle.publication_law.specs.Steps.{enterTests, lookTests, look, leaveTests, claimTests, claim, writeTests, write, swapTests, swap, syncTests, sync, raiseTests, raise, walkTests, walk, releaseTests, release, makingTests, made}
 use Rattle.publication_law.specs.Damage.{DamageRules}
 use Rattle.publication_law.specs.Table.{Table}
 
-pub record Rules : Type 0 where
+pub record SectionRules : Type 0 where
   -- its number, its versions, and what damages a reader and a publisher
   pub damage : DamageRules
   -- what damages it besides
@@ -31,9 +31,9 @@ pub record Rules : Type 0 where
   pub raisesAt : ℕ → Bool
   pub walksAt : ℕ → Bool
   -- what a WALK of publisher p by up to b looks gives
-  pub looks : State → ℕ → ℕ → Progress
+  pub looks : State → ℕ → ℕ → WalkResult
 
-module _ (R : Rules) where
+module _ (R : SectionRules) where
   -- Each call's rows in the order of document 01's table ..
   abbrev testsBy : State → Call → List Test
   testsBy s (Enter r) = enterTests s r
@@ -61,13 +61,13 @@ module _ (R : Rules) where
   actBy s (Release p) = release s p
 
 -- It lacks no call.
-abbrev pub tableBy : Rules → Table
+abbrev pub tableBy : SectionRules → Table
 tableBy R = record {
   damage = R .damage;
   further = R .further;
   lacks = λ c. false;
   tests = testsBy R;
   act = actBy R;
-  makingRows = λ z s. makingTests (R .damage .versions) z s;
-  fresh = λ z s. made (R .damage .number) (R .freshReader) z s;
+  makingTests = λ z s. makingTests (R .damage .versions) z s;
+  freshStore = λ z s. made (R .damage .number) (R .freshReader) z s;
 }
