@@ -109,7 +109,7 @@ pub walk-facts-new : (s : State) (p b : ℕ) → kindWord (s .words) ≡ kindNum
 walk-facts-new s p b is = rw (step-named new s (Walk p b) is) (new-promises.new-walk-facts s p b)
 
 pub walk-facts-old : (s : State) (p b : ℕ) → kindWord (s .words) ≡ kindNumber old → accepted (anyStep s (Walk p b) .reply) ≡ true
-    → let result = old-store.looksOf s (publisher s p) b in WalkFacts s p result (LookFacts (indicator (s .words) (old-store.watched (publisher s p))) (publisher s p) b result) (anyStep s (Walk p b))
+    → let result = old-store.looksOf s (publisher s p) b in WalkFacts s p result (LookFacts (indicator (s .words) (old-store.lookedAt (publisher s p))) (publisher s p) b result) (anyStep s (Walk p b))
 walk-facts-old s p b is = rw (step-named old s (Walk p b) is) (old-promises.old-walk-facts s p b)
 
 -- What an accepted ENTER and an accepted LEAVE leave of the reader and, old, of the indicators, on words of each kind.

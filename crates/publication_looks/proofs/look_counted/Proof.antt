@@ -16,7 +16,7 @@ use prog.Wp.{Heap, Calls, Loops, WpFn, Tables}
 use ghost.Atoms.{Atoms, sem}
 use contract.Monad.{Fun, fact}
 use contract.Running.{givenOf, tables, tablesOf}
-use types.Kit.{Given, ‵, raw, _⊛_, some, later, _$_, _∵_, !, qed, by, move, keep, use1, use2, use3, split, join, choose, fsplit, fjoin, fpick, fpack, feqL, suffices, frame, await, done}
+use types.Kit.{Given, ‵, raw, _⊛_, some, later, _$_, _∵_, !, qed, by, move, keep, use1, use2, use3, split, join, pick, fsplit, fjoin, fpick, fpack, feqL, suffices, frame, await, done}
 use types.Run.{look, init, forget, stop, from, load, of-opd, and-then, no-more, addr, land, assigns, returns, enter, alloc1, alloc0, params1, pass1, pass0, free1, free0}
 use types.SemTy.{Body}
 use types.Tokens.{lft-new, lft-end}
@@ -116,12 +116,12 @@ module _ {M : Type 1} (𝓤 : URA M) (H : Heap 𝓤) (A : Atoms 𝓤) (W : Given
         -- the local is lent for a new lifetime
         owned ! B (Is B) (LL.makes T.the-type T′.the-plain 𝓤 H A) h _ is $ move ! (5 ∷ []) $ use1 W (‵ (cellAt fullShare (B .mir) (T′.lowered h ∷ []) l₄ 0)) (W .laws .at-raw fullShare T′.mir l₄ 0 (T′.lowered h)) $ use2 W (‵ (mem B .lies h l₄ 0)) (stands 𝓤 H A W h l₄) $
         lft-new ! tt (λ ν. move ! (1 ∷ []) $
-        use1 W (later (some (λ (δ : GName). ‵ (MutRef (named 0) (ν ∷ []) B .own (x l₄ δ) (vptr l₄ 0 ∷ [])) ⊛ ‵ (flent (ν ∷ []) (Body (mem B) l₄ 0 δ))))) (lends-ref 𝓤 H A W B (named 0) (ν ∷ []) h l₄ 0) $ await ! tt $ choose ! (λ δ. split ! $
+        use1 W (later (some (λ (δ : GName). ‵ (MutRef (named 0) (ν ∷ []) B .own (x l₄ δ) (vptr l₄ 0 ∷ [])) ⊛ ‵ (flent (ν ∷ []) (Body (mem B) l₄ 0 δ))))) (lends-ref 𝓤 H A W B (named 0) (ν ∷ []) h l₄ 0) $ await ! tt $ pick ! (λ δ. split ! $
         move ! (2 ∷ 0 ∷ []) $ use2 W (raw (CountLook 𝓤 H A at-mem run .pre (to-move ν l₄ δ))) (goes ν l₄ δ) $
         -- [pre; the lender's part; _6; …; _5; …; (_4's) …; _3; …; _2; …; _1; …; room for _0; …]
         calls-at ! fm (CountLook 𝓤 H A at-mem run) known (to-move ν l₄ δ) (and-then ! (load ! (from ! (stop !)) (look ! 2 refl)) (and-then ! (load ! (from ! (stop !)) (look ! 9 refl)) (and-then ! (load ! (from ! (stop !)) (look ! 7 refl)) (no-more !)))) (λ v.
-        use1 W (later (some (λ (u : Unit {0}). ((‵ (flft (ν ∷ []) fullShare) ⊛ ‵ ftrue) ⊛ ‵ (unit .own u (v ∷ []))) ⊛ raw (ensured 𝓤 H A count-look.ended (count-look.clauses 𝓤 H A at-mem run) (ν ∷ [], tt) (x l₄ δ, (p, (q, tt))) tt u)))) (id⊢ 𝓤 _) $ await ! tt $ choose ! (λ u.
-        split ! $ move ! (1 ∷ []) $ use1 W (some (λ (zs : WalkRecord × (Unit {0} × (Unit {0} × Unit {0}))). ‵ (lasts count-look.ended (ν ∷ [], tt) (x l₄ δ, (p, (q, tt))) zs) ⊛ raw (fact 𝓤 (zs .0 ≡ withLook h p q)))) (id⊢ 𝓤 _) $ choose ! (λ zs.
+        use1 W (later (some (λ (u : Unit {0}). ((‵ (flft (ν ∷ []) fullShare) ⊛ ‵ ftrue) ⊛ ‵ (unit .own u (v ∷ []))) ⊛ raw (ensured 𝓤 H A count-look.ended (count-look.clauses 𝓤 H A at-mem run) (ν ∷ [], tt) (x l₄ δ, (p, (q, tt))) tt u)))) (id⊢ 𝓤 _) $ await ! tt $ pick ! (λ u.
+        split ! $ move ! (1 ∷ []) $ use1 W (some (λ (zs : WalkRecord × (Unit {0} × (Unit {0} × Unit {0}))). ‵ (lasts count-look.ended (ν ∷ [], tt) (x l₄ δ, (p, (q, tt))) zs) ⊛ raw (fact 𝓤 (zs .0 ≡ withLook h p q)))) (id⊢ 𝓤 _) $ pick ! (λ zs.
         split ! $ move ! (1 ∷ []) $ heard ! (zs .0 ≡ withLook h p q) (λ e. fsplit ! $ move ! (2 ∷ []) $ split ! $ move ! (1 ∷ []) $ feqL ! (λ ve. split ! $
         land ! (from ! (stop !)) (init ! 7 refl (subst (λ (y : Val). Holds (hasTy tyUnit y) × WT y) (sym (ap only ve)) (tt, tt))) $
         -- the lifetime is ended, and the local comes back at the moved numbers
