@@ -11,6 +11,7 @@ ghost use Rattle.publication_law.specs.Table.{step, making};
 ghost use Rattle.grace_version_law.specs.Steps.{rules};
 use calls::Pitch;
 use calls::Reply;
+use grace_version_making::make;
 use grace_version_publishers::claim;
 use grace_version_publishers::release;
 use grace_version_publishers::swap;
@@ -18,7 +19,6 @@ use grace_version_publishers::write;
 use grace_version_readers::enter;
 use grace_version_readers::leave;
 use grace_version_readers::look;
-use grace_version_versions::make;
 use grace_version_versions::raise;
 use grace_version_versions::sync;
 use grace_version_walk::walk;
@@ -37,7 +37,7 @@ pub struct Stepped {
 
 impl GraceVersion {
     // The last version: 2^64 - 2.
-    pub const LAST: u64 = grace_version_damage::LAST;
+    pub const LAST: u64 = grace_version_law::LAST;
 
     // LAST is the number that the rules go by:
     // the versions of making, of SYNC and of the damage test are those up to it.

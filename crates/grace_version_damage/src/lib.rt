@@ -20,6 +20,7 @@ use calls::PLACE_RETURNED;
 use calls::PLACE_SYNCHRONISING;
 use calls::PUBLISHERS_MAX;
 use calls::READERS_MAX;
+use grace_version_law::LAST;
 use layout::WORDS;
 use layout::publisher_at;
 use layout::publisher_place;
@@ -28,10 +29,7 @@ use layout::reader_at;
 use layout::reader_place;
 use layout::readers_of;
 use layout::slots_of;
-use making::head_damaged_of_kind;
-
-// The last version: 2^64 - 2.
-pub const LAST: u64 = 18446744073709551614;
+use publication_damage::head_damaged_of_kind;
 
 // Whether reader r is damaged.
 fn reader_damaged(words: &[u64], r: usize, slots: u64) -> bool

@@ -33,11 +33,9 @@ pub fn make(
     let number = kind as u64;
     match number {
         KIND_NEW => {
-            grace_version_versions::make(words, entries, readers, publishers, slots, version)
+            grace_version_making::make(words, entries, readers, publishers, slots, version)
         }
-        KIND_OLD => {
-            two_phase_versions::make(words, entries, readers, publishers, slots, version)
-        }
+        KIND_OLD => { two_phase_making::make(words, entries, readers, publishers, slots, version) }
         _ => Reply::Refused(DAMAGED),
     }
 }

@@ -1,18 +1,16 @@
-// What the kinds share of making, and the test of the head that it leaves: for any words, any entries and any numbers.
+// What the kinds share of making: for any words, any entries and any numbers.
 // Its contracts cite publication_law.
 ghost use mathlib.Core.Path.{_≡_};
 ghost use mathlib.Core.List.{List};
 ghost use Prim.Native.Nat.{ℕ, _+_, _*_, _≤_};
 ghost use lib.IntN.{ℤ};
 ghost use lib.ListN.{length, replicate, take};
-ghost use lib.Dec.{ltb};
-ghost use Rattle.base.specs.Rows.{firstOf, anyTrue};
+ghost use Rattle.base.specs.Rows.{firstOf};
 ghost use Rattle.calls.specs.Numbers.{FEATHERED, TABLE};
 ghost use Rattle.calls.specs.declared.Reply.the-variants.{Made};
-ghost use Rattle.layout.specs.Layout.{version, blankReader};
+ghost use Rattle.layout.specs.Layout.{blankReader};
 ghost use Rattle.statement.specs.Machine.{state, outcome, given};
 ghost use Rattle.publication_law.specs.Steps.{Versions, decide, makingTests, made};
-ghost use Rattle.publication_law.specs.Damage.{DamageRules, headRows};
 use calls::BAD_ENTRIES;
 use calls::BAD_PUBLISHERS;
 use calls::BAD_READERS;
@@ -28,50 +26,7 @@ use calls::SLOTS_MAX;
 use calls::SLOTS_MIN;
 use calls::TABLE;
 use layout::WORDS;
-use layout::current_of;
-use layout::kind_of;
-use layout::publishers_of;
 use layout::put_fresh;
-use layout::readers_of;
-use layout::slots_of;
-use layout::version_of;
-
-// Whether the head damages a store of this kind, with so many entries, whose last version is given.
-pub fn head_damaged_of_kind(words: &[u64], entries: usize, kind: u64, last: u64) -> bool
-    ensures { λ b. ⌜ ((K : DamageRules) (es : List ℤ) → K .number ≡ kind →
-        K .versions .tooLarge (version (now (words .entry))) ≡ ltb last (version (now (words .entry))) →
-        length es ≡ entries →
-        b ≡ anyTrue (headRows K (state (now (words .entry)) es))) ⌝ }
-{
-    if words.len() != WORDS {
-        return true;
-    }
-    if kind_of(words) != kind {
-        return true;
-    }
-    let readers = readers_of(words);
-    if (readers < 1) | (readers > READERS_MAX as u64) {
-        return true;
-    }
-    let publishers = publishers_of(words);
-    if (publishers < 1) | (publishers > PUBLISHERS_MAX as u64) {
-        return true;
-    }
-    let slots = slots_of(words);
-    if (slots < SLOTS_MIN as u64) | (slots > SLOTS_MAX as u64) {
-        return true;
-    }
-    if entries / TABLE != slots as usize {
-        return true;
-    }
-    if entries % TABLE != 0 {
-        return true;
-    }
-    if current_of(words) >= slots {
-        return true;
-    }
-    version_of(words) > last
-}
 
 // Feathers the table at `base`, where all before it are feathered.
 fn feather_table(entries: &mut [Pitch], base: usize)

@@ -101,8 +101,8 @@ fn limit(which: usize) -> u64
         high,
         feathered,
         calls::NOT_READING,
-        grace_version_damage::LAST,
-        two_phase_damage::LAST,
+        grace_version_law::LAST,
+        two_phase_law::LAST,
     ];
     numbers[which]
 }

@@ -12,6 +12,7 @@ ghost use Rattle.two_phase_law.specs.Steps.{rules};
 use calls::Pitch;
 use calls::Reply;
 use layout::WORDS;
+use two_phase_making::make;
 use two_phase_publishers::claim;
 use two_phase_publishers::release;
 use two_phase_publishers::swap;
@@ -19,7 +20,6 @@ use two_phase_publishers::write;
 use two_phase_readers::enter;
 use two_phase_readers::leave;
 use two_phase_readers::look;
-use two_phase_versions::make;
 use two_phase_versions::raise;
 use two_phase_versions::sync;
 use two_phase_walk::walk;
@@ -37,7 +37,7 @@ pub struct Stepped {
 
 impl TwoPhase {
     // The last version: 2^63 - 1.
-    pub const LAST: u64 = two_phase_damage::LAST;
+    pub const LAST: u64 = two_phase_law::LAST;
 
     // LAST is the number that the rules go by:
     // the versions of making, of SYNC and of the damage test are those up to it.

@@ -31,10 +31,8 @@ use layout::reader_at;
 use layout::reader_place;
 use layout::readers_of;
 use layout::slots_of;
-use making::head_damaged_of_kind;
-
-// The last version: 2^63 - 1.
-pub const LAST: u64 = 9223372036854775807;
+use publication_damage::head_damaged_of_kind;
+use two_phase_law::LAST;
 
 // Whether one of the first n readers is damaged, or an indicator is unlike the number of them that added to it.
 fn first_readers_damaged(words: &[u64], n: u64, slots: u64) -> bool

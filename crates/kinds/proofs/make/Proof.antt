@@ -6,7 +6,7 @@ use Rattle.kinds.proofs.make.Statement.{statement}
 use Rattle.kinds.proofs.make.Tie as tie
 use Rattle.kinds.proofs.make.Reads as reads
 use Rattle.kinds.proofs.make.Lts as lts
-use Rattle.grace_version_versions.proofs.make.Reads as make-reads
+use Rattle.grace_version_making.proofs.make.Reads as make-reads
 
 make-requires : tie.Need-make-requires
 make-requires c κs = tt

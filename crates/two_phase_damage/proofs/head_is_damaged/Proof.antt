@@ -6,7 +6,7 @@ use Rattle.two_phase_damage.proofs.head_is_damaged.Statement.{statement
 use Rattle.two_phase_damage.proofs.head_is_damaged.Tie as tie
 use Rattle.two_phase_damage.proofs.head_is_damaged.Reads as reads
 use Rattle.two_phase_damage.proofs.head_is_damaged.Lts as lts
-use Rattle.making.proofs.head_damaged_of_kind.Reads as head-damaged-of-kind-reads
+use Rattle.publication_damage.proofs.head_damaged_of_kind.Reads as head-damaged-of-kind-reads
 
 head-damaged-of-kind-requires : tie.Need-head-damaged-of-kind-requires
 head-damaged-of-kind-requires c κs = search needs

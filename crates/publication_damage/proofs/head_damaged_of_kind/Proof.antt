@@ -5,10 +5,10 @@ use Prim.Native.Nat.{ℕ, _*_, _/_, _%_}
 use mathlib.Core.Path.{_≡_, refl, sym, ap, _∙_}
 use borrow.Author.Tests.{eq-eqb, ne-eqb, le-leb, lt-leb}
 use Rattle.base.specs.RowLaws.{or-none}
-use Rattle.making.proofs.head_damaged_of_kind.Statement.{statement}
-use Rattle.making.proofs.head_damaged_of_kind.Tie as tie
-use Rattle.making.proofs.head_damaged_of_kind.Reads as reads
-use Rattle.making.proofs.head_damaged_of_kind.Lts as lts
+use Rattle.publication_damage.proofs.head_damaged_of_kind.Statement.{statement}
+use Rattle.publication_damage.proofs.head_damaged_of_kind.Tie as tie
+use Rattle.publication_damage.proofs.head_damaged_of_kind.Reads as reads
+use Rattle.publication_damage.proofs.head_damaged_of_kind.Lts as lts
 use Rattle.layout.proofs.current_of.Reads as current-of-reads
 use Rattle.layout.proofs.kind_of.Reads as kind-of-reads
 use Rattle.layout.proofs.publishers_of.Reads as publishers-of-reads

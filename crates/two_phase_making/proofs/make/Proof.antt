@@ -2,11 +2,11 @@
 use borrow.Author.Needs.{needs}
 use mathlib.Core.Path.{refl}
 use Rattle.publication_law.specs.Table.{making}
-use Rattle.grace_version_law.specs.Steps.{versions}
-use Rattle.grace_version_versions.proofs.make.Statement.{statement}
-use Rattle.grace_version_versions.proofs.make.Tie as tie
-use Rattle.grace_version_versions.proofs.make.Reads as reads
-use Rattle.grace_version_versions.proofs.make.Lts as lts
+use Rattle.two_phase_law.specs.Steps.{versions}
+use Rattle.two_phase_making.proofs.make.Statement.{statement}
+use Rattle.two_phase_making.proofs.make.Tie as tie
+use Rattle.two_phase_making.proofs.make.Reads as reads
+use Rattle.two_phase_making.proofs.make.Lts as lts
 use Rattle.making.proofs.make_store.Reads as make-store-reads
 
 make-store-requires : tie.Need-make-store-requires
