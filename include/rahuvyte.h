@@ -4,7 +4,7 @@
    READERS (the blade loops) look pitches up. A reader never waits, and never sees parts of two tables.
 
    You lend the store two arrays and keep them for as long as you use it:
-     uint64_t store[RAHUVYTE_WORDS]                          its numbers (docs/LAYOUT.md); no need to look inside
+     uint64_t store[RAHUVYTE_WORDS]                          its numbers; no need to look inside
      rahuvyte_pitch entries[RAHUVYTE_ENTRIES(slots)]         its tables, one for each slot
    The library keeps nothing of its own: no allocation, no global data. Stores in different arrays know nothing of each other.
 
@@ -18,7 +18,9 @@
 
    One core: calls run one after another. They must not overlap on one store (no second thread, no call from an
    interrupt that came in the middle of another call). Every pointer must be good for the length given with it,
-   store and entries must not overlap, and a null pointer is allowed only with length 0. docs/C-INTERFACE.md has an example and tables.
+   store and entries must not overlap, and a null pointer is allowed only with length 0.
+
+   In the project's folder docs/C-INTERFACE.md has an example, tables and questions, and docs/LAYOUT.md the words of a store one by one.
 
    C99 or later, and C++11 or later. The archive is for x86-64 Linux. */
 #ifndef RAHUVYTE_H
@@ -71,7 +73,7 @@ typedef int16_t rahuvyte_pitch;
 
 /* ---- Places ---- */
 
-/* Where a reader stands: the value of a reply AT. */
+/* Where a reader stands. The reply AT has it, from 1 on. */
 enum {
     RAHUVYTE_PLACE_OUT = 0,          /* in no section, and not on the way into one */
     RAHUVYTE_PLACE_LOADED = 1,       /* on the way in: it has loaded the version */
@@ -81,7 +83,7 @@ enum {
     RAHUVYTE_PLACE_PICKED = 5        /* its section is open, with a table picked: LOOK is allowed */
 };
 
-/* Where a publisher stands. No reply has it: it is one of the store's words (docs/LAYOUT.md), for whoever looks there. */
+/* Where a publisher stands. No reply has it: it is one of the store's words, for whoever looks there. */
 enum {
     RAHUVYTE_PLACE_IDLE = 0,           /* it holds no slot */
     RAHUVYTE_PLACE_CLAIMED = 1,        /* 1 to 32: it holds the slot that it claimed, and has written place - 1 pitches */
@@ -111,7 +113,7 @@ enum {
     RAHUVYTE_CLAIMED = 104,  /* (slot) */
     RAHUVYTE_WRITTEN = 105,  /* (pitches written so far) */
     RAHUVYTE_SWAPPED = 106,  /* (the slot that was current until now) */
-    RAHUVYTE_SYNCED = 107,   /* (mark: the version that this wait is about) */
+    RAHUVYTE_SYNCED = 107,   /* (mark: the version plus 1) */
     RAHUVYTE_RAISED = 108,
     RAHUVYTE_SHARED = 109,
     RAHUVYTE_WAITING = 110,  /* (new: the reader waited for; old: the indicator, 0 or 1) */
@@ -123,7 +125,7 @@ enum {
 
 /* The numbers of refusals, below 100. A refused call has changed nothing. */
 enum {
-    RAHUVYTE_DAMAGED = 1,            /* no store: store_len is not 425, unknown kind; not at making: wrong entries_len, numbers out of range */
+    RAHUVYTE_DAMAGED = 1,            /* not a store: store_len is not 425, or unknown kind; in the ten calls also a wrong entries_len or a number out of its range */
     RAHUVYTE_BAD_READERS = 2,        /* making: readers not 1 to 64 */
     RAHUVYTE_BAD_PUBLISHERS = 3,     /* making: publishers not 1 to 16 */
     RAHUVYTE_BAD_SLOTS = 4,          /* making: slots not 2 to 32 */
@@ -134,8 +136,8 @@ enum {
     RAHUVYTE_NO_SUCH_SLOT = 12,
     RAHUVYTE_NO_SUCH_ENTRY = 13,     /* entry above 31 */
     RAHUVYTE_BAD_PITCH = 14,         /* pitch not -500 to 9500 */
-    RAHUVYTE_READER_TURN = 20,       /* not this reader's turn for this call */
-    RAHUVYTE_PUBLISHER_TURN = 21,    /* not this publisher's turn for this call */
+    RAHUVYTE_READER_TURN = 20,       /* the reader is at a place where this call is not allowed */
+    RAHUVYTE_PUBLISHER_TURN = 21,    /* the publisher is at a place where this call is not allowed */
     RAHUVYTE_SLOT_IN_USE = 30,       /* CLAIM: the slot is current, or a publisher holds it */
     RAHUVYTE_BUSY = 31,              /* CLAIM, old store: another publisher is publishing */
     RAHUVYTE_VERSION_IS_LAST = 32,   /* SYNC: no version is left */
@@ -208,7 +210,7 @@ struct rahuvyte_reply rahuvyte_make(uint64_t *store, size_t store_len, rahuvyte_
 
 /* All calls below take the store and entries as the call before left them, with the lengths that the store was made with.
    Each is refused with DAMAGED before anything else is tested if these are not a store: a store_len other than RAHUVYTE_WORDS,
-   an unknown kind, an entries_len other than slots x 32, or numbers out of their range (docs/LAYOUT.md). */
+   an unknown kind, an entries_len other than slots x 32, or numbers out of their range. */
 
 /* ---- Calls of a reader; r is its number, from 0 ---- */
 
@@ -258,8 +260,8 @@ struct rahuvyte_reply rahuvyte_sync(uint64_t *store, size_t store_len, const rah
    Refused: DAMAGED, NO_SUCH_PUBLISHER, PUBLISHER_TURN. */
 struct rahuvyte_reply rahuvyte_raise(uint64_t *store, size_t store_len, const rahuvyte_pitch *entries, size_t entries_len, uint16_t p);
 
-/* WALK: looks whether readers of the former table are still there, by at most b looks (the old store: at most one). b bounds
-   the time of this one call. Allowed after RAISE, in the old store also after SYNC.
+/* WALK: looks whether the readers that were in at SYNC have left (it may wait for some that came later), by at most b looks (the old
+   store: at most one). b bounds the time of this one call. Allowed after RAISE, in the old store also after SYNC.
    Reply: WAITING with the reader (old: the indicator) that is not past yet: call again later; SPENT: all b looks passed, readers are left,
    call again (with b = 0 nothing changes); QUIET (old store, before RAISE): go on with RAISE; RETURNED with looks and waits: every section that was
    open at SYNC has been left, go on with RELEASE.
