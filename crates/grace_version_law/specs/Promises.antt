@@ -128,7 +128,7 @@ waits-published z g s i p b r e =
 
 pub new-waits-for : (s : State) (f : Fresh GraceVersion s) (cs : List Call) (p b r : ℕ)
     → step rules (afterAll GraceVersion s cs) (Walk p b) .reply ≡ Walked (Waiting r) → PLACE-PUBLISHED ≤ tallyOf (events GraceVersion s cs) .place r
-new-waits-for s f cs p b r e = rw (← all-tally (ghost₀ (traits .every .first (f .arguments))) (events GraceVersion s cs)) (waits-published _ _ _ (new-reached s f cs) p b r e)
+new-waits-for s f cs p b r e = rw (← all-tally (ghost₀ (traits .every .firstTable (f .arguments))) (events GraceVersion s cs)) (waits-published _ _ _ (new-reached s f cs) p b r e)
 
 -- With more slots than publishers, an idle publisher always finds a free slot, and its claim of that slot is accepted.
 pub new-finds-free-slot : FindsFreeSlot GraceVersion

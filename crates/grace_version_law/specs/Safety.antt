@@ -156,8 +156,8 @@ onward-published ver cur x l = rw (ne-eqb (x .place) 0 (λ eq. omega arith), ne-
 -- Each of the kind's own steps keeps the invariant.
 module _ (z : Given) (g : Ghost) (s : State) (i : WholeInvariant damageRules (invariantOf detector) z g s) where
   -- What is shown of reader r as it is then and of the others.
-  shown-anew : (r : ℕ) (x : Reader) → Shown (version (s .words)) (readers (s .words)) r x → (r′ : ℕ) → Shown (version (s .words)) (readers (s .words)) r′ (upd (readerAt (s .words)) r x r′)
-  shown-anew r x was = at-or r (rw (same r) was) (λ r′ d. rw d (i .own .readers-are r′))
+  shown-after : (r : ℕ) (x : Reader) → Shown (version (s .words)) (readers (s .words)) r x → (r′ : ℕ) → Shown (version (s .words)) (readers (s .words)) r′ (upd (readerAt (s .words)) r x r′)
+  shown-after r x was = at-or r (rw (same r) was) (λ r′ d. rw d (i .own .readers-are r′))
 
   enter-kept : (r : ℕ) → AllClear (enterTests s r) → WholeInvariant damageRules (invariantOf detector) z (kept.ghostStep g (Enter r) (At (entered s r .place))) (state (withReader (s .words) r (entered s r)) (s .entries))
   enter-kept r f =
@@ -165,12 +165,12 @@ module _ (z : Given) (g : Ghost) (s : State) (i : WholeInvariant damageRules (in
       let l : reader s r .place ≤ PLACE-OPEN = let less = leb-false 5 (reader s r .place) (f .1 .0) in omega arith in
       enter-invariant detector damageRules law z g s i _ r (entered s r) (reader-moves (i .shared .every .no-damage) r (entered s r) lt)
       (none-true (readerRows (slots (s .words)) (entered s r)) (onward-fits _ _ _ (reader s r) _ l (i .shared .every .no-damage .head .current-below) (all-false (readerRows (slots (s .words)) (reader s r)) (i .shared .every .no-damage .readers-undamaged r lt))))
-      (shown-anew r _ (onward-shown _ _ _ _ (reader s r) _ l (i .own .readers-are r))) lt (onward-goes _ _ (reader s r) _ l)
+      (shown-after r _ (onward-shown _ _ _ _ (reader s r) _ l (i .own .readers-are r))) lt (onward-goes _ _ (reader s r) _ l)
       (λ four y behind. record { below = rw (onward-published (version (s .words)) (current (s .words)) (reader s r) four) (behind .below); unpassed = behind .unpassed })
 
   leave-kept : (r : ℕ) → AllClear (leaveTests s r) → WholeInvariant damageRules (invariantOf detector) z (kept.ghostStep g (Leave r) Left) (state (withReader (s .words) r (leaving (reader s r))) (s .entries))
   leave-kept r f = leave-invariant detector damageRules law z g s i _ r (leaving (reader s r)) (reader-moves (i .shared .every .no-damage) r (leaving (reader s r)) (leb-false _ _ (f .0))) refl
-      (shown-anew r _ (let was = i .own .readers-are r in record { first-low = was .first-low; second-low = was .second-low; shown = λ l′. absurd (omega arith); out = λ rn l′. refl })) refl
+      (shown-after r _ (let was = i .own .readers-are r in record { first-low = was .first-low; second-low = was .second-low; shown = λ l′. absurd (omega arith); out = λ rn l′. refl })) refl
 
   sync-kept : (p : ℕ) → AllClear (syncTests versions s p) → WholeInvariant damageRules (invariantOf detector) z (kept.ghostStep g (Sync p) (Synced (version (s .words) + 1))) (sync versions s p .after)
   sync-kept p f = sync-invariant detector damageRules law z g s i p f
@@ -304,6 +304,6 @@ kind-shows = record {
 
 -- The invariant after every list from fresh.
 pub new-reached : (s : State) (f : Fresh GraceVersion s) (cs : List Call)
-    → WholeInvariant damageRules (invariantOf detector) (f .arguments) (kept.afterEvents (kept.ghost₀ (traits .every .first (f .arguments))) (events GraceVersion s cs)) (afterAll GraceVersion s cs)
+    → WholeInvariant damageRules (invariantOf detector) (f .arguments) (kept.afterEvents (kept.ghost₀ (traits .every .firstTable (f .arguments))) (events GraceVersion s cs)) (afterAll GraceVersion s cs)
 unfolding kind-shows
 new-reached s f cs = reached fixed traits kind-shows s f cs

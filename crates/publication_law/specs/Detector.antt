@@ -132,7 +132,7 @@ module _ (D : Detector) where
             → D .Readers ver (readers (s .words)) (indicator (s .words)) (readerAt (s .words)) → invariantOf D g (state w′ (s .entries))
         to w′ ver m f = moved-own g g s w′ (s .entries) p _ _ _ _ (i .own) m (λ q r d. refl) (λ r e. still-behind r (i .own .behind p r e)) (λ _. rw passes (i .own .counted p low)) f
 
-    -- WALK, at 35 to 37: what its looks came to keeps the mark, counts them, and returns only where nobody is waited for.
+    -- WALK, at 35 to 37: the result of its looks keeps the mark, counts them, and returns only where nobody is waited for.
     module _ (p b : ℕ) (lt : p < publishers (s .words)) (low : PLACE-SYNCHRONISING ≤ publisher s p .place) (high : publisher s p .place ≤ PLACE-RAISED) (result : WalkResult)
         (waits-are : result .walk .waits ≡ waitsAfter (publisher s p .walk .waits) (result .reply)) (counted : result .walk .looks ≡ D .passed (walked (publisher s p) result) + result .walk .waits) where
       pub walk-invariant : (placeAfter (publisher s p .place) (result .reply) ≡ PLACE-RETURNED → (r : ℕ) → g .pend p r ≡ false) → result .walk .mark ≡ publisher s p .walk .mark → law .extraDamage (readers (s .words)) (walked (publisher s p) result) ≡ false
