@@ -31,13 +31,14 @@ use Rattle.publication_law.specs.DamageLaws.{Undamaged}
 use Rattle.publication_law.specs.KindLaw.{undamaged-publisher}
 use Rattle.publication_law.specs.Decide.{decide-why}
 use Rattle.publication_law.specs.KindShows.{WholeInvariant}
-use Rattle.publication_law.specs.Detector.{invariantOf}
+use Rattle.publication_law.specs.DetectorInvariant.{invariantOf}
 use Rattle.publication_law.specs.Promises.{Promises, promises-of, WalkFacts, walk-facts}
 use Rattle.publication_law.specs.FreeSlot.{finds-free-slot-of}
 use Rattle.grace_version_law.specs.Steps.{LAST, damageRules, lookedAt, looksOf, fixed, rules, GraceVersion}
 use Rattle.grace_version_law.specs.Traits.{traits}
 use Rattle.grace_version_law.specs.Walks.{Ends, LooksFacts, looks-facts, spent-if}
-use Rattle.grace_version_law.specs.Safety.{law, detector, next-below, kind-shows, new-reached}
+use Rattle.grace_version_law.specs.KindInvariant.{detector}
+use Rattle.grace_version_law.specs.Safety.{law, next-below, kind-shows, new-reached}
 
 pub new-promises : Promises rules traits
 new-promises = promises-of fixed traits kind-shows

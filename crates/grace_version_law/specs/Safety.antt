@@ -16,7 +16,7 @@ use Rattle.calls.specs.declared.Call.the-variants.{Enter, Leave, Sync, Raise, W
 use Rattle.calls.specs.declared.Reply.the-variants.{At, Left, Synced, Walked}
 use Rattle.calls.specs.declared.WalkReply.{WalkReply}
 use Rattle.calls.specs.declared.WalkReply.the-variants.{Waiting, Spent, Quiet, Returned}
-use Rattle.calls.specs.Numbers.{READERS-MAX, NOT-READING, KIND-NEW, PLACE-LOADED, PLACE-PUBLISHED, PLACE-OPEN, PLACE-PICKED, PLACE-SYNCHRONISING, PLACE-QUIET, PLACE-RAISED, PLACE-RETURNED}
+use Rattle.calls.specs.Numbers.{READERS-MAX, KIND-NEW, PLACE-OPEN, PLACE-PICKED, PLACE-SYNCHRONISING, PLACE-QUIET, PLACE-RAISED, PLACE-RETURNED}
 use Rattle.layout.specs.declared.Reader.{Reader}
 use Rattle.layout.specs.declared.Publisher.{Publisher}
 use Rattle.layout.specs.declared.WalkRecord.{WalkRecord}
@@ -35,9 +35,11 @@ use Rattle.publication_law.specs.Moves.{reader-moves}
 use Rattle.publication_law.specs.KindLaw.{KindLaw, up-to-law}
 use Rattle.publication_law.specs.Frames.{place-and-one}
 use Rattle.publication_law.specs.KindShows.{WholeInvariant, KindShows, reached}
-use Rattle.publication_law.specs.Detector.{Detector, invariantOf, start-own, early-own, enter-invariant, leave-invariant, sync-invariant, raise-invariant, walk-invariant, return-from-invariant}
+use Rattle.publication_law.specs.DetectorInvariant.{invariantOf}
+use Rattle.publication_law.specs.Detector.{start-own, early-own, enter-invariant, leave-invariant, sync-invariant, raise-invariant, walk-invariant, return-from-invariant}
 use Rattle.grace_version_law.specs.Steps.{LAST, versions, damageRules, readerRows, extraRows, onward, entered, leaving, lookedAt, looksOf, looksFrom, freshReader, fixed, GraceVersion}
 use Rattle.grace_version_law.specs.Traits.{traits}
+use Rattle.grace_version_law.specs.KindInvariant.{Shown, Behind, detector}
 use Rattle.grace_version_law.specs.Walks.{lookedAt-all, Ends, LooksFacts, looks-mark, looks-facts}
 
 -- What the kind adds to a publisher's rows, from facts and to them.
@@ -72,26 +74,6 @@ law = record {
   extra-rows = λ rs ss y. refl;
   extra-early = λ rs y l. extra-clear rs y (omega arith) (λ e. omega arith) (λ low high. absurd (omega arith));
   extra-beyond = λ rs y e. ltb-false 38 (y .place) (all-false (extraRows rs y) e .0);
-}
-
--- The kind's own numbers: what reader r of n published at a version, and which of them a walk has still to pass.
-pub record Shown (ver n r : ℕ) (x : Reader) : Type 0 where
-  pub first-low : x .first ≤ ver
-  pub second-low : x .second ≤ ver
-  pub shown : PLACE-PUBLISHED ≤ x .place → x .published ≤ ver
-  pub out : r < n → x .place ≤ PLACE-LOADED → x .published ≡ NOT-READING
-
--- A synchronise waits for a reader that published a version below its mark and that its walk has not passed.
-pub record Behind (n : ℕ) (x : Reader) (walk : WalkRecord) (r : ℕ) : Type 0 where
-  pub below : x .published < walk .mark
-  pub unpassed : (j : ℕ) → j < walk .next → lookedAt n j ≢ r
-
-abbrev pub detector : Detector
-detector = record {
-  Behind = λ n x y r. Behind n x (y .walk) r;
-  early = λ n x y y′ r e low behind. rw e behind;
-  passed = λ y. y .walk .next;
-  Readers = λ ver n ind X. (r : ℕ) → Shown ver n r (X r);
 }
 
 -- ENTER, by the place.
@@ -193,7 +175,7 @@ module _ (z : Given) (g : Ghost) (s : State) (i : WholeInvariant damageRules (in
 
     -- A reader waited for has not been passed.
     still-behind : (r : ℕ) → g .pend p r ≡ true → Behind (readers (s .words)) (reader s r) (looksOf s (publisher s p .walk) b .walk) r
-    still-behind r e = let was = i .own .behind p r e in record {
+    still-behind r e = let was = i .own .waited-for p r e in record {
       below = rw (came .mark-same) (was .below);
       unpassed = λ j l e′. old was j l e′ (ltb j (publisher s p .walk .next)) refl;
     }
