@@ -61,7 +61,7 @@ walkOf (Walked walked) = some walked
 walkOf (Freed slot n) = none
 walkOf (Refused n) = none
 
--- A fold over events, of which only the accepted ones move it.
+-- One event: an accepted one moves the value by f, a refused one leaves it. Then all, in order.
 abbrev pub movedBy : {A : Type 0} → (A → Call → Reply → A) → A → Event → A
 movedBy f now (c ⇒ a) = choose (accepted a) (f now c a) now
 

@@ -51,7 +51,7 @@ afterClaim t p slot = record {
   picked = t .picked;
   current = t .current;
   lastClaim = upd (t .lastClaim) p (some slot);
-  claimed = upd (t .claimed) p (λ x. eqb slot x || t .claimed p x);
+  claimed = upd (t .claimed) p (λ other. eqb slot other || t .claimed p other);
   former = t .former;
 }
 

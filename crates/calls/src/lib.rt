@@ -1,9 +1,10 @@
-// The vocabulary of the store: calls, replies, limits and refusal numbers, as document 01 names them.
+// The vocabulary of the store: calls, replies, limits, places, refusal numbers and codes, as document 01 names them.
 // specs/: what the calls alone tell, document 01's plain shelf, a reply's numbers for C.
 
-// A pitch, in hundredths of a degree, and half of the numbers that its type holds: the size of the least.
+// A pitch, in hundredths of a degree.
 pub type Pitch = i16;
 
+// 2^15, the size of the least number of the type.
 pub const PITCH_HALF: u64 = 32768;
 
 // Its range.
@@ -134,7 +135,7 @@ pub enum Call {
     // r, and the entry k
     Look(u16, u16),
     Leave(u16),
-    // p, and the slot s
+    // p, and the slot
     Claim(u16, u16),
     // p, and the pitch v
     Write(u16, Pitch),
@@ -146,7 +147,7 @@ pub enum Call {
     Release(u16),
 }
 
-// What a walk answers.
+// What a walk replies.
 pub enum WalkReply {
     // the reader (new) or the indicator (old) that it waits for
     Waiting(u64),

@@ -1,5 +1,6 @@
 pub mod Steps
 pub mod Traits
+pub mod KindInvariant
 pub mod Walks
 pub mod Safety
 pub mod Promises

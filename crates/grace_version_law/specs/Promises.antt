@@ -31,13 +31,14 @@ use Rattle.publication_law.specs.DamageLaws.{Undamaged}
 use Rattle.publication_law.specs.KindLaw.{undamaged-publisher}
 use Rattle.publication_law.specs.Decide.{decide-why}
 use Rattle.publication_law.specs.KindShows.{WholeInvariant}
-use Rattle.publication_law.specs.Detector.{invariantOf}
+use Rattle.publication_law.specs.DetectorInvariant.{invariantOf}
 use Rattle.publication_law.specs.Promises.{Promises, promises-of, WalkFacts, walk-facts}
 use Rattle.publication_law.specs.FreeSlot.{finds-free-slot-of}
 use Rattle.grace_version_law.specs.Steps.{LAST, damageRules, lookedAt, looksOf, fixed, rules, GraceVersion}
 use Rattle.grace_version_law.specs.Traits.{traits}
 use Rattle.grace_version_law.specs.Walks.{Ends, LooksFacts, looks-facts, spent-if}
-use Rattle.grace_version_law.specs.Safety.{law, detector, next-below, kind-shows, new-reached}
+use Rattle.grace_version_law.specs.KindInvariant.{detector}
+use Rattle.grace_version_law.specs.Safety.{law, next-below, kind-shows, new-reached}
 
 pub new-promises : Promises rules traits
 new-promises = promises-of fixed traits kind-shows
@@ -128,7 +129,7 @@ waits-published z g s i p b r e =
 
 pub new-waits-for : (s : State) (f : Fresh GraceVersion s) (cs : List Call) (p b r : ℕ)
     → step rules (afterAll GraceVersion s cs) (Walk p b) .reply ≡ Walked (Waiting r) → PLACE-PUBLISHED ≤ tallyOf (events GraceVersion s cs) .place r
-new-waits-for s f cs p b r e = rw (← all-tally (ghost₀ (traits .every .first (f .arguments))) (events GraceVersion s cs)) (waits-published _ _ _ (new-reached s f cs) p b r e)
+new-waits-for s f cs p b r e = rw (← all-tally (ghost₀ (traits .every .firstTable (f .arguments))) (events GraceVersion s cs)) (waits-published _ _ _ (new-reached s f cs) p b r e)
 
 -- With more slots than publishers, an idle publisher always finds a free slot, and its claim of that slot is accepted.
 pub new-finds-free-slot : FindsFreeSlot GraceVersion

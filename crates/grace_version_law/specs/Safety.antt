@@ -16,7 +16,7 @@ use Rattle.calls.specs.declared.Call.the-variants.{Enter, Leave, Sync, Raise, W
 use Rattle.calls.specs.declared.Reply.the-variants.{At, Left, Synced, Walked}
 use Rattle.calls.specs.declared.WalkReply.{WalkReply}
 use Rattle.calls.specs.declared.WalkReply.the-variants.{Waiting, Spent, Quiet, Returned}
-use Rattle.calls.specs.Numbers.{READERS-MAX, NOT-READING, KIND-NEW, PLACE-LOADED, PLACE-PUBLISHED, PLACE-OPEN, PLACE-PICKED, PLACE-SYNCHRONISING, PLACE-QUIET, PLACE-RAISED, PLACE-RETURNED}
+use Rattle.calls.specs.Numbers.{READERS-MAX, KIND-NEW, PLACE-OPEN, PLACE-PICKED, PLACE-SYNCHRONISING, PLACE-QUIET, PLACE-RAISED, PLACE-RETURNED}
 use Rattle.layout.specs.declared.Reader.{Reader}
 use Rattle.layout.specs.declared.Publisher.{Publisher}
 use Rattle.layout.specs.declared.WalkRecord.{WalkRecord}
@@ -35,9 +35,11 @@ use Rattle.publication_law.specs.Moves.{reader-moves}
 use Rattle.publication_law.specs.KindLaw.{KindLaw, up-to-law}
 use Rattle.publication_law.specs.Frames.{place-and-one}
 use Rattle.publication_law.specs.KindShows.{WholeInvariant, KindShows, reached}
-use Rattle.publication_law.specs.Detector.{Detector, invariantOf, start-own, early-own, enter-invariant, leave-invariant, sync-invariant, raise-invariant, walk-invariant, return-from-invariant}
+use Rattle.publication_law.specs.DetectorInvariant.{invariantOf}
+use Rattle.publication_law.specs.Detector.{start-own, early-own, enter-invariant, leave-invariant, sync-invariant, raise-invariant, walk-invariant, return-from-invariant}
 use Rattle.grace_version_law.specs.Steps.{LAST, versions, damageRules, readerRows, extraRows, onward, entered, leaving, lookedAt, looksOf, looksFrom, freshReader, fixed, GraceVersion}
 use Rattle.grace_version_law.specs.Traits.{traits}
+use Rattle.grace_version_law.specs.KindInvariant.{Shown, Behind, detector}
 use Rattle.grace_version_law.specs.Walks.{lookedAt-all, Ends, LooksFacts, looks-mark, looks-facts}
 
 -- What the kind adds to a publisher's rows, from facts and to them.
@@ -72,26 +74,6 @@ law = record {
   extra-rows = λ rs ss y. refl;
   extra-early = λ rs y l. extra-clear rs y (omega arith) (λ e. omega arith) (λ low high. absurd (omega arith));
   extra-beyond = λ rs y e. ltb-false 38 (y .place) (all-false (extraRows rs y) e .0);
-}
-
--- The kind's own numbers: what reader r of n published at a version, and which of them a walk has still to pass.
-pub record Shown (ver n r : ℕ) (x : Reader) : Type 0 where
-  pub first-low : x .first ≤ ver
-  pub second-low : x .second ≤ ver
-  pub shown : PLACE-PUBLISHED ≤ x .place → x .published ≤ ver
-  pub out : r < n → x .place ≤ PLACE-LOADED → x .published ≡ NOT-READING
-
--- A synchronise waits for a reader that published a version below its mark and that its walk has not passed.
-pub record Behind (n : ℕ) (x : Reader) (walk : WalkRecord) (r : ℕ) : Type 0 where
-  pub below : x .published < walk .mark
-  pub unpassed : (j : ℕ) → j < walk .next → lookedAt n j ≢ r
-
-abbrev pub detector : Detector
-detector = record {
-  Behind = λ n x y r. Behind n x (y .walk) r;
-  early = λ n x y y′ r e low behind. rw e behind;
-  passed = λ y. y .walk .next;
-  Readers = λ ver n ind X. (r : ℕ) → Shown ver n r (X r);
 }
 
 -- ENTER, by the place.
@@ -156,8 +138,8 @@ onward-published ver cur x l = rw (ne-eqb (x .place) 0 (λ eq. omega arith), ne-
 -- Each of the kind's own steps keeps the invariant.
 module _ (z : Given) (g : Ghost) (s : State) (i : WholeInvariant damageRules (invariantOf detector) z g s) where
   -- What is shown of reader r as it is then and of the others.
-  shown-anew : (r : ℕ) (x : Reader) → Shown (version (s .words)) (readers (s .words)) r x → (r′ : ℕ) → Shown (version (s .words)) (readers (s .words)) r′ (upd (readerAt (s .words)) r x r′)
-  shown-anew r x was = at-or r (rw (same r) was) (λ r′ d. rw d (i .own .readers-are r′))
+  shown-after : (r : ℕ) (x : Reader) → Shown (version (s .words)) (readers (s .words)) r x → (r′ : ℕ) → Shown (version (s .words)) (readers (s .words)) r′ (upd (readerAt (s .words)) r x r′)
+  shown-after r x was = at-or r (rw (same r) was) (λ r′ d. rw d (i .own .readers-are r′))
 
   enter-kept : (r : ℕ) → AllClear (enterTests s r) → WholeInvariant damageRules (invariantOf detector) z (kept.ghostStep g (Enter r) (At (entered s r .place))) (state (withReader (s .words) r (entered s r)) (s .entries))
   enter-kept r f =
@@ -165,12 +147,12 @@ module _ (z : Given) (g : Ghost) (s : State) (i : WholeInvariant damageRules (in
       let l : reader s r .place ≤ PLACE-OPEN = let less = leb-false 5 (reader s r .place) (f .1 .0) in omega arith in
       enter-invariant detector damageRules law z g s i _ r (entered s r) (reader-moves (i .shared .every .no-damage) r (entered s r) lt)
       (none-true (readerRows (slots (s .words)) (entered s r)) (onward-fits _ _ _ (reader s r) _ l (i .shared .every .no-damage .head .current-below) (all-false (readerRows (slots (s .words)) (reader s r)) (i .shared .every .no-damage .readers-undamaged r lt))))
-      (shown-anew r _ (onward-shown _ _ _ _ (reader s r) _ l (i .own .readers-are r))) lt (onward-goes _ _ (reader s r) _ l)
+      (shown-after r _ (onward-shown _ _ _ _ (reader s r) _ l (i .own .readers-are r))) lt (onward-goes _ _ (reader s r) _ l)
       (λ four y behind. record { below = rw (onward-published (version (s .words)) (current (s .words)) (reader s r) four) (behind .below); unpassed = behind .unpassed })
 
   leave-kept : (r : ℕ) → AllClear (leaveTests s r) → WholeInvariant damageRules (invariantOf detector) z (kept.ghostStep g (Leave r) Left) (state (withReader (s .words) r (leaving (reader s r))) (s .entries))
   leave-kept r f = leave-invariant detector damageRules law z g s i _ r (leaving (reader s r)) (reader-moves (i .shared .every .no-damage) r (leaving (reader s r)) (leb-false _ _ (f .0))) refl
-      (shown-anew r _ (let was = i .own .readers-are r in record { first-low = was .first-low; second-low = was .second-low; shown = λ l′. absurd (omega arith); out = λ rn l′. refl })) refl
+      (shown-after r _ (let was = i .own .readers-are r in record { first-low = was .first-low; second-low = was .second-low; shown = λ l′. absurd (omega arith); out = λ rn l′. refl })) refl
 
   sync-kept : (p : ℕ) → AllClear (syncTests versions s p) → WholeInvariant damageRules (invariantOf detector) z (kept.ghostStep g (Sync p) (Synced (version (s .words) + 1))) (sync versions s p .after)
   sync-kept p f = sync-invariant detector damageRules law z g s i p f
@@ -193,7 +175,7 @@ module _ (z : Given) (g : Ghost) (s : State) (i : WholeInvariant damageRules (in
 
     -- A reader waited for has not been passed.
     still-behind : (r : ℕ) → g .pend p r ≡ true → Behind (readers (s .words)) (reader s r) (looksOf s (publisher s p .walk) b .walk) r
-    still-behind r e = let was = i .own .behind p r e in record {
+    still-behind r e = let was = i .own .waited-for p r e in record {
       below = rw (came .mark-same) (was .below);
       unpassed = λ j l e′. old was j l e′ (ltb j (publisher s p .walk .next)) refl;
     }
@@ -304,6 +286,6 @@ kind-shows = record {
 
 -- The invariant after every list from fresh.
 pub new-reached : (s : State) (f : Fresh GraceVersion s) (cs : List Call)
-    → WholeInvariant damageRules (invariantOf detector) (f .arguments) (kept.afterEvents (kept.ghost₀ (traits .every .first (f .arguments))) (events GraceVersion s cs)) (afterAll GraceVersion s cs)
+    → WholeInvariant damageRules (invariantOf detector) (f .arguments) (kept.afterEvents (kept.ghost₀ (traits .every .firstTable (f .arguments))) (events GraceVersion s cs)) (afterAll GraceVersion s cs)
 unfolding kind-shows
 new-reached s f cs = reached fixed traits kind-shows s f cs

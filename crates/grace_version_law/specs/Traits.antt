@@ -11,7 +11,7 @@ use Rattle.statement.specs.Companions.{GraceTraits}
 abbrev pub traits : GraceTraits
 traits = record {
   every = record {
-    first = λ z. firstTable;
+    firstTable = λ z. firstTable;
     last = 18446744073709551614;
     lacks = λ c. false;
     exclusive = false;

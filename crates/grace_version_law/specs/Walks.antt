@@ -15,14 +15,14 @@ use Rattle.layout.specs.Layout.{readerAt}
 use Rattle.publication_law.specs.GraceKeeps.{waitsAfter}
 use Rattle.grace_version_law.specs.Steps.{lookedAt, walkResult, looksFrom}
 
--- A walk comes to each reader.
+-- A walk looks at each reader.
 pub lookedAt-all : (n r : ℕ) → r < n → (i : ℕ) × (i < n) × (lookedAt n i ≡ r)
 lookedAt-all n r l = (r, l, refl)
 
 not-below : (i j n : ℕ) → n ≤ j → ltb i j ≡ false → n ≤ i
 not-below i j n l e = omega (arith, ltb-false i j e)
 
--- What an answer says of the numbers that it comes with, in a walk that began at `start` with up to b looks:
+-- What a reply says of the numbers that it comes with, in a walk that began at `start` with up to b looks:
 -- waiting names the reader looked at last, which did not pass; spent that b looks all passed and next is still below the count; returned that all passed.
 abbrev pub Ends : List ℕ → ℕ → ℕ → ℕ → ℕ → ℕ → ℕ → ℕ → WalkReply → Type 0
 Ends w n mark start b next looks waits (Waiting r) = (next < n) × (next < start + b) × (r ≡ lookedAt n next) × (readerAt w r .published < mark)

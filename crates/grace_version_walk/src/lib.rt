@@ -2,7 +2,7 @@
 ghost use mathlib.Core.Path.{_≡_};
 ghost use Prim.Native.Nat.{_+_, _<_, _≤_};
 ghost use lib.ListN.{length};
-ghost use Rattle.calls.specs.declared.Call.the-variants.{Walk as WALK};
+ghost use Rattle.calls.specs.declared.Call.the-variants.{Walk};
 ghost use Rattle.calls.specs.Numbers.{READERS-MAX, NUMBER-MAX};
 ghost use Rattle.layout.specs.Layout.{WORDS};
 ghost use Rattle.statement.specs.Machine.{state, outcome};
@@ -40,7 +40,7 @@ fn looked_at(n: u64, passed: u64) -> u64
 fn looks(words: &[u64], n: u64, walk: WalkRecord, b: u16) -> WalkResult
     requires { ⌜ (length (now words) ≡ WORDS) × (n ≤ READERS-MAX)
         × (walk .next < n) × (walk .looks + b ≤ NUMBER-MAX) × (walk .waits ≤ walk .looks) ⌝ }
-    ensures { λ k. ⌜ k ≡ looksFrom (now (words .entry)) n (walk .mark) (walk .waits) b (walk .next) (walk .looks) ⌝ }
+    ensures { λ result. ⌜ result ≡ looksFrom (now (words .entry)) n (walk .mark) (walk .waits) b (walk .next) (walk .looks) ⌝ }
 {
     let mut moved = walk;
     let mut left = b as u64;
@@ -69,7 +69,7 @@ fn looks(words: &[u64], n: u64, walk: WalkRecord, b: u16) -> WalkResult
 // WALK p b (place 37): up to b looks at the readers that are still to pass.
 pub fn walk(words: &mut [u64], entries: &[Pitch], p: u16, b: u16) -> Reply
     ensures { λ a. ⌜ outcome a (state (now (words .exit)) (now (entries .entry)))
-        ≡ step rules (state (now (words .entry)) (now (entries .entry))) (WALK p b) ⌝ }
+        ≡ step rules (state (now (words .entry)) (now (entries .entry))) (Walk p b) ⌝ }
 {
     if head_is_damaged(words, entries.len())
         || readers_are_damaged(words)

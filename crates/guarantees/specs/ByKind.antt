@@ -26,9 +26,9 @@ use Rattle.publication_law.specs.Calls.{undamaged-facts}
 use Rattle.publication_law.specs.Frames.{same-framed}
 use Rattle.publication_law.specs.Promises.{Promises}
 use Rattle.grace_version_law.specs.Traits as new-traits
-use Rattle.grace_version_law.specs.Promises as new-store
+use Rattle.grace_version_law.specs.Promises as new-law
 use Rattle.two_phase_law.specs.Traits as old-traits
-use Rattle.two_phase_law.specs.Promises as old-store
+use Rattle.two_phase_law.specs.Promises as old-law
 use Rattle.kinds_law.specs.Kinds.{Kind, tableOf, kindNumber, stepOf, makingOf, store}
 use Rattle.kinds_law.specs.Kinds.Kind.{new, old}
 use Rattle.kinds_law.specs.Calls.{number-is, step-named, making-named, making-unknown}
@@ -42,12 +42,12 @@ traits new = new-traits.traits
 traits old = old-traits.traits
 
 pub kind-promises : (kind : Kind) → Promises (tableOf kind) (traits kind)
-kind-promises new = new-store.new-promises
-kind-promises old = old-store.old-promises
+kind-promises new = new-law.new-promises
+kind-promises old = old-law.old-promises
 
 pub kind-demand3 : (kind : Kind) → Demand3 (storeOf kind) (λ z. firstTable)
-kind-demand3 new = new-store.new-demand3
-kind-demand3 old = old-store.old-demand3
+kind-demand3 new = new-law.new-demand3
+kind-demand3 old = old-law.old-demand3
 
 -- The store of a kind's number is alike.
 pub alike : (kind : Kind) → Alike (storeOf kind) (store (kindNumber kind))

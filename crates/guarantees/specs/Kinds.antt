@@ -53,7 +53,7 @@ pub none-lacked : (kind : Kind) (c : Call) → traits kind .every .lacks c ≡ f
 none-lacked new c = refl
 none-lacked old c = refl
 
--- Its companions: never damaged, order, counts, whole tables, readers never wait, claims, publishers get on, releases.
+-- Its companions: never damaged, order, counts, whole tables, readers never wait, claims, publishers make progress, releases.
 pub companions : (kind : Kind) → GraceCompanions (store (kindNumber kind)) (traits kind)
 companions kind = grace-companions-alike (storeOf kind) (store (kindNumber kind)) (alike kind) (traits kind) (kind-promises kind .companions)
 
@@ -95,7 +95,7 @@ representable-making n = chosen-representable-making (kindOfNumber n)
 pub zero-store-damaged : (kind : Kind) (entries : List ℤ) → damaged (tableOf kind) (state (replicate WORDS 0) entries) ≡ true
 zero-store-damaged kind entries = zero-damaged (tableOf kind) entries
 
--- The new store may not refuse another publisher as busy: a claim on an undamaged one, reached or not, is refused only for a wrong name, a wrong turn or a slot in use.
+-- The new store may not refuse another publisher as busy: a claim on an undamaged one, whether or not a list of calls leads to it, is refused only for a wrong name, a wrong turn or a slot in use.
 pub claim-refusals : (s : State) (p slot n : ℕ) → damaged (tableOf new) s ≡ false → anyStep s (Claim p slot) .reply ≡ Refused n → new-promises.ClaimRefusal s p slot n
 claim-refusals s p slot n no-damage e = new-promises.new-claim-refusals s p slot n no-damage (rw (step-named new s (Claim p slot) (undamaged-facts (tableOf new) s no-damage .head .kind-is)) at e)
 

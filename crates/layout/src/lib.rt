@@ -83,7 +83,7 @@ pub struct Publisher {
     pub walk: WalkRecord,
 }
 
-// What a walk came to: its numbers after its looks, and its answer.
+// A walk's numbers after its looks, and its reply.
 pub struct WalkResult {
     pub walk: WalkRecord,
     pub reply: WalkReply,
@@ -209,7 +209,7 @@ pub fn put_reader(words: &mut [u64], r: usize, x: Reader)
 
 pub fn publisher_at(words: &[u64], p: usize) -> Publisher
     requires { ⌜ (length (now words) ≡ WORDS) × (p < PUBLISHERS-MAX) ⌝ }
-    ensures { λ x. ⌜ x ≡ publisherAt (now (words .entry)) p ⌝ }
+    ensures { λ y. ⌜ y ≡ publisherAt (now (words .entry)) p ⌝ }
 {
     let b = FIRST_PUBLISHER + PUBLISHER_WORDS * p;
     let walk = WalkRecord {
@@ -233,17 +233,17 @@ pub fn publisher_place(words: &[u64], p: usize) -> u64
     words[FIRST_PUBLISHER + PUBLISHER_WORDS * p + PLACE]
 }
 
-pub fn put_publisher(words: &mut [u64], p: usize, x: Publisher)
+pub fn put_publisher(words: &mut [u64], p: usize, y: Publisher)
     requires { ⌜ (length (now words) ≡ WORDS) × (p < PUBLISHERS-MAX) ⌝ }
-    ensures { λ _. ⌜ now (words .exit) ≡ withPublisher (now (words .entry)) p x ⌝ }
+    ensures { λ _. ⌜ now (words .exit) ≡ withPublisher (now (words .entry)) p y ⌝ }
 {
     let b = FIRST_PUBLISHER + PUBLISHER_WORDS * p;
-    words[b + PLACE] = x.place;
-    words[b + HELD] = x.held;
-    words[b + MARK] = x.walk.mark;
-    words[b + NEXT] = x.walk.next;
-    words[b + LOOKS] = x.walk.looks;
-    words[b + WAITS] = x.walk.waits;
+    words[b + PLACE] = y.place;
+    words[b + HELD] = y.held;
+    words[b + MARK] = y.walk.mark;
+    words[b + NEXT] = y.walk.next;
+    words[b + LOOKS] = y.walk.looks;
+    words[b + WAITS] = y.walk.waits;
 }
 
 // Every word 0.

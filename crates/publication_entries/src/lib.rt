@@ -1,6 +1,6 @@
 // LOOK and WRITE of words that are not damaged, which the kinds share: the calls that read or store an entry.
 // A kind tests for damage first, and asks nothing of its own callers.
-// Its contracts cite publication_law.
+// The contracts cite publication_law.
 ghost use mathlib.Core.Path.{_≡_};
 ghost use mathlib.Core.Bool.{_||_};
 ghost use Prim.Native.Nat.{_*_};

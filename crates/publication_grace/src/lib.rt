@@ -1,7 +1,7 @@
 // SYNC, RAISE and the end of a WALK of words that are not damaged, which the kinds share:
 // a publisher's wait for a grace period.
 // A kind tests for damage first, and asks nothing of its own callers.
-// Its contracts cite publication_law.
+// The contracts cite publication_law.
 ghost use mathlib.Core.Path.{_≡_};
 ghost use mathlib.Core.List.{List};
 ghost use Prim.Native.Nat.{_+_, _%_, _<_};
@@ -87,7 +87,7 @@ pub fn raise_version(words: &mut [u64], p: usize, y: Publisher, before: u64) -> 
     Reply::Shared
 }
 
-// Where a walk's answer leaves a publisher that is at this place.
+// The place after a walk's reply, of a publisher that is at this place.
 fn place_after(place: u64, reply: WalkReply) -> u64
     ensures { λ n. ⌜ n ≡ placeAfter place reply ⌝ }
 {
@@ -99,14 +99,14 @@ fn place_after(place: u64, reply: WalkReply) -> u64
     }
 }
 
-// The end of a WALK of publisher p, whose record is y: what its looks came to is recorded, and answered.
-pub fn end_walk(words: &mut [u64], p: usize, y: Publisher, k: WalkResult) -> Reply
+// The end of a WALK of publisher p, whose record is y: the result of its looks is recorded, and its reply given.
+pub fn end_walk(words: &mut [u64], p: usize, y: Publisher, result: WalkResult) -> Reply
     requires { ⌜ InBounds (now words) × (p < publishers (now words)) × (y ≡ publisherAt (now words) p) ⌝ }
     ensures { λ a. ⌜ ((es : List ℤ) → outcome a (state (now (words .exit)) es)
-        ≡ walk (state (now (words .entry)) es) p k) ⌝ }
+        ≡ walk (state (now (words .entry)) es) p result) ⌝ }
 {
-    let reply = k.reply;
-    let walk = k.walk;
+    let reply = result.reply;
+    let walk = result.walk;
     let mut moved = y;
     moved.place = place_after(y.place, reply);
     moved.walk = walk;

@@ -1,4 +1,4 @@
--- The damage test (document 01's spoiled), as rows: its shared part, and where a kind adds its own.
+-- The damage test, as rows: its shared part, and where a kind adds its own.
 use Prim.Native.Nat.{ℕ, _*_}
 use mathlib.Core.Bool.{Bool, not, _&&_, _||_}
 use mathlib.Core.List.{List, [], _∷_}

@@ -124,6 +124,6 @@ module _ (publishes : Bool) (K : DamageRules) (s : State) (f : Undamaged K s) wh
   pub release-framed : (p : ℕ) → AllClear (releaseTests s p) → Framed publishes (Release p) (s .words) (release s p .after .words)
   release-framed p ok = head-framed (Release p) p _ RELEASES-AT (oneMore s) (leb-false _ _ (ok .0)) (omega arith) (omega arith) refl refl (place-only _ _ _)
 
--- A WALK leaves its publisher's record with what its looks came to.
+-- A WALK leaves its publisher's record with the result of its looks.
 pub walk-record : (K : DamageRules) (s : State) → Undamaged K s → (p : ℕ) → p < publishers (s .words) → (result : WalkResult) → publisher (walk s p result .after) p ≡ walked (publisher s p) result
 walk-record K s f p lt result = publisher-written (publisher-moves f p (walked (publisher s p) result) lt)

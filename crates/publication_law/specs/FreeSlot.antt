@@ -60,8 +60,8 @@ module _ (R : SectionRules) (traits : GraceTraits) (L : KindShows R traits) wher
   -- Of a kind whose claims are not exclusive.
   pub finds-free-slot-of : traits .every .exclusive ≡ false → FindsFreeSlot (machine (tableBy R))
   finds-free-slot-of shared s f cs room p pn idle-now =
-      let told-is = all-told (ghost₀ (traits .every .first (f .arguments))) (events (machine (tableBy R)) s cs) in
-      let spare = told-free (f .arguments) _ _ (reached R traits L s f cs) room p pn (rw (all-tally (ghost₀ (traits .every .first (f .arguments))) (events (machine (tableBy R)) s cs)) idle-now) in
+      let told-is = all-told (ghost₀ (traits .every .firstTable (f .arguments))) (events (machine (tableBy R)) s cs) in
+      let spare = told-free (f .arguments) _ _ (reached R traits L s f cs) room p pn (rw (all-tally (ghost₀ (traits .every .firstTable (f .arguments))) (events (machine (tableBy R)) s cs)) idle-now) in
       let found = rw told-is at (spare .2) in record {
         slot = spare .0;
         below = spare .1;

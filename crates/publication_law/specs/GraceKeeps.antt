@@ -49,7 +49,7 @@ use Rattle.publication_law.specs.GraceInvariantLaws.{reader-moved-grace,
 use Rattle.publication_law.specs.Keeps.{held-told, placed, readers-fresh, publishers-fresh}
 use Rattle.publication_law.specs.Keeps as every
 
--- The waits after a walk's answer.
+-- The waits after a walk's reply.
 abbrev pub waitsAfter : ℕ → WalkReply → ℕ
 waitsAfter n (Waiting who) = n + 1
 waitsAfter n Spent = n
@@ -148,7 +148,7 @@ module _ (K : DamageRules) (law : KindLaw K) (z : Given) (g : Ghost) (s : State)
             (wait-grace (g .told) _ _ _ _ _ (i .grace) p 37 _ low (omega arith) (omega arith) (λ e. absurd (omega arith)) (λ slot. former-same (publisher s p .place) 37 (publisher s p .held) slot (omega arith) (omega arith)))
             (late-tallied _ _ _ _ _ (i .tallied) p 37 _ low refl)
 
-  -- WALK, at 35 to 37: what it came to keeps the mark and the waits, and where it returns nobody is waited for.
+  -- WALK, at 35 to 37: its result keeps the mark and the waits, and where it returns nobody is waited for.
   module _ (p b : ℕ) (lt : p < publishers (s .words)) (low : PLACE-SYNCHRONISING ≤ publisher s p .place) (high : publisher s p .place ≤ PLACE-RAISED) where
     walk-phases : (a : WalkReply)
         → Phases (ghostStep g (Walk p b) (Walked a) .tally .place) (ghostStep g (Walk p b) (Walked a) .tally .phase) (λ j. reader s j .place) (upd (λ q. publisher s q .place) p (placeAfter (publisher s p .place) a))

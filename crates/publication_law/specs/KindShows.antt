@@ -61,7 +61,7 @@ pub record WholeInvariant (K : DamageRules) (KindInvariant : Ghost → State →
 pub record KindShows (R : SectionRules) (traits : GraceTraits) : Type 1 where
   pub kind-law : KindLaw (R .damage)
   -- what is said of the kind beside its rules
-  pub first-is : traits .every .first ≡ (λ z. firstTable)
+  pub first-is : traits .every .firstTable ≡ (λ z. firstTable)
   pub lacks-is : (c : Call) → traits .every .lacks c ≡ false
   pub exclusive-is : traits .every .exclusive ≡ R .exclusive
   pub successor-is : traits .successor ≡ R .damage .versions .markAt
@@ -98,7 +98,7 @@ pub record KindShows (R : SectionRules) (traits : GraceTraits) : Type 1 where
       → WholeInvariant (R .damage) KindInvariant z (ghostStep g (Raise p) (raise (R .damage .versions) s p .reply)) (raise (R .damage .versions) s p .after)
   pub walk-kept : (z : Given) (g : Ghost) (s : State) → WholeInvariant (R .damage) KindInvariant z g s → (p b : ℕ) → p < publishers (s .words) → R .walksAt (publisher s p .place) ≡ true
       → WholeInvariant (R .damage) KindInvariant z (ghostStep g (Walk p b) (Walked (R .looks s p b .reply))) (walk s p (R .looks s p b) .after)
-  -- RAISE and WALK are in turn from 35 on alone; a WALK keeps its mark, and with no looks it comes to nothing
+  -- RAISE and WALK are in turn from 35 on alone; a WALK keeps its mark, and with no looks it changes nothing
   pub raises-late : (pl : ℕ) → pl ≤ PLACE-SWAPPED → R .raisesAt pl ≡ false
   pub walks-late : (pl : ℕ) → pl ≤ PLACE-SWAPPED → R .walksAt pl ≡ false
   pub mark-stays : (s : State) (p b : ℕ) → R .looks s p b .walk .mark ≡ publisher s p .walk .mark
@@ -420,11 +420,11 @@ module _ (R : SectionRules) (traits : GraceTraits) (L : KindShows R traits) wher
   }
 
   -- What the invariant gives after every list from fresh.
-  pub reached : (s : State) (f : Fresh (machine (tableBy R)) s) (cs : List Call) → WholeInvariant (R .damage) (L .KindInvariant) (f .arguments) (afterEvents (ghost₀ (traits .every .first (f .arguments))) (events (machine (tableBy R)) s cs)) (afterAll (machine (tableBy R)) s cs)
+  pub reached : (s : State) (f : Fresh (machine (tableBy R)) s) (cs : List Call) → WholeInvariant (R .damage) (L .KindInvariant) (f .arguments) (afterEvents (ghost₀ (traits .every .firstTable (f .arguments))) (events (machine (tableBy R)) s cs)) (afterAll (machine (tableBy R)) s cs)
   unfolding kept
-  reached s f cs = kept-after (machine (tableBy R)) (traits .every) (kept .every) (f .arguments) (ghost₀ (traits .every .first (f .arguments))) s (kept .every .start s f) cs
+  reached s f cs = kept-after (machine (tableBy R)) (traits .every) (kept .every) (f .arguments) (ghost₀ (traits .every .firstTable (f .arguments))) s (kept .every .start s f) cs
 
-  pub demand3-of : Demand3 (machine (tableBy R)) (traits .every .first)
+  pub demand3-of : Demand3 (machine (tableBy R)) (traits .every .firstTable)
   demand3-of = grace-demand3 (machine (tableBy R)) traits kept
 
   pub companions-of : GraceCompanions (machine (tableBy R)) traits

@@ -4,13 +4,14 @@ pub mod Damage
 pub mod Table
 pub mod SectionRules
 pub mod KindLaw
--- The invariant: what every kind keeps, and what grace periods add.
+-- The invariant: what every kind keeps, what grace periods add, and what a kind adds.
 pub mod Core
 pub mod Phases
 pub mod Invariant
 pub mod Grace
 pub mod Tallied
 pub mod GraceInvariant
+pub mod DetectorInvariant
 -- What keeps it.
 pub mod Onward
 pub mod CoreLaws

@@ -24,7 +24,7 @@ InPhase pl raised = pl ≡ PLACE-RAISED
 InPhase pl returned = PLACE-RETURNED ≤ pl
 
 pub in-phase : (pl : ℕ) → InPhase pl (phaseAt pl)
-in-phase pl = go (eqb pl 0) refl (leb pl 33) refl
+in-phase pl = go (eqb pl PLACE-IDLE) refl (leb pl PLACE-WRITTEN) refl
   where
     late : (b : Bool) → eqb pl PLACE-SWAPPED ≡ b → (c : Bool) → eqb pl PLACE-SYNCHRONISING ≡ c → (d : Bool) → eqb pl PLACE-QUIET ≡ d → (e : Bool) → eqb pl PLACE-RAISED ≡ e → PLACE-SWAPPED ≤ pl
         → InPhase pl (choose b swapped (choose c synchronising (choose d quiet (choose e raised returned))))
@@ -39,7 +39,7 @@ in-phase pl = go (eqb pl 0) refl (leb pl 33) refl
         → InPhase pl (choose a idle (choose b writing (choose (eqb pl PLACE-SWAPPED) swapped (choose (eqb pl PLACE-SYNCHRONISING) synchronising (choose (eqb pl PLACE-QUIET) quiet (choose (eqb pl PLACE-RAISED) raised returned))))))
     go true ea b eb = eqb-true pl 0 ea
     go false ea true eb = let unequal = eqb-false pl 0 ea in (omega arith, leb-true pl 33 eb)
-    go false ea false eb = late (eqb pl 34) refl (eqb pl 35) refl (eqb pl 36) refl (eqb pl 37) refl (leb-false pl 33 eb)
+    go false ea false eb = late (eqb pl PLACE-SWAPPED) refl (eqb pl PLACE-SYNCHRONISING) refl (eqb pl PLACE-QUIET) refl (eqb pl PLACE-RAISED) refl (leb-false pl 33 eb)
 
 pub phase-writing : (pl : ℕ) → PLACE-CLAIMED ≤ pl → pl ≤ PLACE-WRITTEN → phaseAt pl ≡ writing
 phase-writing pl l h = rw (ne-eqb pl 0 (λ eq. omega arith), le-leb pl 33 h) refl

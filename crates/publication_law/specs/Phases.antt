@@ -18,8 +18,8 @@ phaseAt place =
     choose (eqb place PLACE-RAISED) raised returned)))))
 
 -- Readers' places and publishers' phases as told, beside readers' and publishers' places as stored.
-pub record Phases (place : ℕ → ℕ) (phase : ℕ → Phase) (readerPlace publisherPlace : ℕ → ℕ) : Type 0 where
+pub record Phases (toldPlace : ℕ → ℕ) (toldPhase : ℕ → Phase) (readerPlace publisherPlace : ℕ → ℕ) : Type 0 where
   -- the place that a reader's last ENTER replied is its place
-  pub places : (r : ℕ) → place r ≡ readerPlace r
+  pub places : (r : ℕ) → toldPlace r ≡ readerPlace r
   -- what a publisher did last is what its place tells
-  pub phases : (p : ℕ) → phase p ≡ phaseAt (publisherPlace p)
+  pub phases : (p : ℕ) → toldPhase p ≡ phaseAt (publisherPlace p)

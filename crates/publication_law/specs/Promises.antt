@@ -48,7 +48,7 @@ pub record RaiseFacts (successor : ℕ → ℕ) (s : State) (p : ℕ) (o : Outco
   pub record-is : publisher (o .after) p ≡ publisher s p atPlace PLACE-RAISED
 
 pub record Promises (T : Table) (traits : GraceTraits) : Type 0 where
-  pub demand3 : Demand3 (machine T) (traits .every .first)
+  pub demand3 : Demand3 (machine T) (traits .every .firstTable)
   pub companions : GraceCompanions (machine T) traits
   -- the damage test is false after every list from fresh
   pub never-damaged : (s : State) → Fresh (machine T) s → (cs : List Call) → damaged T (afterAll (machine T) s cs) ≡ false
@@ -60,7 +60,7 @@ pub record Promises (T : Table) (traits : GraceTraits) : Type 0 where
   -- what an accepted SYNC and an accepted RAISE reply and store, for every state
   pub sync-facts : (s : State) (p : ℕ) → accepted (step T s (Sync p) .reply) ≡ true → SyncFacts (traits .successor) s p (step T s (Sync p))
   pub raise-facts : (s : State) (p : ℕ) → accepted (step T s (Raise p) .reply) ≡ true → RaiseFacts (traits .successor) s p (step T s (Raise p))
-  -- every reply of a store whose entries are pitches of 64 bits has an answer that no other representable reply has
+  -- every reply of a store whose entries are pitches of 64 bits has three numbers for C that no other representable reply has
   pub representable : (s : State) (c : Call) → ((j : ℕ) → PitchFitsWord (getD (s .entries) j (pos 0))) → Representable (step T s c .reply)
   pub representable-making : (z : Given) (s : State) → Representable (making T z s .reply)
   -- a WALK with no looks that replies spent leaves the whole state as it was

@@ -25,7 +25,7 @@ pub record SectionRules : Type 0 where
   pub enterWords : State → ℕ → List ℕ
   -- LEAVE: the words with the reader at place 0
   pub leaveWords : State → ℕ → List ℕ
-  -- whether a CLAIM needs that no other publisher is at a place other than 0 (number 31)
+  -- whether a CLAIM needs every other publisher at place 0 (number 31)
   pub exclusive : Bool
   -- the places at which RAISE and WALK are allowed
   pub raisesAt : ℕ → Bool

@@ -65,7 +65,7 @@ abbrev pub noSuchSlot : State → ℕ → Test
 noSuchSlot s slot = leb (slots (s .words)) slot gives NO-SUCH-SLOT
 
 abbrev pub noSuchEntry : ℕ → Test
-noSuchEntry k = ltb 31 k gives NO-SUCH-ENTRY
+noSuchEntry k = leb TABLE k gives NO-SUCH-ENTRY
 
 abbrev pub badPitch : ℤ → Test
 badPitch v = (ltZ v PITCH-LOW || ltZ PITCH-HIGH v) gives BAD-PITCH
@@ -92,8 +92,7 @@ look s r k = outcome (Pitch (getD (s .entries) (entryAt (reader s r .picked) k) 
 abbrev pub leaveTests : State → ℕ → List Test
 leaveTests s r = noSuchReader s r ∷ readerTurn (ltb (reader s r .place) PLACE-OPEN) ∷ []
 
--- CLAIM p s: 0 to 1, holds s.
--- 31 (old) another publisher not at place 0
+-- 31 (old) another publisher not at place 0.
 abbrev pub anotherBusy : State → ℕ → Bool
 anotherBusy s p = anyBelow (λ q. not (eqb q p) && not (eqb (publisher s q .place) PLACE-IDLE)) (publishers (s .words))
 
@@ -101,6 +100,7 @@ anotherBusy s p = anyBelow (λ q. not (eqb q p) && not (eqb (publisher s q .plac
 abbrev pub inUse : State → ℕ → Bool
 inUse s slot = eqb (current (s .words)) slot || anyBelow (λ q. heldSlot s q slot) (publishers (s .words))
 
+-- CLAIM p s: 0 to 1, holds s.
 abbrev pub claimTests : Bool → State → ℕ → ℕ → List Test
 claimTests exclusive s p slot =
     noSuchPublisher s p ∷ noSuchSlot s slot ∷ publisherTurn (not (eqb (publisher s p .place) PLACE-IDLE))

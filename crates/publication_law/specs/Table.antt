@@ -26,6 +26,7 @@ pub record Table : Type 0 where
   pub freshStore : Given → State → State
 
 module _ (T : Table) where
+  -- Document 01's spoiled: the shared rows, or what the kind adds.
   unfoldable pub damaged : State → Bool
   damaged s = sharedDamage (T .damage) s || T .further s
 

@@ -112,7 +112,7 @@ module _ (publishes : State → Bool) (T : Table) (L : ActLaws publishes T) wher
     writes = λ s p v. by-rows (λ (o : Outcome). Writes s p v o) s (Write p v) (L .writes s p v) (λ n _ _. record { stored = λ ok. clash (sym ok); others = λ j ne. refl; long = refl });
   }
 
-  -- A reply of a call or a making has an answer that no other representable reply has: a refusal's number is below 100, a pitch is an entry.
+  -- A reply of a call or a making has three numbers for C that no other representable reply has: a refusal's number is below 100, a pitch is an entry.
   pub representable-of-table : (s : State) (c : Call) → ((j : ℕ) → PitchFitsWord (getD (s .entries) j (pos 0))) → Representable (step T s c .reply)
   representable-of-table s c narrow = by-rows (λ (o : Outcome). Representable (o .reply)) s c (λ f. L .acts s c f .representable narrow) (λ n _ low. low)
 

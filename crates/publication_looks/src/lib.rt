@@ -2,7 +2,7 @@
 // each look of a WALK, of either kind, is counted in it.
 // `count_look` takes the record apart and is proved by hand;
 // every caller uses `look_counted`, whose parameters are plain.
-// Its contracts cite publication_law.
+// The contracts cite publication_law.
 ghost use mathlib.Core.Path.{_≡_};
 ghost use Rattle.layout.specs.Layout.{noWalk};
 ghost use Rattle.layout.specs.Records.{_mark≔_, _next≔_, _looks≔_, _waits≔_};
@@ -13,7 +13,7 @@ use layout::WalkRecord;
 // The four numbers after one look more, which passed so many readers and waited so often.
 fn moved(mark: u64, next: u64, looks: u64, waits: u64, passed: u64, waited: u64) -> WalkRecord
     requires { ⌜ LookFits (noWalk mark≔ mark next≔ next looks≔ looks waits≔ waits) passed waited ⌝ }
-    ensures { λ k. ⌜ k ≡ withLook (noWalk mark≔ mark next≔ next looks≔ looks waits≔ waits) passed waited ⌝ }
+    ensures { λ walk. ⌜ walk ≡ withLook (noWalk mark≔ mark next≔ next looks≔ looks waits≔ waits) passed waited ⌝ }
 {
     WalkRecord {
         mark: mark,
@@ -37,9 +37,9 @@ fn count_look(walk: &mut WalkRecord, passed: u64, waited: u64)
 // A walk with one look more, by value: whoever calls this needs no proof by hand.
 pub fn look_counted(walk: WalkRecord, passed: u64, waited: u64) -> WalkRecord
     requires { ⌜ LookFits walk passed waited ⌝ }
-    ensures { λ k. ⌜ k ≡ withLook walk passed waited ⌝ }
+    ensures { λ after. ⌜ after ≡ withLook walk passed waited ⌝ }
 {
-    let mut w = walk;
-    count_look(&mut w, passed, waited);
-    w
+    let mut lent = walk;
+    count_look(&mut lent, passed, waited);
+    lent
 }

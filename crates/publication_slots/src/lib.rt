@@ -1,6 +1,6 @@
 // CLAIM, SWAP and RELEASE of words that are not damaged, which the kinds share: the calls that move a slot.
 // A kind tests for damage first, and asks nothing of its own callers.
-// Its contracts cite publication_law.
+// The contracts cite publication_law.
 ghost use mathlib.Core.Path.{_≡_};
 ghost use mathlib.Core.Bool.{_&&_};
 ghost use mathlib.Core.List.{List};
@@ -41,7 +41,7 @@ fn another_busy(words: &[u64], p: u16) -> bool
     false
 }
 
-// Whether 31 is given, in a kind that has it or not.
+// Whether 31 is given: only in an exclusive kind.
 fn busy(words: &[u64], p: u16, exclusive: bool) -> bool
     requires { ⌜ InBounds (now words) ⌝ }
     ensures { λ b. ⌜ ((es : List ℤ) → b ≡ (exclusive && anotherBusy (state (now (words .entry)) es) p)) ⌝ }
@@ -53,17 +53,17 @@ fn busy(words: &[u64], p: u16, exclusive: bool) -> bool
 }
 
 // Whether a slot is not free.
-fn in_use(words: &[u64], x: u64) -> bool
+fn in_use(words: &[u64], slot: u64) -> bool
     requires { ⌜ InBounds (now words) ⌝ }
-    ensures { λ b. ⌜ ((es : List ℤ) → b ≡ inUse (state (now (words .entry)) es) x) ⌝ }
+    ensures { λ b. ⌜ ((es : List ℤ) → b ≡ inUse (state (now (words .entry)) es) slot) ⌝ }
 {
-    if current_of(words) == x {
+    if current_of(words) == slot {
         return true;
     }
     let n = publishers_of(words);
     for q in 0..n {
         let y = publisher_at(words, q as usize);
-        if (y.place != PLACE_IDLE) & (y.held == x) {
+        if (y.place != PLACE_IDLE) & (y.held == slot) {
             return true;
         }
     }

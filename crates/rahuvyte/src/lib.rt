@@ -1,7 +1,7 @@
 // The C library: making and the ten calls for a store of any kind as functions of C over lent slices,
 // the reply three numbers by value.
 // Each function is total, and its contract is the step (or the making) of kinds_law, through `numbersOf`.
-// A call goes by the kind word here, as in kinds (docs/DECISIONS.md says why).
+// The kind word decides whose call is run, here as in kinds (docs/DECISIONS.md says why).
 ghost use mathlib.Core.Path.{_≡_};
 ghost use Rattle.calls.specs.declared.Call.the-variants.{Enter, Look, Leave, Claim, Write, Swap, Sync, Raise, Walk, Release};
 ghost use Rattle.statement.specs.Machine.{state, given};

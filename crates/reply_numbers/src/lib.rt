@@ -33,7 +33,7 @@ fn reply_numbers(code: u64, first: u64, second: u64) -> ReplyNumbers
     }
 }
 
-// The numbers of a walk's answer.
+// The numbers of a walk's reply.
 fn walk_numbers(reply: WalkReply) -> ReplyNumbers
     ensures { λ a. ⌜ a ≡ walkNumbers reply ⌝ }
 {

@@ -1,6 +1,6 @@
 // The run-sheet program: a sheet on standard input, and a line for each of its lines on standard output.
 // It has the loop of reads and writes and nothing else;
-// all that is known of lines, commands and replies stands in the library below it.
+// lines, commands and replies are read and printed by `sheet`.
 ghost use Prim.Native.Nat.{_≤_};
 ghost use mathlib.Core.Path.{_≡_};
 ghost use lib.ListN.{length, take};

@@ -109,7 +109,7 @@ module _ (d : SheetState) (t : List ℕ) (u n : ℕ) (k : List ℕ) (s : State) 
         went-on d t u (sheetState n k s) (sheetState q [] s) before out new m l (printedLine q (text "unread")) w h goes
         (rw (eq-eqb (getD t u 0) NEWLINE nl, known-all s k, e, number) refl)
         (rw (eq-eqb (getD t u 0) NEWLINE nl, known-all s k, e, sym number) refl)
-        (a .moved)
+        (a .length-is)
         (a .bytes)
         (a .rest)
 
@@ -119,7 +119,7 @@ module _ (d : SheetState) (t : List ℕ) (u n : ℕ) (k : List ℕ) (s : State) 
         went-on d t u (sheetState n k s) (sheetState q [] r) before out new m l (printedLine q (replyText a)) w h goes
         (rw (eq-eqb (getD t u 0) NEWLINE nl, known-all s k, e, sym number) (ap (λ (o : Outcome). sheetState q [] (o .after)) p))
         (rw (eq-eqb (getD t u 0) NEWLINE nl, known-all s k, e, sym number) (ap (λ (o : Outcome). printedLine q (replyText (o .reply))) (sym p)))
-        (b .moved)
+        (b .length-is)
         (b .bytes)
         (b .rest)
 

@@ -1,4 +1,4 @@
--- What feeding a sheet comes to: how many bytes of the input are taken, the state after them, and the output. That fed step by step, the last line at the end,
+-- What feeding a sheet gives: how many bytes of the input are taken, the state after them, and the output. That fed step by step, the last line at the end,
 -- a sheet prints what its definition says. Assumes nothing.
 use Prim.Native.Nat.{ℕ, suc, _-_, _≤_, _<_}
 use native.Mathlib.Omega.{arith}
@@ -18,7 +18,7 @@ use Rattle.sheet_law.specs.Printing.{PRINTED-MAX}
 use Rattle.sheet_law.specs.Sheet.{sheet, SheetState, start, sheetReader}
 use Rattle.sheet_law.specs.Reads.{KEPT, by-bytes}
 
--- What feeding answers: the numbers of the state after, and how far it went.
+-- What feeding returns: the numbers of the state after, and how far it went.
 abbrev pub fedAt : ℕ → ℕ → ℕ → ℕ → Fed
 fedAt lines count used made = record { lines = lines; count = count; used = used; made = made }
 
@@ -81,7 +81,7 @@ module _ {d : SheetState} {input : List ℕ} {used : ℕ} {e : SheetState} {befo
       empty [] h = refl
       empty (b ∷ l) h = absurd (omega arith)
 
--- One step: what it was given, and what it came to.
+-- One step: what it was given, and what it gave.
 pub record Step : Type 0 where
   pub input : List ℕ
   pub used : ℕ

@@ -38,7 +38,7 @@ unfoldable pub afterSpace : List ℕ → List ℕ
 afterSpace [] = []
 afterSpace (b ∷ l) = choose (eqb b SPACE) l (afterSpace l)
 
--- Digits, read from the left after those that came to n.
+-- Digits, read from the left, after digits whose number is n.
 unfoldable pub digits : ℕ → List ℕ → Number
 digits n [] = Decimal n
 digits n (b ∷ l) = choose (outside DIGIT-0 DIGIT-9 b) NoNumber (digits (n * 10 + (b - DIGIT-0)) l)

@@ -31,7 +31,7 @@ pub at-most-bound : (most : ℕ) (x : Number) (n : ℕ) → atMost most x ≡ De
 at-most-bound most NoNumber n e = absurd (no-decimal n e)
 at-most-bound most (Decimal m) n e = go (ltb most m) refl e
   where
-    go : (t : Bool) → t ≡ ltb most m → choose t NoNumber (Decimal m) ≡ Decimal n → n ≤ most
+    go : (test : Bool) → test ≡ ltb most m → choose test NoNumber (Decimal m) ≡ Decimal n → n ≤ most
     go true d f = absurd (no-decimal n f)
     go false d f = let a : m ≤ most = ltb-false most m (sym d) in omega (arith, a, decimal-same m n f)
 
@@ -39,7 +39,7 @@ pub at-most-is : (most : ℕ) (x : Number) (n : ℕ) → atMost most x ≡ Decim
 at-most-is most NoNumber n e = e
 at-most-is most (Decimal m) n e = go (ltb most m) e
   where
-    go : (t : Bool) → choose t NoNumber (Decimal m) ≡ Decimal n → Decimal m ≡ Decimal n
+    go : (test : Bool) → choose test NoNumber (Decimal m) ≡ Decimal n → Decimal m ≡ Decimal n
     go true f = absurd (no-decimal n f)
     go false f = f
 
@@ -48,7 +48,7 @@ pub at-most-less : (less more : ℕ) (x : Number) → less ≤ more → atMost m
 at-most-less less more NoNumber h e = refl
 at-most-less less more (Decimal m) h e = go (ltb more m) refl e
   where
-    go : (t : Bool) → t ≡ ltb more m → choose t NoNumber (Decimal m) ≡ NoNumber → atMost less (Decimal m) ≡ NoNumber
+    go : (test : Bool) → test ≡ ltb more m → choose test NoNumber (Decimal m) ≡ NoNumber → atMost less (Decimal m) ≡ NoNumber
     go true d f = let a : more < m = ltb-true more m (sym d) in at-most-bad less m (omega arith)
     go false d f = absurd (no-decimal m (sym f))
 

@@ -1,4 +1,4 @@
--- What it is to put a text into a buffer, at a place.
+-- What it is to put a text into a buffer, at an offset.
 use Prim.Native.Nat.{ℕ, _+_, _-_, _≤_, _<_}
 use native.Mathlib.Omega.{arith}
 use mathlib.Core.Path.{_≡_, sym, ap, _∙_}
@@ -7,20 +7,19 @@ use lib.ListN.{length, take, drop}
 use lib.Seq.{drop-drop}
 use Rattle.sheet_law.specs.Printing.{PRINTED-MAX}
 
--- A text of at most n bytes is put: the buffer up to the next place is what it was up to the place, and then the text; from the next place on it is what it
--- was.
-pub record Added (n : ℕ) (text before : List ℕ) (place : ℕ) (after : List ℕ) (next : ℕ) : Type 0 where
+-- A text of at most n bytes is put: the buffer up to `to` is what it was up to `from`, and then the text; at `to` and behind it is what it was.
+pub record Added (n : ℕ) (text before : List ℕ) (from : ℕ) (after : List ℕ) (to : ℕ) : Type 0 where
   pub small : length text ≤ n
-  pub moved : next ≡ place + length text
-  pub bytes : take next after ≡ take place before ++ text
-  pub rest : drop next after ≡ drop next before
+  pub length-is : to ≡ from + length text
+  pub bytes : take to after ≡ take from before ++ text
+  pub rest : drop to after ≡ drop to before
 
 -- A line is put where there is room for the longest; elsewhere nothing is written.
-pub record Printed (line before : List ℕ) (place : ℕ) (after : List ℕ) (next : ℕ) : Type 0 where
-  pub put : place + PRINTED-MAX ≤ length before → Added PRINTED-MAX line before place after next
-  pub full : length before < place + PRINTED-MAX → (next ≡ place) × (after ≡ before)
+pub record Printed (line before : List ℕ) (from : ℕ) (after : List ℕ) (to : ℕ) : Type 0 where
+  pub put : from + PRINTED-MAX ≤ length before → Added PRINTED-MAX line before from after to
+  pub full : length before < from + PRINTED-MAX → (to ≡ from) × (after ≡ before)
 
--- What is as it was from a place on is so from every later place on.
+-- What is as it was from an offset on is so from every later offset on.
 pub behind : (before after : List ℕ) (a b : ℕ) → a ≤ b → drop a after ≡ drop a before → drop b after ≡ drop b before
 behind before after a b h e =
     let m : a + (b - a) ≡ b = omega arith in

@@ -157,10 +157,10 @@ fn pitch_phrase(v: Pitch) -> Phrase
     }
 }
 
-fn walk_phrase(o: WalkReply) -> Phrase
-    ensures { λ p. ⌜ Says p (walkText o) ⌝ }
+fn walk_phrase(reply: WalkReply) -> Phrase
+    ensures { λ p. ⌜ Says p (walkText reply) ⌝ }
 {
-    match o {
+    match reply {
         WalkReply::Waiting(w) => phrase_of(WAITING, w, 0),
         WalkReply::Spent => phrase_of(SPENT, 0, 0),
         WalkReply::Quiet => phrase_of(QUIET, 0, 0),
@@ -182,7 +182,7 @@ fn reply_phrase(a: Reply) -> Phrase
         Reply::Synced(m) => phrase_of(SYNCED, m, 0),
         Reply::Raised => phrase_of(RAISED, 0, 0),
         Reply::Shared => phrase_of(SHARED, 0, 0),
-        Reply::Walked(o) => walk_phrase(o),
+        Reply::Walked(reply) => walk_phrase(reply),
         Reply::Freed(s, n) => phrase_of(FREED, s, n),
         Reply::Refused(n) => phrase_of(REFUSED, n, 0),
     }

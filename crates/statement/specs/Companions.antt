@@ -13,7 +13,7 @@ use Rattle.calls.specs.declared.Call.the-variants.{Enter, Look, Leave, Claim, W
 use Rattle.calls.specs.declared.Reply.{Reply}
 use Rattle.calls.specs.declared.Reply.the-variants.{Made, At, Left, Claimed, Written, Swapped, Walked, Freed, Refused}
 use Rattle.calls.specs.declared.WalkReply.the-variants.{Returned}
-use Rattle.calls.specs.Numbers.{READERS-MAX, PUBLISHERS-MAX, SLOTS-MIN, SLOTS-MAX, TABLE, PITCH-LOW, PITCH-HIGH, FEATHERED, NUMBER-MAX, MODULUS, PLACE-OPEN, PLACE-PICKED, DAMAGED, BUSY}
+use Rattle.calls.specs.Numbers.{READERS-MAX, PUBLISHERS-MAX, SLOTS-MIN, SLOTS-MAX, TABLE, PITCH-LOW, PITCH-HIGH, FEATHERED, NOT-READING, NUMBER-MAX, MODULUS, PLACE-OPEN, PLACE-PICKED, DAMAGED, BUSY}
 use Rattle.calls.specs.Events.{Event, accepted}
 use Rattle.calls.specs.Events.Event.{_⇒_}
 use Rattle.calls.specs.Model.{Model, modelOf}
@@ -27,7 +27,7 @@ use Rattle.statement.specs.Machine.{State, outcome, Given, Machine, Fres
 -- In what the kinds differ here.
 pub record Traits : Type 0 where
   -- the first table of a store made so
-  pub first : Given → List ℤ
+  pub firstTable : Given → List ℤ
   -- the last version
   pub last : ℕ
   -- the calls that it lacks
@@ -66,7 +66,7 @@ pub record IsFresh (z : Given) (s : State) : Type 0 where
   pub current-is : current (s .words) ≡ 0
   pub releases-are : releases (s .words) ≡ 0
   pub indicators-are : (i : ℕ) → indicator (s .words) i ≡ 0
-  pub readers-are : (r : ℕ) → r < 64 → readerAt (s .words) r ≡ blankReader 18446744073709551615
+  pub readers-are : (r : ℕ) → r < READERS-MAX → readerAt (s .words) r ≡ blankReader NOT-READING
   pub publishers-are : (p : ℕ) → publisherAt (s .words) p ≡ noPublisher
   pub entries-are : s .entries ≡ replicate (z .slots * TABLE) FEATHERED
 
@@ -100,14 +100,14 @@ pub record StateCompanions (M : Machine) (traits : Traits) (z : Given) (h : Mode
   pub in-turn : (c : Call) → accepted (M .step s c .reply) ≡ true → InTurn traits h u c
   -- LOOK is accepted after the pick
   pub looks : (r k : ℕ) → r < z .readers → k < TABLE → u .place r ≡ PLACE-PICKED → accepted (M .step s (Look r k) .reply) ≡ true
-  -- a claim of a slot told free by an idle publisher, both in range, is accepted (exclusive: if every other one is idle too, else 31)
+  -- an idle publisher's CLAIM of a slot told free, both in range, is accepted (exclusive: if every other one is idle too, else 31)
   pub claims : (p slot : ℕ) → p < z .publishers → slot < z .slots → Has t slot free → u .phase p ≡ idle
       → (traits .exclusive ≡ true → (q : ℕ) → q ≢ p → u .phase q ≡ idle) → M .step s (Claim p slot) .reply ≡ Claimed slot
   pub busy : traits .exclusive ≡ true → (p slot q : ℕ) → p < z .publishers → slot < z .slots → u .phase p ≡ idle → q ≢ p → u .phase q ≢ idle
       → M .step s (Claim p slot) .reply ≡ Refused BUSY
   -- who is told to hold nothing is idle: so claims speaks of every publisher that holds nothing
   pub idle-if : (p : ℕ) → ((slot : ℕ) → holds t p slot ≡ false) → u .phase p ≡ idle
-  -- a publisher gets on: it writes 32 entries, then swaps
+  -- a publisher's next call is accepted: it writes 32 entries, then swaps
   pub writes : (p : ℕ) (v : ℤ) → p < z .publishers → u .phase p ≡ writing → length (h .draft p) < TABLE → ltZ v PITCH-LOW ≡ false → ltZ PITCH-HIGH v ≡ false
       → M .step s (Write p v) .reply ≡ Written (length (h .draft p) + 1)
   pub swaps : (p : ℕ) → p < z .publishers → u .phase p ≡ writing → length (h .draft p) ≡ TABLE → (slot : ℕ) × (t .current ≡ some slot) × (M .step s (Swap p) .reply ≡ Swapped slot)
@@ -117,9 +117,9 @@ pub record GraceStateCompanions (M : Machine) (traits : GraceTraits) (z : Given)
   -- readers never wait: the next ENTER replies the next place, whatever stands between; LEAVE is accepted in an open section
   pub enters : (r : ℕ) → r < z .readers → u .place r < PLACE-PICKED → M .step s (Enter r) .reply ≡ At (traits .nextPlace (u .place r))
   pub leaves : (r : ℕ) → r < z .readers → PLACE-OPEN ≤ u .place r → M .step s (Leave r) .reply ≡ Left
-  -- who is idle is told to hold nothing: so busy speaks of every other publisher that holds a slot; with idle-if, told idle is told to hold nothing
+  -- who is told idle is told to hold nothing; with idle-if the two are one
   pub idle-only-if : (p : ℕ) → u .phase p ≡ idle → (slot : ℕ) → holds t p slot ≡ false
-  -- a publisher gets on: after its SWAP it synchronises unless the version is the last,
+  -- its next call is accepted after its SWAP too: it synchronises unless the version is the last,
   -- raises and walks each in its phases, a WALK unless its looks could pass 2^64 - 1 (33), and releases what it held
   pub syncs : (p : ℕ) → p < z .publishers → u .phase p ≡ swapped → version (s .words) < traits .every .last → accepted (M .step s (Sync p) .reply) ≡ true
   pub raises : (p : ℕ) → p < z .publishers → traits .every .raisesIn (u .phase p) ≡ true → accepted (M .step s (Raise p) .reply) ≡ true
@@ -131,14 +131,14 @@ pub record GraceStateCompanions (M : Machine) (traits : GraceTraits) (z : Given)
 
 -- What stands beside demand 3 after every list of calls on a fresh state ..
 pub record ListCompanions (M : Machine) (traits : Traits) (z : Given) (s : State) (cs : List Call) : Type 0 where
-  pub state-companions : StateCompanions M traits z (modelOf (traits .first z) (events M s cs)) (toldBy (events M s cs)) (tallyOf (events M s cs)) (afterAll M s cs)
+  pub state-companions : StateCompanions M traits z (modelOf (traits .firstTable z) (events M s cs)) (toldBy (events M s cs)) (tallyOf (events M s cs)) (afterAll M s cs)
   -- whole tables: the model's table always has 32 entries
-  pub tables : length (modelOf (traits .first z) (events M s cs) .table) ≡ TABLE
+  pub tables : length (modelOf (traits .firstTable z) (events M s cs) .table) ≡ TABLE
 
 -- .. and in a kind with sections and grace periods.
 pub record GraceListCompanions (M : Machine) (traits : GraceTraits) (z : Given) (s : State) (cs : List Call) : Type 0 where
   pub every : ListCompanions M (traits .every) z s cs
-  pub state-companions : GraceStateCompanions M traits z (modelOf (traits .every .first z) (events M s cs)) (toldBy (events M s cs)) (tallyOf (events M s cs)) (afterAll M s cs)
+  pub state-companions : GraceStateCompanions M traits z (modelOf (traits .every .firstTable z) (events M s cs)) (toldBy (events M s cs)) (tallyOf (events M s cs)) (afterAll M s cs)
   -- order: of a publisher's CLAIM, SWAP, SYNC, quiet, RAISE, return and RELEASE the last one before a return is a RAISE ..
   pub returns-after : (pre post : List Event) (p b looks waits : ℕ) → events M s cs ≡ pre ++ (Walk p b ⇒ Walked (Returned looks waits)) ∷ post → tallyOf pre .phase p ≡ raised
   -- .. and the last one before an accepted RELEASE is a return

@@ -33,7 +33,7 @@ pub record Slots (t : Told) (s : State) : Type 0 where
   pub held : (p slot : ℕ) → heldSlot s p slot ≡ holds t p slot
   pub picked : (r : ℕ) → pickedSlot s r ≡ t .picked r
 
--- No slot that a reader picked in a section still open is free, nor any that a reader has picked and not yet dropped. A pick is dropped when its section is left.
+-- No slot that a reader picked in a section still open is free. A pick is dropped when its section is left.
 abbrev pub Picks : Told → Type 0
 Picks t = (r slot : ℕ) → t .picked r ≡ some slot → ¬ Has t slot free
 

@@ -1,5 +1,5 @@
 -- What a call may move, for every state: document 01's 'A step leaves every number that it doesn't name'.
-use Prim.Native.Nat.{ℕ, _+_, _-_, _*_, _<_}
+use Prim.Native.Nat.{ℕ, _-_, _<_}
 use mathlib.Core.Path.{_≡_}
 use mathlib.Core.Logic.{_≢_}
 use mathlib.Core.Bool.{Bool, true, false, not, _&&_}
@@ -13,7 +13,7 @@ use Rattle.calls.specs.declared.Call.the-variants.{Enter, Look, Leave, Claim, W
 use Rattle.calls.specs.Events.{accepted}
 use Rattle.layout.specs.declared.Reader.{Reader}
 use Rattle.layout.specs.declared.Publisher.{Publisher}
-use Rattle.layout.specs.Layout.{HEAD, CURRENT-AT, VERSION-AT, RELEASES-AT, readerWords, readerAt, publisherAt}
+use Rattle.layout.specs.Layout.{HEAD, CURRENT-AT, VERSION-AT, RELEASES-AT, readerWords, readerAt, publisherAt, entryAt}
 use Rattle.statement.specs.Machine.{State, Outcome, Machine}
 
 -- The reader or the publisher that a call names.
@@ -99,9 +99,9 @@ pub record Framed (publishes : Bool) (c : Call) (w w′ : List ℕ) : Type 0 whe
   pub head : (i : ℕ) → i < HEAD → headNamed publishes c i ≡ false → getD w′ i 0 ≡ getD w i 0
   pub one : One w w′
 
--- The entry that a WRITE of publisher p stores: the next one of the slot held. Entry k of slot s is at s × 32 + k.
+-- The entry that a WRITE of publisher p stores: the next one of the slot held.
 abbrev pub nextEntry : State → ℕ → ℕ
-nextEntry s p = publisherAt (s .words) p .held * 32 + (publisherAt (s .words) p .place - 1)
+nextEntry s p = entryAt (publisherAt (s .words) p .held) (publisherAt (s .words) p .place - 1)
 
 -- Of the entries an accepted WRITE stores that one, and no other moves.
 pub record Writes (s : State) (p : ℕ) (v : ℤ) (o : Outcome) : Type 0 where

@@ -94,7 +94,7 @@ pub record Back (traits : GraceTraits) (z : Given) (g : Ghost) (p looks waits : 
 -- An invariant of a kind, which holds of every fresh state and is kept by every step, and what it gives.
 pub record KeptInvariant (M : Machine) (traits : Traits) : Type 1 where
   pub Inv : Given → Ghost → State → Type 0
-  pub start : (s : State) (f : Fresh M s) → Inv (f .arguments) (ghost₀ (traits .first (f .arguments))) s
+  pub start : (s : State) (f : Fresh M s) → Inv (f .arguments) (ghost₀ (traits .firstTable (f .arguments))) s
   pub keep : (z : Given) (g : Ghost) (s : State) → Inv z g s → (c : Call) → Inv z (afterEvent g (c ⇒ M .step s c .reply)) (M .step s c .after)
   pub look : (z : Given) (g : Ghost) (s : State) → Inv z g s → (r k : ℕ)
       → accepted (M .step s (Look r k) .reply) ≡ true → (v : ℤ) × (M .step s (Look r k) .reply ≡ Pitch v) × (entry (g .model .note r) k ≡ some v)
@@ -113,7 +113,7 @@ pub record GraceKeptInvariant (M : Machine) (traits : GraceTraits) : Type 1 wher
   pub state-companions : (z : Given) (g : Ghost) (s : State) → every .Inv z g s → GraceStateCompanions M traits z (g .model) (g .told) (g .tally) s
 
 no-cons : {A : Type 0} (x : A) (l : List A) → [] ≡ x ∷ l → ⊥
-no-cons x l e = let z : _≡_ {A = ℕ} 0 1 = cc in omega arith
+no-cons x l e = let no : _≡_ {A = ℕ} 0 1 = cc in omega arith
 
 module _ (M : Machine) (traits : Traits) (kept : KeptInvariant M traits) (z : Given) where
   -- At a split of the events before a call: the state there, with the invariant.
@@ -129,7 +129,7 @@ module _ (M : Machine) (traits : Traits) (kept : KeptInvariant M traits) (z : Gi
   reach g s i [] [] c a post e = absurd (no-cons _ _ e)
   reach g s i [] (event ∷ pre) c a post e = absurd (no-cons _ _ e)
   reach g s i (d ∷ cs) [] c a post e =
-      let q : d ≡ c = cc in
+      let same-call : d ≡ c = cc in
       record { at-state = s; inv = i; reply-is = cc; rest = cs; post-is = cc }
   reach g s i (d ∷ cs) (event ∷ pre) c a post e =
       let reply = M .step s d .reply in
@@ -151,22 +151,22 @@ choose-true true one other e d = e
 choose-true false one other e d = d
 
 -- ENTER closes no section.
-entered-inside : (t : Told) (q r : ℕ) (place : Option ℕ) → t .inside r ≡ true → afterEnter t q place .inside r ≡ true
-entered-inside t q r place e = choose-split (λ (t′ : Told). t′ .inside r ≡ true) (is place PLACE-OPEN)
-    (λ _. choose-true (eqb r q) true (t .inside r) refl e)
-    (λ _. choose-split (λ (t′ : Told). t′ .inside r ≡ true) (is place PLACE-PICKED) (λ _. there (eqb r q) refl) (λ _. e))
+entered-inside : (t : Told) (r′ r : ℕ) (place : Option ℕ) → t .inside r ≡ true → afterEnter t r′ place .inside r ≡ true
+entered-inside t r′ r place e = choose-split (λ (t′ : Told). t′ .inside r ≡ true) (is place PLACE-OPEN)
+    (λ _. choose-true (eqb r r′) true (t .inside r) refl e)
+    (λ _. choose-split (λ (t′ : Told). t′ .inside r ≡ true) (is place PLACE-PICKED) (λ _. there (eqb r r′) refl) (λ _. e))
   where
-    there : (test : Bool) → eqb r q ≡ test → choose (eqb r q) (t .inside q) (t .inside r) ≡ true
-    there true d = rw (d, ← eqb-true r q d) e
+    there : (test : Bool) → eqb r r′ ≡ test → choose (eqb r r′) (t .inside r′) (t .inside r) ≡ true
+    there true d = rw (d, ← eqb-true r r′ d) e
     there false d = rw d e
 
 still-call : (g : Ghost) (p r : ℕ) → Still g p r → (c : Call) (a : Reply) → (c ≡ Leave r) ⊎ Still (ghostStep g c a) p r
-still-call g p r awaits (Enter q) a = inr (record { awaited = awaits .awaited; opened = entered-inside (g .told) q r (placeOf a) (awaits .opened) })
-still-call g p r awaits (Look q k) a = inr (record { awaited = awaits .awaited; opened = awaits .opened })
-still-call g p r awaits (Leave q) a = go (eqb r q) refl
+still-call g p r awaits (Enter r′) a = inr (record { awaited = awaits .awaited; opened = entered-inside (g .told) r′ r (placeOf a) (awaits .opened) })
+still-call g p r awaits (Look r′ k) a = inr (record { awaited = awaits .awaited; opened = awaits .opened })
+still-call g p r awaits (Leave r′) a = go (eqb r r′) refl
   where
-    go : (test : Bool) → eqb r q ≡ test → (Leave q ≡ Leave r) ⊎ Still (ghostStep g (Leave q) a) p r
-    go true e = inl (ap Leave (sym (eqb-true r q e)))
+    go : (test : Bool) → eqb r r′ ≡ test → (Leave r′ ≡ Leave r) ⊎ Still (ghostStep g (Leave r′) a) p r
+    go true e = inl (ap Leave (sym (eqb-true r r′ e)))
     go false e = inr (record { awaited = rw e (awaits .awaited); opened = rw e (awaits .opened) })
 still-call g p r awaits (Claim q slot) a = inr (record { awaited = awaits .awaited; opened = awaits .opened })
 still-call g p r awaits (Write q v) a = inr (record { awaited = awaits .awaited; opened = awaits .opened })
@@ -184,14 +184,14 @@ still-one : (g : Ghost) (p r : ℕ) → Still g p r → (c : Call) (a : Reply) �
 still-one g p r awaits c a = go (accepted a) refl (still-call g p r awaits c a)
   where
     go : (test : Bool) → accepted a ≡ test → (c ≡ Leave r) ⊎ Still (ghostStep g c a) p r → ((c ≡ Leave r) × (accepted a ≡ true)) ⊎ Still (afterEvent g (c ⇒ a)) p r
-    go true e (inl q) = inl (q, e)
+    go true e (inl leaves) = inl (leaves, e)
     go true e (inr after) = inr (rw e after)
     go false e either = inr (rw e awaits)
 
 still-next : (g : Ghost) (p r : ℕ) (c : Call) (a : Reply) (es : List Event) → ((c ≡ Leave r) × (accepted a ≡ true)) ⊎ Still (afterEvent g (c ⇒ a)) p r
     → (Still (afterEvent g (c ⇒ a)) p r → LeftIn r es ⊎ (afterEvents (afterEvent g (c ⇒ a)) es .pend p r ≡ true))
     → LeftIn r ((c ⇒ a) ∷ es) ⊎ (afterEvents (afterEvent g (c ⇒ a)) es .pend p r ≡ true)
-still-next g p r c a es (inl q) onward = inl (record { before = []; reply = a; behind = es; here = ap (λ call. (call ⇒ a) ∷ es) (q .0); taken = q .1 })
+still-next g p r c a es (inl leaves) onward = inl (record { before = []; reply = a; behind = es; here = ap (λ call. (call ⇒ a) ∷ es) (leaves .0); taken = leaves .1 })
 still-next g p r c a es (inr awaits) onward = go (onward awaits)
   where
     go : LeftIn r es ⊎ (afterEvents (afterEvent g (c ⇒ a)) es .pend p r ≡ true) → LeftIn r ((c ⇒ a) ∷ es) ⊎ (afterEvents (afterEvent g (c ⇒ a)) es .pend p r ≡ true)
@@ -211,30 +211,30 @@ still-synced g p r a ok e = rw ok (record { awaited = rw (same p) e; opened = e 
 
 -- What an invariant gives after every list from fresh.
 module _ (M : Machine) (traits : Traits) (kept : KeptInvariant M traits) (s : State) (f : Fresh M s) (cs : List Call) where
-  to : (pre : List Event) (c : Call) (a : Reply) (post : List Event) → events M s cs ≡ pre ++ (c ⇒ a) ∷ post → Reach M traits kept (f .arguments) (ghost₀ (traits .first (f .arguments))) pre c a post
-  to pre c a post e = reach M traits kept (f .arguments) (ghost₀ (traits .first (f .arguments))) s (kept .start s f) cs pre c a post e
+  to : (pre : List Event) (c : Call) (a : Reply) (post : List Event) → events M s cs ≡ pre ++ (c ⇒ a) ∷ post → Reach M traits kept (f .arguments) (ghost₀ (traits .firstTable (f .arguments))) pre c a post
+  to pre c a post e = reach M traits kept (f .arguments) (ghost₀ (traits .firstTable (f .arguments))) s (kept .start s f) cs pre c a post e
 
-  ending : kept .Inv (f .arguments) (afterEvents (ghost₀ (traits .first (f .arguments))) (events M s cs)) (afterAll M s cs)
-  ending = kept-after M traits kept (f .arguments) (ghost₀ (traits .first (f .arguments))) s (kept .start s f) cs
+  ending : kept .Inv (f .arguments) (afterEvents (ghost₀ (traits .firstTable (f .arguments))) (events M s cs)) (afterAll M s cs)
+  ending = kept-after M traits kept (f .arguments) (ghost₀ (traits .firstTable (f .arguments))) s (kept .start s f) cs
 
-  due : Returns M s cs → Due M (traits .first (f .arguments)) s cs
+  due : Returns M s cs → Due M (traits .firstTable (f .arguments)) s cs
   due returns = record {
     looks = λ pre post r k a e ok.
         let there = to pre (Look r k) a post e in
         let found = kept .look _ _ (there .at-state) (there .inv) r k (rw (there .reply-is) at ok) in
-        (found .0, there .reply-is ∙ found .1, rw (← all-model (ghost₀ (traits .first (f .arguments))) pre) (found .2));
+        (found .0, there .reply-is ∙ found .1, rw (← all-model (ghost₀ (traits .firstTable (f .arguments))) pre) (found .2));
     returns = returns;
-    slots = rw (← all-told (ghost₀ (traits .first (f .arguments))) (events M s cs)) (kept .slots _ _ _ ending);
-    picks = rw (← all-told (ghost₀ (traits .first (f .arguments))) (events M s cs)) (kept .picks _ _ _ ending);
+    slots = rw (← all-told (ghost₀ (traits .firstTable (f .arguments))) (events M s cs)) (kept .slots _ _ _ ending);
+    picks = rw (← all-told (ghost₀ (traits .firstTable (f .arguments))) (events M s cs)) (kept .picks _ _ _ ending);
     claims = λ pre post p slot r a e ok picked.
         let there = to pre (Claim p slot) a post e in
-        kept .claim _ _ (there .at-state) (there .inv) p slot r (rw (there .reply-is) at ok) (rw (all-told (ghost₀ (traits .first (f .arguments))) pre) picked);
+        kept .claim _ _ (there .at-state) (there .inv) p slot r (rw (there .reply-is) at ok) (rw (all-told (ghost₀ (traits .firstTable (f .arguments))) pre) picked);
   }
 
   list-companions : ListCompanions M traits (f .arguments) s cs
   list-companions = record {
-    state-companions = rw (← all-model (ghost₀ (traits .first (f .arguments))) (events M s cs), ← all-told (ghost₀ (traits .first (f .arguments))) (events M s cs), ← all-tally (ghost₀ (traits .first (f .arguments))) (events M s cs)) (kept .state-companions _ _ _ ending);
-    tables = rw (← all-model (ghost₀ (traits .first (f .arguments))) (events M s cs)) (kept .table _ _ _ ending);
+    state-companions = rw (← all-model (ghost₀ (traits .firstTable (f .arguments))) (events M s cs), ← all-told (ghost₀ (traits .firstTable (f .arguments))) (events M s cs), ← all-tally (ghost₀ (traits .firstTable (f .arguments))) (events M s cs)) (kept .state-companions _ _ _ ending);
+    tables = rw (← all-model (ghost₀ (traits .firstTable (f .arguments))) (events M s cs)) (kept .table _ _ _ ending);
   }
 
   -- Returns, where a return shows that nobody is waited for any more; and of a machine that accepts no SYNC.
@@ -244,7 +244,7 @@ module _ (M : Machine) (traits : Traits) (kept : KeptInvariant M traits) (s : St
       let reply = M .step (there .at-state) (Sync p) .reply in
       let later = reach M traits kept (f .arguments) _ (M .step (there .at-state) (Sync p) .after) (kept .keep _ _ (there .at-state) (there .inv) (Sync p)) (there .rest) mid (Walk p b) (Walked (Returned looks waits)) post (there .post-is) in
       or-left (LeftIn r mid) _
-      (still _ p r (still-synced (afterEvents (ghost₀ (traits .first (f .arguments))) pre) p r reply (rw (there .reply-is) at ok) (rw (all-told (ghost₀ (traits .first (f .arguments))) pre) inside)) mid)
+      (still _ p r (still-synced (afterEvents (ghost₀ (traits .firstTable (f .arguments))) pre) p r reply (rw (there .reply-is) at ok) (rw (all-told (ghost₀ (traits .firstTable (f .arguments))) pre) inside)) mid)
       (none-pending _ _ (later .at-state) (later .inv) p b looks waits (sym (later .reply-is)) r)
 
   pub returns-never : ((s : State) (p : ℕ) → accepted (M .step s (Sync p) .reply) ≡ false) → Returns M s cs
@@ -253,7 +253,7 @@ module _ (M : Machine) (traits : Traits) (kept : KeptInvariant M traits) (s : St
       absurd (not-both _ (rw (there .reply-is) at ok) (no-sync (there .at-state) p))
 
 -- The theorems. Demand 3 asks, beside what every kind keeps, for its returns.
-pub demand3 : (M : Machine) (traits : Traits) → KeptInvariant M traits → ((s : State) → Fresh M s → (cs : List Call) → Returns M s cs) → Demand3 M (traits .first)
+pub demand3 : (M : Machine) (traits : Traits) → KeptInvariant M traits → ((s : State) → Fresh M s → (cs : List Call) → Returns M s cs) → Demand3 M (traits .firstTable)
 demand3 M traits kept returns s f cs = due M traits kept s f cs (returns s f cs)
 
 pub companions : (M : Machine) (traits : Traits) → KeptInvariant M traits → Companions M traits
@@ -267,18 +267,18 @@ module _ (M : Machine) (traits : GraceTraits) (kept : GraceKeptInvariant M trait
   grace-list-companions : GraceListCompanions M traits (f .arguments) s cs
   grace-list-companions = record {
     every = companions M (traits .every) (kept .every) s f cs;
-    state-companions = rw (← all-model (ghost₀ (traits .every .first (f .arguments))) (events M s cs), ← all-told (ghost₀ (traits .every .first (f .arguments))) (events M s cs), ← all-tally (ghost₀ (traits .every .first (f .arguments))) (events M s cs)) (kept .state-companions _ _ _ (ending M (traits .every) (kept .every) s f cs));
+    state-companions = rw (← all-model (ghost₀ (traits .every .firstTable (f .arguments))) (events M s cs), ← all-told (ghost₀ (traits .every .firstTable (f .arguments))) (events M s cs), ← all-tally (ghost₀ (traits .every .firstTable (f .arguments))) (events M s cs)) (kept .state-companions _ _ _ (ending M (traits .every) (kept .every) s f cs));
     returns-after = λ pre post p b looks waits e. let there = to M (traits .every) (kept .every) s f cs pre (Walk p b) (Walked (Returned looks waits)) post e in
-        rw (← all-tally (ghost₀ (traits .every .first (f .arguments))) pre) (kept .back _ _ (there .at-state) (there .inv) p b looks waits (sym (there .reply-is)) .in-order);
+        rw (← all-tally (ghost₀ (traits .every .firstTable (f .arguments))) pre) (kept .back _ _ (there .at-state) (there .inv) p b looks waits (sym (there .reply-is)) .in-order);
     releases-after = λ pre post p a e ok. let there = to M (traits .every) (kept .every) s f cs pre (Release p) a post e in
-        rw (← all-tally (ghost₀ (traits .every .first (f .arguments))) pre) (kept .release _ _ (there .at-state) (there .inv) p (rw (there .reply-is) at ok));
+        rw (← all-tally (ghost₀ (traits .every .firstTable (f .arguments))) pre) (kept .release _ _ (there .at-state) (there .inv) p (rw (there .reply-is) at ok));
     looks-are = λ pre post p b looks waits e. let there = to M (traits .every) (kept .every) s f cs pre (Walk p b) (Walked (Returned looks waits)) post e in
         kept .back _ _ (there .at-state) (there .inv) p b looks waits (sym (there .reply-is)) .looks-are;
     waits-are = λ pre post p b looks waits e. let there = to M (traits .every) (kept .every) s f cs pre (Walk p b) (Walked (Returned looks waits)) post e in
-        rw (← all-tally (ghost₀ (traits .every .first (f .arguments))) pre) (kept .back _ _ (there .at-state) (there .inv) p b looks waits (sym (there .reply-is)) .waits-are);
+        rw (← all-tally (ghost₀ (traits .every .firstTable (f .arguments))) pre) (kept .back _ _ (there .at-state) (there .inv) p b looks waits (sym (there .reply-is)) .waits-are);
   }
 
-pub grace-demand3 : (M : Machine) (traits : GraceTraits) → GraceKeptInvariant M traits → Demand3 M (traits .every .first)
+pub grace-demand3 : (M : Machine) (traits : GraceTraits) → GraceKeptInvariant M traits → Demand3 M (traits .every .firstTable)
 grace-demand3 M traits kept = demand3 M (traits .every) (kept .every) (waited M traits kept)
 
 pub grace-companions : (M : Machine) (traits : GraceTraits) → GraceKeptInvariant M traits → GraceCompanions M traits

@@ -30,7 +30,7 @@ use Rattle.publication_law.specs.DamageLaws.{Undamaged}
 use Rattle.publication_law.specs.Table.{damaged, step}
 use Rattle.publication_law.specs.Calls.{undamaged, undamaged-facts, undamaged-further, damaged-readers, damaged-further, enter-accepted, leave-accepted}
 use Rattle.two_phase_law.specs.Steps.{damageRules, readerRows, addedTo, miscounted, onward, entered, leaving, lookedAt, lookAt, fixed, rules}
-use Rattle.two_phase_law.specs.Counts.{Counted}
+use Rattle.two_phase_law.specs.KindInvariant.{Counted}
 use Rattle.two_phase_law.specs.Safety.{picked-rows}
 
 -- How many of the first n readers added to each indicator, as the pass over the readers counts them.

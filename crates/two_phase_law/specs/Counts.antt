@@ -19,10 +19,7 @@ use Rattle.statement.specs.Machine.{State}
 use Rattle.publication_law.specs.Steps.{placeAfter}
 use Rattle.publication_law.specs.GraceKeeps.{waitsAfter}
 use Rattle.two_phase_law.specs.Steps.{parity, addedTo, miscounted, lookedAt, lookResult, lookAt}
-
--- Each indicator is the number of readers that added to it.
-abbrev pub Counted : ℕ → (ℕ → ℕ) → (ℕ → Reader) → Type 0
-Counted n ind X = (i : ℕ) → i < 2 → ind i ≡ countBelow (λ r. addedTo i (X r)) n
+use Rattle.two_phase_law.specs.KindInvariant.{Counted, passedAt}
 
 pub counted-to : (s : State) → Counted (readers (s .words)) (indicator (s .words)) (readerAt (s .words)) → miscounted s 0 || miscounted s 1 ≡ false
 counted-to s counted = neither (miscounted s 0) (miscounted s 1) (negated _ (eq-eqb _ _ (counted 0 (omega arith)))) (negated _ (eq-eqb _ _ (counted 1 (omega arith))))
@@ -55,10 +52,6 @@ module _ (n : ℕ) (ind : ℕ → ℕ) (X : ℕ → Reader) (counted : Counted n
       go : (test : Bool) → eqb (parity (X r .first)) i ≡ test → choose test (ind i - 1) (ind i) ≡ countBelow (λ j. addedTo i (upd X r x j)) n
       go true d = let moved-so = rw (le-leb 4 (X r .place) inside, lt-leb 4 (x .place) (omega arith), d) at (changed i) in omega (arith, counted i i2)
       go false d = let moved-so = rw (le-leb 4 (X r .place) inside, lt-leb 4 (x .place) (omega arith), d) at (changed i) in omega (arith, counted i i2)
-
--- How many of a walk's two looks have passed at a place.
-abbrev pub passedAt : ℕ → ℕ
-passedAt place = choose (eqb place PLACE-SYNCHRONISING) 0 (choose (eqb place PLACE-RETURNED) 2 1)
 
 -- What one look gives.
 pub record LookFacts (count : ℕ) (y : Publisher) (b : ℕ) (result : WalkResult) : Type 0 where

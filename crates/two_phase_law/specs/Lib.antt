@@ -1,5 +1,6 @@
 pub mod Steps
 pub mod Traits
+pub mod KindInvariant
 pub mod Counts
 pub mod Safety
 pub mod Promises

@@ -34,10 +34,12 @@ use Rattle.publication_law.specs.Moves.{MovesReader, reader-moves, reader-moves
 use Rattle.publication_law.specs.KindLaw.{KindLaw, up-to-law}
 use Rattle.publication_law.specs.Frames.{place-and-one}
 use Rattle.publication_law.specs.KindShows.{WholeInvariant, KindShows}
-use Rattle.publication_law.specs.Detector.{Detector, invariantOf, start-own, early-own, enter-invariant, leave-invariant, sync-invariant, raise-invariant, walk-invariant, return-from-invariant}
+use Rattle.publication_law.specs.DetectorInvariant.{invariantOf}
+use Rattle.publication_law.specs.Detector.{start-own, early-own, enter-invariant, leave-invariant, sync-invariant, raise-invariant, walk-invariant, return-from-invariant}
 use Rattle.two_phase_law.specs.Steps.{LAST, versions, damageRules, readerRows, parity, addedTo, onward, nextPlace, entered, enterWords, leaving, leaveWords, lookedAt, looksOf, lookAt, freshReader, fixed}
 use Rattle.two_phase_law.specs.Traits.{traits}
-use Rattle.two_phase_law.specs.Counts.{Counted, counted-to, none-added, stays-counted, arrives-counted, leaves-counted, passedAt, LookFacts, look-mark, walk-places, turn-low, turn-high, look-facts}
+use Rattle.two_phase_law.specs.KindInvariant.{Counted, passedAt, detector}
+use Rattle.two_phase_law.specs.Counts.{counted-to, none-added, stays-counted, arrives-counted, leaves-counted, LookFacts, look-mark, walk-places, turn-low, turn-high, look-facts}
 
 -- At 5 a reader is damaged by its pick alone.
 pub picked-rows : (ss : ℕ) (x : Reader) → x .place ≡ PLACE-PICKED → anyTrue (readerRows ss x) ≡ leb ss (x .picked)
@@ -51,15 +53,6 @@ law = record {
   extra-rows = λ rs ss y. refl;
   extra-early = λ rs y l. le-ltb 38 (y .place) (omega arith);
   extra-beyond = λ rs y e. ltb-false 38 (y .place) e;
-}
-
--- From 36 on a synchronise waits only for readers that added to the other indicator; a look passes at 35 and at 37.
-abbrev detector : Detector
-detector = record {
-  Behind = λ n x y r. PLACE-QUIET ≤ y .place → parity (x .first) ≢ parity (y .walk .mark);
-  early = λ n x y y′ r e low behind l. absurd (omega arith);
-  passed = λ y. passedAt (y .place);
-  Readers = λ ver n ind X. Counted n ind X;
 }
 
 -- ENTER, by the place.
@@ -158,7 +151,7 @@ module _ (z : Given) (g : Ghost) (s : State) (i : WholeInvariant damageRules (in
       let n3 = eqb-false (reader s r .place) 3 (rf .1 .1 .0) in
       enter-invariant detector damageRules law z g s i _ r (entered s r) (enter-moves s (i .shared .every .no-damage) r lt)
       (none-true (readerRows (slots (s .words)) (entered s r)) (onward-fits _ _ _ (reader s r) _ (i .shared .every .no-damage .head .current-below)))
-      (arrived r _ lt refl l n2 n3) lt (onward-goes _ _ (reader s r) _ l n2 n3) (λ four y behind. rw (onward-first (version (s .words)) (current (s .words)) (reader s r) four) behind)
+      (arrived r _ lt refl l n2 n3) lt (onward-goes _ _ (reader s r) _ l n2 n3) (λ four y waited. rw (onward-first (version (s .words)) (current (s .words)) (reader s r) four) waited)
 
   leave-kept : (r : ℕ) → AllClear (leaveTests s r) → WholeInvariant damageRules (invariantOf detector) z (kept.ghostStep g (Leave r) Left) (state (leaveWords s r) (s .entries))
   leave-kept r f =
@@ -173,7 +166,7 @@ module _ (z : Given) (g : Ghost) (s : State) (i : WholeInvariant damageRules (in
   raise-kept : (p : ℕ) → p < publishers (s .words) → eqb (publisher s p .place) PLACE-QUIET ≡ true → WholeInvariant damageRules (invariantOf detector) z (kept.ghostStep g (Raise p) (raise versions s p .reply)) (raise versions s p .after)
   raise-kept p lt turn =
       let at36 = eqb-true (publisher s p .place) 36 turn in
-      raise-invariant detector damageRules law z g s i p lt (omega arith) (omega arith) refl (rw at36 refl) (λ r behind _. behind (omega arith)) (λ _. i .own .readers-are)
+      raise-invariant detector damageRules law z g s i p lt (omega arith) (omega arith) refl (rw at36 refl) (λ r waited _. waited (omega arith)) (λ _. i .own .readers-are)
 
   -- A look of publisher p.
   module _ (p b : ℕ) (lt : p < publishers (s .words)) (turn : (publisher s p .place ≡ PLACE-SYNCHRONISING) ⊎ (publisher s p .place ≡ PLACE-RAISED)) where
@@ -191,13 +184,13 @@ module _ (z : Given) (g : Ghost) (s : State) (i : WholeInvariant damageRules (in
     not-added j j2 e r e′ = let awaits = i .shared .grace .awaited p r e′ in
         none-added _ (indicator (s .words)) (readerAt (s .words)) (i .own .readers-are) j j2 e r (i .shared .every .core .readers r .bound (omega (arith, awaits .opened))) (awaits .opened)
 
-    after-behind : (r : ℕ) → g .pend p r ≡ true → PLACE-QUIET ≤ placeAfter (publisher s p .place) (looksOf s (publisher s p) b .reply) → parity (reader s r .first) ≢ parity (publisher s p .walk .mark)
-    after-behind r e′ l = go turn
+    after-waited : (r : ℕ) → g .pend p r ≡ true → PLACE-QUIET ≤ placeAfter (publisher s p .place) (looksOf s (publisher s p) b .reply) → parity (reader s r .first) ≢ parity (publisher s p .walk .mark)
+    after-waited r e′ l = go turn
       where
         go : (publisher s p .place ≡ PLACE-SYNCHRONISING) ⊎ (publisher s p .place ≡ PLACE-RAISED) → parity (reader s r .first) ≢ parity (publisher s p .walk .mark)
         go (inl at35) = not-added (parity (publisher s p .walk .mark)) (omega arith)
             (rw (eq-eqb (publisher s p .place) 35 at35) at (came .quiet-zero at35 (λ e. omega arith))) r e′
-        go (inr at37) = i .own .behind p r e′ (omega arith)
+        go (inr at37) = i .own .waited-for p r e′ (omega arith)
 
     none-pending : placeAfter (publisher s p .place) (looksOf s (publisher s p) b .reply) ≡ PLACE-RETURNED → (r : ℕ) → g .pend p r ≡ false
     none-pending done r = by-test (g .pend p r) (λ e′. go turn e′)
@@ -211,7 +204,7 @@ module _ (z : Given) (g : Ghost) (s : State) (i : WholeInvariant damageRules (in
             not-35 Quiet e at35 d = omega arith
             not-35 (Returned looks waits) e at35 d = came .returns looks waits e .0 at35
         go (inr at37) e′ =
-            let behind = i .own .behind p r e′ (omega arith) in
+            let waited = i .own .waited-for p r e′ (omega arith) in
             let other = not-added (1 - parity (publisher s p .walk .mark)) (omega arith) (rw (ne-eqb (publisher s p .place) 35 (λ e. omega arith)) at (came .returned-zero at37 (λ e. omega arith))) r e′ in
             omega arith
 
@@ -220,7 +213,7 @@ module _ (z : Given) (g : Ghost) (s : State) (i : WholeInvariant damageRules (in
 
     walk-kept : WholeInvariant damageRules (invariantOf detector) z (kept.ghostStep g (Walk p b) (Walked (looksOf s (publisher s p) b .reply))) (walk s p (looksOf s (publisher s p) b) .after)
     walk-kept = walk-invariant detector damageRules law z g s i p b lt low high (looksOf s (publisher s p) b) (came .waits-are) still-counted
-        none-pending (came .mark-same) (le-ltb 38 _ (came .high)) (λ r e′ l. rw (came .mark-same) (after-behind r e′ l))
+        none-pending (came .mark-same) (le-ltb 38 _ (came .high)) (λ r e′ l. rw (came .mark-same) (after-waited r e′ l))
 
     -- A return is said at 37.
     returned-at37 : (publisher s p .place ≡ PLACE-SYNCHRONISING) ⊎ (publisher s p .place ≡ PLACE-RAISED) → publisher s p .place ≢ PLACE-SYNCHRONISING → publisher s p .place ≡ PLACE-RAISED

@@ -14,7 +14,7 @@ use Rattle.statement.specs.Companions.{GraceTraits}
 abbrev pub traits : GraceTraits
 traits = record {
   every = record {
-    first = λ z. firstTable;
+    firstTable = λ z. firstTable;
     last = 9223372036854775807;
     lacks = λ c. false;
     exclusive = true;

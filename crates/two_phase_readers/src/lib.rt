@@ -32,7 +32,7 @@ use two_phase_damage::readers_are_damaged;
 // A reader one place on: 0 to 1, 1 to 4, 4 to 5.
 fn advanced(mut x: Reader, version: u64, current: u64) -> Reader
     requires { ⌜ x .place < PLACE-PICKED ⌝ }
-    ensures { λ y. ⌜ y ≡ onward version current x ⌝ }
+    ensures { λ after. ⌜ after ≡ onward version current x ⌝ }
 {
     let place = x.place;
     match place {
@@ -117,10 +117,10 @@ pub fn leave(words: &mut [u64], entries: &[Pitch], r: u16) -> Reply
     if x.place < PLACE_OPEN {
         return Reply::Refused(READER_TURN);
     }
-    let index = (x.first % 2) as usize;
-    let count = indicator_of(words, index);
+    let i = (x.first % 2) as usize;
+    let count = indicator_of(words, i);
     x.place = PLACE_OUT;
     put_reader(words, at, x);
-    put_indicator(words, index, count - 1);
+    put_indicator(words, i, count - 1);
     Reply::Left
 }

@@ -1,7 +1,7 @@
 // WALK of the old store, in place on the lent words. It is total, and its contract is the step of two_phase_law.
 ghost use mathlib.Core.Path.{_≡_};
 ghost use Prim.Native.Nat.{_+_, _≤_};
-ghost use Rattle.calls.specs.declared.Call.the-variants.{Walk as WALK};
+ghost use Rattle.calls.specs.declared.Call.the-variants.{Walk};
 ghost use Rattle.calls.specs.Numbers.{NUMBER-MAX};
 ghost use Rattle.statement.specs.Machine.{state, outcome};
 ghost use Rattle.publication_law.specs.Table.{step};
@@ -40,7 +40,7 @@ fn looked_at(y: Publisher) -> u64
 // What up to b looks of publisher y at an indicator with this count give: at most one is made.
 fn look(count: u64, y: Publisher, b: u16) -> WalkResult
     requires { ⌜ (y .walk .looks + b ≤ NUMBER-MAX) × (y .walk .waits ≤ y .walk .looks) ⌝ }
-    ensures { λ k. ⌜ k ≡ lookAt count y b ⌝ }
+    ensures { λ result. ⌜ result ≡ lookAt count y b ⌝ }
 {
     let walk = y.walk;
     if b == 0 {
@@ -76,7 +76,7 @@ fn look(count: u64, y: Publisher, b: u16) -> WalkResult
 // WALK p b (places 35, 37): at most one look, at an indicator.
 pub fn walk(words: &mut [u64], entries: &[Pitch], p: u16, b: u16) -> Reply
     ensures { λ a. ⌜ outcome a (state (now (words .exit)) (now (entries .entry)))
-        ≡ step rules (state (now (words .entry)) (now (entries .entry))) (WALK p b) ⌝ }
+        ≡ step rules (state (now (words .entry)) (now (entries .entry))) (Walk p b) ⌝ }
 {
     if head_is_damaged(words, entries.len())
         || readers_are_damaged(words)

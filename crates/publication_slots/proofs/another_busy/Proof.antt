@@ -7,6 +7,7 @@ use mathlib.Core.Bool.{false, not, _&&_}
 use lib.Dec.{eqb}
 use Rattle.base.specs.Rows.{anyBelow}
 use Rattle.base.specs.RowLaws.{some-below, none-first, none-more}
+use Rattle.calls.specs.Numbers.{PLACE-IDLE}
 use Rattle.layout.specs.Layout.{publisherAt}
 use Rattle.publication_slots.proofs.another_busy.Statement.{statement}
 use Rattle.publication_slots.proofs.another_busy.Tie as tie
@@ -16,7 +17,7 @@ use Rattle.layout.proofs.publisher_at.Reads as publisher-at-reads
 use Rattle.layout.proofs.publishers_of.Reads as publishers-of-reads
 
 abbrev Inv-loop : tie.InvT-loop
-Inv-loop words p n q₀ q = (q ≤ n) × (anyBelow (λ q. not (eqb q p) && not (eqb (publisherAt words q .place) 0)) q ≡ false)
+Inv-loop words p n q₀ q = (q ≤ n) × (anyBelow (λ q. not (eqb q p) && not (eqb (publisherAt words q .place) PLACE-IDLE)) q ≡ false)
 
 abbrev μ-loop : tie.MeasureT-loop
 μ-loop words p n q₀ q = n - q

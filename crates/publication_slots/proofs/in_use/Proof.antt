@@ -8,6 +8,7 @@ use mathlib.Core.Bool.{false, not, _&&_}
 use lib.Dec.{eqb}
 use Rattle.base.specs.Rows.{anyBelow}
 use Rattle.base.specs.RowLaws.{some-below, none-first, none-more}
+use Rattle.calls.specs.Numbers.{PLACE-IDLE}
 use Rattle.layout.specs.Layout.{publisherAt}
 use Rattle.publication_slots.proofs.in_use.Statement.{statement}
 use Rattle.publication_slots.proofs.in_use.Tie as tie
@@ -18,15 +19,15 @@ use Rattle.layout.proofs.publisher_at.Reads as publisher-at-reads
 use Rattle.layout.proofs.publishers_of.Reads as publishers-of-reads
 
 abbrev Inv-loop : tie.InvT-loop
-Inv-loop words x n q₀ q = (q ≤ n) × (anyBelow (λ q. not (eqb (publisherAt words q .place) 0) && eqb (publisherAt words q .held) x) q ≡ false)
+Inv-loop words slot n q₀ q = (q ≤ n) × (anyBelow (λ q. not (eqb (publisherAt words q .place) PLACE-IDLE) && eqb (publisherAt words q .held) slot) q ≡ false)
 
 abbrev μ-loop : tie.MeasureT-loop
-μ-loop words x n q₀ q = n - q
+μ-loop words slot n q₀ q = n - q
 
 current-of-requires : tie.Need-current-of-requires Inv-loop μ-loop
 current-of-requires c κs = c .before .pre .long
 
--- true: x is current
+-- true: the slot is current
 returns : tie.Need-returns Inv-loop μ-loop
 returns c = λ es. rw (eq-eqb _ _ (sym (c .before .current-of .ensures) ∙ c .if1 .taken)) refl
 
@@ -39,7 +40,7 @@ loop-holds c = (search needs, none-first _)
 publisher-at-requires : tie.Need-publisher-at-requires Inv-loop μ-loop
 publisher-at-requires c κs = omega (arith, c .before .before .before .before .before .before .pre, c .before .before .publishers-of .ensures)
 
--- true: publisher q holds x
+-- true: publisher q holds it
 returns-2 : tie.Need-returns-2 Inv-loop μ-loop
 returns-2 c = λ es. rw (ne-eqb _ _ (λ z. c .before .before .before .before .before .before .before .if1 .left (c .before .before .before .before .before .before .before .before .current-of .ensures ∙ z))) (sym (some-below _ _ _ (rw (c .before .before .before .before .before .before .publishers-of .ensures) at (c .before .before .before .before .loop-test .taken)) (rw (c .before .before .before .publisher-at .ensures) at (c .if2 .taken))))
 

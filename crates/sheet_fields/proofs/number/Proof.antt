@@ -1,4 +1,4 @@
--- A text without a leading zero is its digits, and a bound within 64 bits is tested on what they come to. Assumes nothing.
+-- A text without a leading zero is its digits, and a bound within 64 bits is tested on their number. Assumes nothing.
 use borrow.Author.Needs.{needs}
 use native.Mathlib.Omega.{arith}
 use mathlib.Core.Logic.{⊎-elim}

@@ -1,4 +1,4 @@
--- The word of `pitch_phrase` goes by the sign and its number is the size, as in the text of a pitch. Assumes nothing.
+-- The sign decides the word of `pitch_phrase`, and its number is the size, as in the text of a pitch. Assumes nothing.
 use native.Mathlib.Omega.{arith}
 use borrow.Author.Needs.{needs}
 use mathlib.Core.Bool.{true, false}

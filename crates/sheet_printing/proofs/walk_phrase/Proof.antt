@@ -6,8 +6,8 @@ use Rattle.sheet_printing.proofs.Phrases.{says-as}
 use Rattle.sheet_printing.proofs.walk_phrase.Statement.{statement}
 use Rattle.sheet_printing.proofs.walk_phrase.Tie as tie
 
-enum-known-o : tie.Need-enum-known-o
-enum-known-o c = search needs
+enum-known-reply : tie.Need-enum-known-reply
+enum-known-reply c = search needs
 
 phrase-of-requires : tie.Need-phrase-of-requires
 phrase-of-requires c κs = search needs
@@ -24,15 +24,15 @@ enum-told-2 c = search needs
 phrase-of-requires-3 : tie.Need-phrase-of-requires-3
 phrase-of-requires-3 c κs = search needs
 
-enum-known-o-2 : tie.Need-enum-known-o-2
-enum-known-o-2 c = search needs
+enum-known-reply-2 : tie.Need-enum-known-reply-2
+enum-known-reply-2 c = search needs
 
 phrase-of-requires-4 : tie.Need-phrase-of-requires-4
 phrase-of-requires-4 c κs = search needs
 
 -- waiting
 returns : tie.Need-returns
-returns c = says-as (ap walkText (sym (c .before .before .o .given .1))) (c .phrase-of .ensures)
+returns c = says-as (ap walkText (sym (c .before .before .reply .given .1))) (c .phrase-of .ensures)
 
 -- spent
 returns-2 : tie.Need-returns-2
@@ -44,19 +44,19 @@ returns-3 c = says-as (ap walkText (sym (c .before .enum-told2 .given .1))) (c .
 
 -- returned
 returns-4 : tie.Need-returns-4
-returns-4 c = says-as (ap walkText (sym (c .before .before .o2 .given .1))) (c .phrase-of4 .ensures)
+returns-4 c = says-as (ap walkText (sym (c .before .before .reply2 .given .1))) (c .phrase-of4 .ensures)
 
 pub walk-phrase-spec : {M : Type 1} → statement M
 walk-phrase-spec =
     tie.close
     (tie.spec
-    enum-known-o
+    enum-known-reply
     phrase-of-requires
     enum-told
     phrase-of-requires-2
     enum-told-2
     phrase-of-requires-3
-    enum-known-o-2
+    enum-known-reply-2
     phrase-of-requires-4
     returns
     returns-2

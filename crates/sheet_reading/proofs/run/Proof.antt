@@ -1,4 +1,4 @@
--- Either answer is the definition's. Assumes nothing.
+-- Either result is the definition's. Assumes nothing.
 use borrow.Author.Needs.{needs}
 use mathlib.Core.Path.{refl}
 use Rattle.sheet_reading.proofs.run.Statement.{statement}
