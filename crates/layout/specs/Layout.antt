@@ -1,9 +1,10 @@
 -- Where each number of a store stands among its words: a head of 9, 64 readers of 5, 16 publishers of 6. docs/LAYOUT.md has the table.
 use Prim.Native.Nat.{ℕ, zero, suc, _+_, _*_}
+use mathlib.Core.Bool.{Bool}
 use mathlib.Core.List.{List, [], _∷_}
 use lib.IntN.{ℤ, pos}
 use lib.ListN.{getD, set, replicate}
-use lib.Dec.{ltb}
+use lib.Dec.{leb, ltb}
 use Rattle.base.specs.Base.{choose}
 use Rattle.layout.specs.declared.Reader.{Reader}
 use Rattle.layout.specs.declared.Publisher.{Publisher}
@@ -42,6 +43,10 @@ INDICATORS = 2
 
 abbrev pub HEAD : ℕ
 HEAD = INDICATORS-AT + INDICATORS
+
+-- Whether word i of the head is an indicator: these are its last words.
+abbrev pub isIndicatorAt : ℕ → Bool
+isIndicatorAt i = leb INDICATORS-AT i
 
 -- The records.
 abbrev pub READER-WORDS : ℕ

@@ -9,15 +9,15 @@ use mathlib.Core.Option.{some}
 use lib.IntN.{ℤ}
 use lib.ListN.{getD, set}
 use lib.Seq.{getD-set-other}
-use lib.Dec.{ltb, eqb}
-use borrow.Author.Tests.{eqb-false, leb-false, ltb-false}
+use lib.Dec.{eqb}
+use borrow.Author.Tests.{eqb-false, leb-false}
 use Rattle.base.specs.RowLaws.{AllClear, upd-other}
 use Rattle.calls.specs.declared.Call.{Call}
 use Rattle.calls.specs.declared.Call.the-variants.{Enter, Look, Leave, Claim, Write, Swap, Sync, Raise, Walk, Release}
 use Rattle.layout.specs.declared.Reader.{Reader}
 use Rattle.layout.specs.declared.Publisher.{Publisher}
 use Rattle.layout.specs.declared.WalkResult.{WalkResult}
-use Rattle.layout.specs.Layout.{HEAD, CURRENT-AT, VERSION-AT, RELEASES-AT, publishers, readerWords, readerAt, publisherAt, withPublisher}
+use Rattle.layout.specs.Layout.{HEAD, CURRENT-AT, VERSION-AT, RELEASES-AT, INDICATORS-AT, isIndicatorAt, publishers, readerWords, readerAt, publisherAt, withPublisher}
 use Rattle.layout.specs.Records.{_atPlace_}
 use Rattle.layout.specs.Laws.{head-publisher}
 use Rattle.statement.specs.Machine.{State, Outcome}
@@ -69,7 +69,7 @@ publisher-framed publishes c w w′ p y cur ver rel m e own stays one = record {
 }
 
 -- ENTER and LEAVE, of whichever kind.
-pub reader-framed : (publishes : Bool) (c : Call) (w w′ : List ℕ) (r : ℕ) (x : Reader) → MovesReader w w′ r x → readerNamed c ≡ some r → headNamed publishes c ≡ (λ j. not publishes && ltb RELEASES-AT j)
+pub reader-framed : (publishes : Bool) (c : Call) (w w′ : List ℕ) (r : ℕ) (x : Reader) → MovesReader w w′ r x → readerNamed c ≡ some r → headNamed publishes c ≡ (λ j. not publishes && isIndicatorAt j)
     → (publishes ≡ true → (j : ℕ) → j < HEAD → getD w′ j 0 ≡ getD w j 0) → (readerAt w′ r ≡ x → NamedStays publishes c w w′) → Framed publishes c w w′
 reader-framed publishes c w w′ r x m e named stays own = record {
   long = m .long;
@@ -80,9 +80,9 @@ reader-framed publishes c w w′ r x m e named stays own = record {
   one = m .one;
 }
   where
-    at-head : (test : Bool) → publishes ≡ test → (j : ℕ) → j < HEAD → (not test && ltb RELEASES-AT j) ≡ false → getD w′ j 0 ≡ getD w j 0
+    at-head : (test : Bool) → publishes ≡ test → (j : ℕ) → j < HEAD → (not test && isIndicatorAt j) ≡ false → getD w′ j 0 ≡ getD w j 0
     at-head true d j l e′ = stays d j l
-    at-head false d j l e′ = m .head j (ltb-false RELEASES-AT j e′)
+    at-head false d j l e′ = let before = leb-false INDICATORS-AT j e′ in m .head j (omega arith)
 
 -- A publisher of which only the place is new.
 place-only : (y y′ : Publisher) (n : ℕ) → y′ ≡ y atPlace n → HeldAndWalkStay y y′

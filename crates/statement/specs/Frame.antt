@@ -7,13 +7,13 @@ use mathlib.Core.List.{List}
 use mathlib.Core.Option.{Option, none, some}
 use lib.IntN.{ℤ, pos}
 use lib.ListN.{getD, length}
-use lib.Dec.{ltb, eqb}
+use lib.Dec.{eqb}
 use Rattle.calls.specs.declared.Call.{Call}
 use Rattle.calls.specs.declared.Call.the-variants.{Enter, Look, Leave, Claim, Write, Swap, Sync, Raise, Walk, Release}
 use Rattle.calls.specs.Events.{accepted}
 use Rattle.layout.specs.declared.Reader.{Reader}
 use Rattle.layout.specs.declared.Publisher.{Publisher}
-use Rattle.layout.specs.Layout.{HEAD, CURRENT-AT, VERSION-AT, RELEASES-AT, readerWords, readerAt, publisherAt, entryAt}
+use Rattle.layout.specs.Layout.{HEAD, CURRENT-AT, VERSION-AT, RELEASES-AT, isIndicatorAt, readerWords, readerAt, publisherAt, entryAt}
 use Rattle.statement.specs.Machine.{State, Outcome, Machine}
 
 -- The reader or the publisher that a call names.
@@ -44,9 +44,9 @@ publisherNamed (Release p) = some p
 -- The words of the head that a call may move: SWAP the current slot, RAISE the version, RELEASE the releases;
 -- ENTER and LEAVE an indicator, in a kind that does not publish readers' versions but counts readers there.
 abbrev pub headNamed : Bool → Call → ℕ → Bool
-headNamed publishes (Enter r) i = not publishes && ltb RELEASES-AT i
+headNamed publishes (Enter r) i = not publishes && isIndicatorAt i
 headNamed publishes (Look r k) i = false
-headNamed publishes (Leave r) i = not publishes && ltb RELEASES-AT i
+headNamed publishes (Leave r) i = not publishes && isIndicatorAt i
 headNamed publishes (Claim p slot) i = false
 headNamed publishes (Write p v) i = false
 headNamed publishes (Swap p) i = eqb i CURRENT-AT

@@ -117,10 +117,10 @@ pub fn leave(words: &mut [u64], entries: &[Pitch], r: u16) -> Reply
     if x.place < PLACE_OPEN {
         return Reply::Refused(READER_TURN);
     }
-    let i = (x.first % 2) as usize;
-    let count = indicator_of(words, i);
+    let index = (x.first % 2) as usize;
+    let count = indicator_of(words, index);
     x.place = PLACE_OUT;
     put_reader(words, at, x);
-    put_indicator(words, i, count - 1);
+    put_indicator(words, index, count - 1);
     Reply::Left
 }
