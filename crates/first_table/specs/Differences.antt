@@ -1,0 +1,46 @@
+-- A pitch in range, and the difference of two, is a number of their type. Assumes nothing.
+use Prim.Native.Nat.{ℕ, zero, suc, _+_, _-_, _<_, _≤_}
+use native.Mathlib.Omega.{arith}
+use mathlib.Core.Path.{_≡_, refl}
+use mathlib.Core.Bool.{Bool, true, false, cond}
+use lib.IntN.{ℤ, pos, negsuc, subℕ, _-ℤ_}
+use lib.Dec.{ltb}
+use lib.Signed.{mag}
+use borrow.Author.Tests.{ltb-false}
+use Rattle.base.specs.RowLaws.{or-false, clash}
+use Rattle.calls.specs.Numbers.{PITCH-HALF}
+use Rattle.first_table.specs.FirstTable.{outOfRange}
+
+-- A pitch in range is at most 9500, and not below -500.
+abbrev Low : ℤ → Type 0
+Low (pos n) = n ≤ 9500
+Low (negsuc n) = n < 500
+
+in-range : (v : ℤ) → outOfRange v ≡ false → Low v
+in-range (pos n) e = ltb-false 9500 n (or-false false (ltb 9500 n) e .1)
+in-range (negsuc n) e = let l = ltb-false 499 n (or-false (ltb 499 n) false e .0) in omega arith
+
+sub-low : (a b : ℕ) → a ≤ 9500 → b ≤ 9501 → mag (subℕ a b) < PITCH-HALF
+sub-low a b la lb = go (ltb a b)
+  where
+    go : (t : Bool) → mag (cond t (negsuc (b - suc a)) (pos (a - b))) < PITCH-HALF
+    go true = omega arith
+    go false = omega arith
+
+low-difference : (v w : ℤ) → Low v → Low w → mag (v -ℤ w) < PITCH-HALF
+low-difference (pos a) (pos zero) la lb = omega arith
+low-difference (pos a) (pos (suc b)) la lb = sub-low a (suc b) la (omega arith)
+low-difference (pos a) (negsuc b) la lb = omega arith
+low-difference (negsuc a) (pos zero) la lb = sub-low 0 (suc a) (omega arith) (omega arith)
+low-difference (negsuc a) (pos (suc b)) la lb = omega arith
+low-difference (negsuc a) (negsuc b) la lb = sub-low (suc b) (suc a) (omega arith) (omega arith)
+
+low-fits : (v : ℤ) → Low v → mag v < PITCH-HALF
+low-fits (pos n) l = omega arith
+low-fits (negsuc n) l = omega arith
+
+pub range-fits : (v : ℤ) → outOfRange v ≡ false → mag v < PITCH-HALF
+range-fits v e = low-fits v (in-range v e)
+
+pub difference-fits : (v w : ℤ) → outOfRange v ≡ false → outOfRange w ≡ false → mag (v -ℤ w) < PITCH-HALF
+difference-fits v w e f = low-difference v w (in-range v e) (in-range w f)

@@ -1,0 +1,3 @@
+pub mod FirstTable
+pub mod TableLaws
+pub mod Differences
