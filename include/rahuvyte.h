@@ -252,7 +252,7 @@ struct rahuvyte_reply rahuvyte_swap(uint64_t *store, size_t store_len, const rah
 
 /* SYNC: begins the wait for the sections that are open now. It does not wait itself: no call does.
    Reply: SYNCED with the mark. Refused: DAMAGED, NO_SUCH_PUBLISHER, PUBLISHER_TURN (not just swapped),
-   VERSION_IS_LAST (this store can publish no more; make a new one. From version 0 that is never reached in practice). */
+   VERSION_IS_LAST (no publication can end any more; make a new store. From version 0 that is never reached in practice). */
 struct rahuvyte_reply rahuvyte_sync(uint64_t *store, size_t store_len, const rahuvyte_pitch *entries, size_t entries_len, uint16_t p);
 
 /* RAISE: moves the version up to the mark. New store: next after SYNC. Old store: next after a WALK replied QUIET.
@@ -262,8 +262,8 @@ struct rahuvyte_reply rahuvyte_raise(uint64_t *store, size_t store_len, const ra
 
 /* WALK: looks whether the readers that were in at SYNC have left (it may wait for some that came later), by at most b looks (the old
    store: at most one). b bounds the time of this one call. Allowed after RAISE, in the old store also after SYNC.
-   Reply: WAITING with the reader (old: the indicator) that is not past yet: call again later; SPENT: all b looks passed, readers are left,
-   call again (with b = 0 nothing changes); QUIET (old store, before RAISE): go on with RAISE; RETURNED with looks and waits: every section that was
+   Reply: WAITING with the reader (old: the indicator) that is not past yet: call again later; SPENT: all b looks passed and readers are left
+   (old: b was 0), call again with b above 0; QUIET (old store, before RAISE): go on with RAISE; RETURNED with looks and waits: every section that was
    open at SYNC has been left, go on with RELEASE.
    Refused: DAMAGED, NO_SUCH_PUBLISHER, PUBLISHER_TURN, TOO_MANY_LOOKS (not reached in practice). */
 struct rahuvyte_reply rahuvyte_walk(uint64_t *store, size_t store_len, const rahuvyte_pitch *entries, size_t entries_len, uint16_t p,

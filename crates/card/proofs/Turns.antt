@@ -16,7 +16,7 @@ use Rattle.sheet_law.specs.declared.Angle.{Angle}
 use Rattle.sheet_law.specs.declared.Angle.the-variants.{Hundredths, NoAngle}
 use Rattle.sheet_law.specs.Reading.{angle}
 use Rattle.sheet_law.specs.Widths.{tail}
-use Rattle.card_law.specs.Card.{entered, cardReader, cardLines, cardOf, orNoEntries, orLine, badLine}
+use Rattle.card_law.specs.Card.{withLine, cardReader, cardLines, cardOf, orNoEntries, orLine, badLine}
 use Rattle.card_law.specs.CardLaws.{none-stays}
 
 -- The first line of a text, of which i bytes are read.
@@ -85,7 +85,7 @@ module _ {t : List ℕ} {from line : ℕ} {room : List ℤ} {count : ℕ} (w : G
       no-card = ap orNoEntries
           (w .all
           ∙ ap (λ (ls : List (List ℕ)). afterLines cardReader (some (w .entries)) ls) first
-          ∙ ap (λ (a : Angle). afterLines cardReader (entered (some (w .entries)) a) (linesOf (drop (n + 1) (drop from t)))) e
+          ∙ ap (λ (a : Angle). afterLines cardReader (withLine (some (w .entries)) a) (linesOf (drop (n + 1) (drop from t)))) e
           ∙ none-stays (linesOf (drop (n + 1) (drop from t))))
 
       pub bad-here : badLine 0 (linesOf t) ≡ line + 1
@@ -102,7 +102,7 @@ module _ {t : List ℕ} {from line : ℕ} {room : List ℤ} {count : ℕ} (w : G
       all-next =
           w .all
           ∙ ap (λ (ls : List (List ℕ)). afterLines cardReader (some (w .entries)) ls) first
-          ∙ ap (λ (a : Angle). afterLines cardReader (entered (some (w .entries)) a) (linesOf (drop (n + 1) (drop from t)))) e
+          ∙ ap (λ (a : Angle). afterLines cardReader (withLine (some (w .entries)) a) (linesOf (drop (n + 1) (drop from t)))) e
           ∙ ap (λ (ls : List (List ℕ)). afterLines cardReader (some (w .entries ++ (v ∷ []))) ls) rest
 
       pub bad-next : badLine 0 (linesOf t) ≡ badLine (line + 1) (linesOf (drop next t))

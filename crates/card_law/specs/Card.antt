@@ -14,13 +14,13 @@ use Rattle.sheet_law.specs.Reading.{LINE-MAX, angle}
 use Rattle.sheet_law.specs.Canonical.{angleText}
 
 -- The entries of the lines so far, none after a line that is no pitch.
-abbrev pub entered : Option (List ℤ) → Angle → Option (List ℤ)
-entered none a = none
-entered (some vs) NoAngle = none
-entered (some vs) (Hundredths v) = some (vs ++ (v ∷ []))
+abbrev pub withLine : Option (List ℤ) → Angle → Option (List ℤ)
+withLine none a = none
+withLine (some vs) NoAngle = none
+withLine (some vs) (Hundredths v) = some (vs ++ (v ∷ []))
 
 abbrev pub cardReader : LineReader
-cardReader = record { Kept = Option (List ℤ); after = λ x l. entered x (angle l); says = λ x l. []; longest = LINE-MAX }
+cardReader = record { Kept = Option (List ℤ); after = λ x l. withLine x (angle l); says = λ x l. []; longest = LINE-MAX }
 
 abbrev pub cardLines : List ℕ → Option (List ℤ)
 cardLines t = afterLines cardReader (some []) (linesOf t)

@@ -23,7 +23,7 @@ use Rattle.sheet_law.specs.Text.{MINUS, DIGIT-0, DIGIT-9, decimal}
 use Rattle.sheet_law.specs.Decimals.{AllDigits, all-digits}
 use Rattle.sheet_law.specs.Canonical.{angleText, FitsAngle, angle-back, angle-length}
 use Rattle.sheet_law.specs.Only.{angle-text}
-use Rattle.card_law.specs.Card.{entered, cardReader, cardLines, orNoEntries, cardOf, cardText, CARD-READ, tableOn}
+use Rattle.card_law.specs.Card.{withLine, cardReader, cardLines, orNoEntries, cardOf, cardText, CARD-READ, tableOn}
 
 -- Entries that have their width, and the lines of their text.
 abbrev pub FitsEach : List ℤ → Type 0
@@ -70,7 +70,7 @@ texts-back : (us vs : List ℤ) → FitsEach vs → afterLines cardReader (some 
 unfolding afterLines angleTexts
 texts-back us [] f = ap some (sym (append-nil us))
 texts-back us (v ∷ vs) f =
-    ap (λ (a : Angle). afterLines cardReader (entered (some us) a) (angleTexts vs)) (angle-back v (f .0))
+    ap (λ (a : Angle). afterLines cardReader (withLine (some us) a) (angleTexts vs)) (angle-back v (f .0))
     ∙ (texts-back (us ++ (v ∷ [])) vs (f .1) ∙ ap some (append-assoc us (v ∷ []) vs))
 
 -- Lines that are read as entries are those entries' texts.
@@ -85,7 +85,7 @@ unfolding afterLines angleTexts
 texts-only us [] vs e = record { new = []; behind = sym (some-same us vs e) ∙ sym (append-nil us); texts = refl; fits = tt }
 texts-only us (l ∷ ls) vs e = go (angle l) refl e (λ v z. texts-only (us ++ (v ∷ [])) ls vs z)
   where
-    go : (a : Angle) → angle l ≡ a → afterLines cardReader (entered (some us) a) ls ≡ some vs
+    go : (a : Angle) → angle l ≡ a → afterLines cardReader (withLine (some us) a) ls ≡ some vs
         → ((v : ℤ) → afterLines cardReader (some (us ++ (v ∷ []))) ls ≡ some vs → ReadBehind (us ++ (v ∷ [])) ls vs) → ReadBehind us (l ∷ ls) vs
     go NoAngle d z rest = absurd (no-entries vs (sym (none-stays ls) ∙ z))
     go (Hundredths v) d z rest =
@@ -103,7 +103,7 @@ blank-ends : (x : Option (List ℤ)) (ls : List (List ℕ)) → afterLines cardR
 unfolding afterLines angle
 blank-ends none [] = refl
 blank-ends (some vs) [] = refl
-blank-ends x (l ∷ ls) = blank-ends (entered x (angle l)) ls
+blank-ends x (l ∷ ls) = blank-ends (withLine x (angle l)) ls
 
 -- Entries are read from their text, and from it without its last newline.
 read-joined : (vs : List ℤ) → FitsEach vs → cardLines (cardText vs) ≡ some vs

@@ -1,3 +1,3 @@
 pub mod FirstTable
-pub mod TableLaws
+pub mod FillLaws
 pub mod Differences

@@ -28,7 +28,7 @@ use Rattle.kinds_law.specs.Kinds.{Kind, kindNumber, store}
 use Rattle.kinds_law.specs.Kinds.Kind.{new, old}
 use Rattle.kinds_law.specs.Calls.{step-named}
 use Rattle.sheet_law.specs.Sheet.{sheet}
-use Rattle.sheet_law.specs.Example.{P1, P1-printed, p1-bytes}
+use Rattle.sheet_law.specs.Example.{P1-sheet, P1-printed, p1-bytes}
 use Rattle.guarantees.specs.ByKind.{storeOf, alike}
 
 -- P1 to P4, P6 to P12 of the new store; P5, P6 and P9 to P11 of the old; of each one whole publication and what ENTER loads; and the order of a new walk's readers.
@@ -49,7 +49,7 @@ replies = all-hold-append (allBy (store KIND-NEW) new-store.examples) (allBy (st
     (all-hold-alike (storeOf old) (store KIND-OLD) (alike old) old-store.examples old-begin old-store.bench)
 
 -- All of them hold, and the sheet of P1 prints what document 01 says, byte for byte.
-pub bench : AllHold examples × (sheet P1 ≡ P1-printed)
+pub bench : AllHold examples × (sheet P1-sheet ≡ P1-printed)
 bench = (replies, p1-bytes)
 
 -- The order of the refusals.
@@ -94,8 +94,8 @@ precedence = all-hold-append (allBy (store KIND-NEW) new-order.inOrder) (allBy (
     (all-hold-alike (storeOf old) (store KIND-OLD) (alike old) old-order.inOrder old-in-order old-order.precedence)
 
 -- What damages a store, clause by clause.
-abbrev pub clauses : List Example
-clauses = allBy (store KIND-NEW) (cases (storeOf new) new-cases.clauses) ++ allBy (store KIND-OLD) (cases (storeOf old) old-cases.clauses)
+abbrev pub clauseExamples : List Example
+clauseExamples = allBy (store KIND-NEW) (cases (storeOf new) new-cases.clauses) ++ allBy (store KIND-OLD) (cases (storeOf old) old-cases.clauses)
 
 -- No change by hand is one of the kind word.
 change-kind : (d : Change) (s : State) → kindWord (change d s .words) ≡ kindWord (s .words)
@@ -117,7 +117,7 @@ cases-carry : (kind : Kind) (s : State) → kindWord (s .words) ≡ kindNumber k
 cases-carry kind s e [] = tt
 cases-carry kind s e (on ds c a ∷ rest) = ((refl, λ call. step-named kind (changed ds s) call (changed-kind ds s ∙ e)), cases-carry kind s e rest)
 
-pub damage-cases : AllHold clauses
+pub damage-cases : AllHold clauseExamples
 damage-cases = all-hold-append (allBy (store KIND-NEW) (cases (storeOf new) new-cases.clauses)) (allBy (store KIND-OLD) (cases (storeOf old) old-cases.clauses))
     (all-hold-alike (storeOf new) (store KIND-NEW) (alike new) (cases (storeOf new) new-cases.clauses) (cases-carry new (freshOf (storeOf new) small) new-kind new-cases.clauses) new-cases.damage-cases)
     (all-hold-alike (storeOf old) (store KIND-OLD) (alike old) (cases (storeOf old) old-cases.clauses) (cases-carry old (freshOf (storeOf old) small) old-kind old-cases.clauses) old-cases.damage-cases)

@@ -65,8 +65,8 @@ module _ (L : LineReader) where
         ∙ next-byte b t begun kept (from-midway t [] (L .after kept begun)) (from-midway t (begun ++ (b ∷ [])) kept)
 
     -- Read byte by byte, a text gets what its lines get.
-    pub whole : (kept : L .Kept) (t : List ℕ) → printed L (midway [] kept) (t ++ ending (fed L (midway [] kept) t .begun)) ≡ printedFor L kept (linesOf t)
-    whole kept t = printed-append (midway [] kept) t (ending (fed L (midway [] kept) t .begun)) ∙ from-midway t [] kept
+    pub fed-whole : (kept : L .Kept) (t : List ℕ) → printed L (midway [] kept) (t ++ ending (fed L (midway [] kept) t .begun)) ≡ printedFor L kept (linesOf t)
+    fed-whole kept t = printed-append (midway [] kept) t (ending (fed L (midway [] kept) t .begun)) ∙ from-midway t [] kept
 
   -- Read by read, each from where the one before left off; at the end of the input the line that was begun, if any, is the last line.
   abbrev pub printedReads : Midway (L .Kept) → List (List ℕ) → List ℕ

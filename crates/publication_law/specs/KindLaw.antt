@@ -46,8 +46,8 @@ pub record KindLaw (K : DamageRules) : Type 0 where
 
 module _ {K : DamageRules} (law : KindLaw K) (rs ss : ℕ) (y : Publisher) where
   -- An undamaged publisher ..
-  pub places : K .publisherDamaged rs ss y ≡ false → y .place ≤ PLACE-RETURNED
-  places e = law .extra-beyond rs y (or-false (law .extraDamage rs y) (anyTrue (publisherRows (K .versions) ss y)) (sym (law .extra-rows rs ss y) ∙ e) .0)
+  pub place-bounded : K .publisherDamaged rs ss y ≡ false → y .place ≤ PLACE-RETURNED
+  place-bounded e = law .extra-beyond rs y (or-false (law .extraDamage rs y) (anyTrue (publisherRows (K .versions) ss y)) (sym (law .extra-rows rs ss y) ∙ e) .0)
 
   pub undamaged-publisher : K .publisherDamaged rs ss y ≡ false → UndamagedPublisher (K .versions) ss y
   undamaged-publisher e = publisher-of (K .versions) ss y (or-false (law .extraDamage rs y) (anyTrue (publisherRows (K .versions) ss y)) (sym (law .extra-rows rs ss y) ∙ e) .1)

@@ -44,9 +44,9 @@ use Rattle.publication_law.specs.Moves.{MovesPublisher, MovesReader, pub
 use Rattle.publication_law.specs.Phases.{phaseAt}
 use Rattle.publication_law.specs.PhaseLaws.{phase-turn}
 use Rattle.publication_law.specs.GraceInvariant.{GraceInvariant}
-use Rattle.publication_law.specs.KindLaw.{KindLaw, places, undamaged-publisher, early-fits}
+use Rattle.publication_law.specs.KindLaw.{KindLaw, place-bounded, undamaged-publisher, early-fits}
 use Rattle.publication_law.specs.Keeps.{claim-keeps, write-keeps, swap-keeps, slots-right, picks-right, table-right, placed, idle-told, former-told}
-use Rattle.publication_law.specs.Served.{SharedCalls, named-reader, named-publisher, look-turn, claim-turn, write-turn, swap-turn, look-shelf, claim-not-picked, looks-on, claims-on, refused-busy, writes-on, swaps-on}
+use Rattle.publication_law.specs.Served.{SharedCalls, named-reader, named-publisher, look-turn, claim-turn, write-turn, swap-turn, look-shelf, claim-not-picked, look-accepted, claims-on, refused-busy, writes-on, swaps-on}
 use Rattle.publication_law.specs.GraceKeeps.{early-keeps, release-keeps, released-in-order, idle-empty, moved-publisher-undamaged, made-grace-invariant}
 use Rattle.publication_law.specs.TableLaws.{ActFacts, ActLaws, row-numbers, only-damaged}
 use Rattle.publication_law.specs.Calls.{step-undamaged, undamaged-facts}
@@ -282,7 +282,7 @@ module _ (R : SectionRules) (traits : GraceTraits) (L : KindShows R traits) wher
     -- Whether RAISE and WALK are in turn is told by the phase.
     turn-told : (f : ℕ → Bool) → ((pl : ℕ) → pl ≤ PLACE-SWAPPED → f pl ≡ false) → (p : ℕ) → p < publishers (s .words) → f (firstPlace (g .tally .phase p)) ≡ f (publisher s p .place)
     turn-told f early p lt = rw (i .shared .every .phases .phases p)
-        (phase-turn f early (publisher s p .place) (places (L .kind-law) (readers (s .words)) (slots (s .words)) (publisher s p) (i .shared .every .no-damage .publishers-undamaged p lt)))
+        (phase-turn f early (publisher s p .place) (place-bounded (L .kind-law) (readers (s .words)) (slots (s .words)) (publisher s p) (i .shared .every .no-damage .publishers-undamaged p lt)))
 
     raise-told : (p : ℕ) → p < publishers (s .words) → traits .every .raisesIn (g .tally .phase p) ≡ R .raisesAt (publisher s p .place)
     raise-told p lt = L .raises-in (g .tally .phase p) ∙ turn-told (R .raisesAt) (L .raises-late) p lt
@@ -326,7 +326,7 @@ module _ (R : SectionRules) (traits : GraceTraits) (L : KindShows R traits) wher
         → (slot : ℕ) × (g .told .former p slot ≡ true) × (step (tableBy R) s (Release p) .reply ≡ Freed slot ((g .tally .releases + 1) % MODULUS))
     frees-on p pn ph =
         let at = placed (R .damage) z g s (i .shared .every) p returned ph in
-        let top = places (L .kind-law) (readers (s .words)) (slots (s .words)) (publisher s p) (i .shared .every .no-damage .publishers-undamaged p (leb-false _ _ (named-publisher (R .damage) z g s (i .shared .every) p pn))) in
+        let top = place-bounded (L .kind-law) (readers (s .words)) (slots (s .words)) (publisher s p) (i .shared .every .no-damage .publishers-undamaged p (leb-false _ _ (named-publisher (R .damage) z g s (i .shared .every) p pn))) in
         let turn : not (eqb (publisher s p .place) PLACE-RETURNED) ≡ false = negated _ (eq-eqb (publisher s p .place) 38 (omega arith)) in
         let n : oneMore s ≡ (g .tally .releases + 1) % MODULUS = omega (arith, i .shared .tallied .releases-are) in
         (publisher s p .held, former-told (R .damage) z g s (i .shared .every) p (omega arith), rw (accepts (Release p) (named-publisher (R .damage) z g s (i .shared .every) p pn, (turn, tt)), n) refl)
@@ -336,7 +336,7 @@ module _ (R : SectionRules) (traits : GraceTraits) (L : KindShows R traits) wher
       undamaged = λ c _. not-damaged c;
       lacked = λ c lacks. absurd (not-both _ lacks (L .lacks-is c));
       in-turn = turn-right;
-      looks = looks-on (R .damage) z g s (i .shared .every) (R .exclusive) (machine (tableBy R)) shared-calls;
+      looks = look-accepted (R .damage) z g s (i .shared .every) (R .exclusive) (machine (tableBy R)) shared-calls;
       claims = rw (L .exclusive-is) (claims-on (R .damage) z g s (i .shared .every) (R .exclusive) (machine (tableBy R)) shared-calls);
       busy = rw (L .exclusive-is) (refused-busy (R .damage) z g s (i .shared .every) (R .exclusive) (machine (tableBy R)) shared-calls);
       idle-if = idle-told (R .damage) z g s (i .shared .every);

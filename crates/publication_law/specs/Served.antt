@@ -83,8 +83,8 @@ module _ (K : DamageRules) (z : Given) (g : Ghost) (s : State) (i : Invariant K 
         (λ f ok. claim-unpicked K z g s i exclusive p x (claim-clear exclusive s p x f) r) (λ ok. clash (sym ok)))
 
     -- The companions.
-    pub looks-on : (r k : ℕ) → r < z .readers → k < TABLE → g .tally .place r ≡ PLACE-PICKED → accepted (M .step s (Look r k) .reply) ≡ true
-    looks-on r k rn k32 five = rw (
+    pub look-accepted : (r k : ℕ) → r < z .readers → k < TABLE → g .tally .place r ≡ PLACE-PICKED → accepted (M .step s (Look r k) .reply) ≡ true
+    look-accepted r k rn k32 five = rw (
       served .looks r k,
       decide-accepts (lookTests s r k) (look s r k) s
           (named-reader r rn, (le-ltb 31 k (omega arith), (negated _ (eq-eqb (reader s r .place) 5 (sym (i .phases .places r) ∙ five)), tt))),

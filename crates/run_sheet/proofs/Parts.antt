@@ -12,7 +12,7 @@ use lib.Seq.{take-all, take-add}
 use Rattle.sheet_law.specs.Printing.{PRINTED-MAX}
 use Rattle.sheet_law.specs.Sheet.{SheetState, sheetReader}
 use Rattle.base.specs.RowLaws.{clash}
-use Rattle.sheet.specs.Feeds.{Feeds, within, moves}
+use Rattle.sheet.specs.Feeds.{Feeds, used-fits, moves}
 use Rattle.run_sheet.specs.ReadFed.{ReadFed}
 
 tail-length : (n : ℕ) (l : List ℕ) → length (take (length l - n) (drop n l)) ≡ length l - n
@@ -20,7 +20,7 @@ tail-length n l = ap length (take-all (length l - n) (drop n l) (rw length-drop 
 
 module _ {d : SheetState} (l : List ℕ) (from : ℕ) {used : ℕ} {e : SheetState} {before out : List ℕ} {made : ℕ} (f : Feeds d (take (length l - from) (drop from l)) used e before out made) (h : from < length l) where
   pub taken-within : from + used ≤ length l
-  taken-within = omega (arith, within f, tail-length from l)
+  taken-within = omega (arith, used-fits f, tail-length from l)
 
   pub taken-some : PRINTED-MAX ≤ length before → 0 < used
   taken-some fits = moves f fits (omega (arith, tail-length from l))

@@ -61,14 +61,14 @@ taken-some room d (b ∷ t) fits some = rw (le-ltb room PRINTED-MAX fits, and-wi
 
 -- What is known of a step besides.
 module _ {d : SheetState} {input : List ℕ} {used : ℕ} {e : SheetState} {before out : List ℕ} {made : ℕ} (f : Feeds d input used e before out made) where
-  pub within : used ≤ length input
-  within = omega (arith, f .takes, taken-most (length before) d input)
+  pub used-fits : used ≤ length input
+  used-fits = omega (arith, f .takes, taken-most (length before) d input)
 
   pub moves : PRINTED-MAX ≤ length before → 0 < length input → 0 < used
   moves fits some = omega (arith, f .takes, taken-some (length before) d input fits some)
 
-  pub filled : made ≤ length out
-  filled = omega (arith, f .prints, ap length (f .says), length-append (printed sheetReader d (take used input)) (drop made before))
+  pub made-fits : made ≤ length out
+  made-fits = omega (arith, f .prints, ap length (f .says), length-append (printed sheetReader d (take used input)) (drop made before))
 
   pub begins-with : take made out ≡ printed sheetReader d (take used input)
   begins-with = ap (λ (l : List ℕ). take made l) (f .says) ∙ take-at (printed sheetReader d (take used input)) (drop made before) made (sym (f .prints))

@@ -12,13 +12,13 @@ use Rattle.sheet_law.specs.Text.{text, digitsBefore, decimal}
 use Rattle.sheet_law.specs.Reading.{upToSpace, afterSpace, digits, plain, namedIn as wordNamed, lineOf}
 use Rattle.sheet_law.specs.Sheet.{played, sheet}
 
-abbrev pub P1 : List ℕ
-P1 = text "(store new 1 1 2 0)\n(enter 0)\n(enter 0)\n(enter 0)\n(enter 0)\n(enter 0)\n(look 0 31)\n(claim 0 0)\n(claim 0 1)\n(leave 0)\n"
+abbrev pub P1-sheet : List ℕ
+P1-sheet = text "(store new 1 1 2 0)\n(enter 0)\n(enter 0)\n(enter 0)\n(enter 0)\n(enter 0)\n(look 0 31)\n(claim 0 0)\n(claim 0 1)\n(leave 0)\n"
 
 abbrev pub P1-printed : List ℕ
 P1-printed = text "(1 made)\n(2 at 1)\n(3 at 2)\n(4 at 3)\n(5 at 4)\n(6 at 5)\n(7 pitch 9000)\n(8 refused 30)\n(9 claimed 1)\n(10 left)\n"
 
-pub p1-bytes : sheet P1 ≡ P1-printed
+pub p1-bytes : sheet P1-sheet ≡ P1-printed
 unfolding
     readerAt publisherAt withReader withPublisher withReaders freshWords anyBelow damaged onward step making kindOfNumber anyStep anyMaking digitsBefore decimal upToSpace afterSpace digits plain wordNamed lineOf played linesFrom printedFor sheet
 p1-bytes = refl

@@ -37,7 +37,7 @@ told-by-first = record { after-told = λ x l. rw (kept-read l) refl; says-told =
 -- The reading byte by byte prints what the whole sheet's definition says.
 pub by-bytes : (t : List ℕ) → printed sheetReader start (t ++ ending (fed sheetReader start t .begun)) ≡ sheet t
 unfolding sheet
-by-bytes t = lines.whole sheetReader told-by-first (linesPlayed 0 unmade) t
+by-bytes t = lines.fed-whole sheetReader told-by-first (linesPlayed 0 unmade) t
 
 -- However the input is cut into reads, the output is that of the whole sheet.
 pub reads-join : (rs : List (List ℕ)) → lines.printedReads sheetReader start rs ≡ sheet (flatten rs)

@@ -70,9 +70,9 @@ module _ (M N : Machine) where
   replies-same s e [] = refl
   replies-same s e (c ∷ cs) = rw (e [] c, replies-same (M .step s c .after) (λ ds d. e (c ∷ ds) d) cs) refl
 
-  answers-same : (s : State) → SameAt M N s → (cs : List Call) → repliesOn N s cs ≡ repliesOn M s cs
-  answers-same s e [] = refl
-  answers-same s e (c ∷ cs) = rw (e c, answers-same s e cs) refl
+  replies-on-same : (s : State) → SameAt M N s → (cs : List Call) → repliesOn N s cs ≡ repliesOn M s cs
+  replies-on-same s e [] = refl
+  replies-on-same s e (c ∷ cs) = rw (e c, replies-on-same s e cs) refl
 
   led-same : (ok : Bool) (s : State) → Agree s → (ds cs : List Call) → repliesAfter N ok s ds cs ≡ repliesAfter M ok s ds cs
   led-same ok s e [] cs = rw (replies-same s e cs) refl
@@ -175,7 +175,7 @@ module _ (M N : Machine) where
     holds-alike (shows L z ds cs due) carries held = shows-alike z ds cs due (carries .1) (rw (carries .0) at held)
     holds-alike (unchanged L z ds c a) carries held = unchanged-alike z ds c a (rw carries at held)
     holds-alike (makes L z s a) carries held = rw (like .makings z s) (rw carries at held)
-    holds-alike (each L s cs due) carries held = answers-same s (carries .1) cs ∙ (rw (carries .0) at held)
+    holds-alike (each L s cs due) carries held = replies-on-same s (carries .1) cs ∙ (rw (carries .0) at held)
 
     pub all-hold-alike : (examples : List Example) → AllCarry M N examples → AllHold examples → AllHold (allBy N examples)
     all-hold-alike [] carries held = tt

@@ -95,8 +95,8 @@ headNumbers last =
     ∷ []
 
 -- A place that no kind has: 6 of a reader, 39 of a publisher.
-abbrev pub places : List Case
-places =
+abbrev pub placeCases : List Case
+placeCases =
     on (readerTo 0 (readerAs 6 0 0 0 0) ∷ []) (Claim 0 1) (Refused 1)
     ∷ on (publisherTo 0 (publisherAs 39 1 1 0 0 0) ∷ []) (Enter 0) (Refused 1)
     ∷ []
@@ -136,4 +136,4 @@ beyond =
 
 -- All of them, of a kind with this last version.
 abbrev pub sharedCases : ℕ → List Case
-sharedCases last = sizes ++ (headNumbers last ++ (places ++ (heldSlots ++ (walking last 35 ++ (walking last 37 ++ (walking last 38 ++ (before35 ∷ beyond)))))))
+sharedCases last = sizes ++ (headNumbers last ++ (placeCases ++ (heldSlots ++ (walking last 35 ++ (walking last 37 ++ (walking last 38 ++ (before35 ∷ beyond)))))))

@@ -6,7 +6,7 @@ use lib.Seq.{take-all}
 use Prim.Native.Nat.{_-_, _*_, _≤_}
 use mathlib.Core.Path.{_≡_, refl, sym, ap, _∙_}
 use Rattle.first_table.specs.FirstTable.{tables}
-use Rattle.first_table.specs.TableLaws.{fills-next, tables-none}
+use Rattle.first_table.specs.FillLaws.{fills-next, tables-none}
 use Rattle.first_table.proofs.fill.Statement.{statement}
 use Rattle.first_table.proofs.fill.Tie as tie
 use Rattle.first_table.proofs.fill.Reads as reads

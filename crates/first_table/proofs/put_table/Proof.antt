@@ -8,7 +8,7 @@ use mathlib.Core.Path.{_≡_, refl, sym, ap, _∙_}
 use mathlib.Core.List.{List, _++_, append-nil}
 use lib.IntN.{ℤ}
 use Rattle.calls.specs.PitchLaws.{pitch-back}
-use Rattle.first_table.specs.TableLaws.{puts}
+use Rattle.first_table.specs.FillLaws.{puts}
 use Rattle.first_table.specs.FirstTable.{entryOf}
 use Rattle.first_table.proofs.put_table.Statement.{statement}
 use Rattle.first_table.proofs.put_table.Tie as tie

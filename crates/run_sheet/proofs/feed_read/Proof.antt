@@ -9,7 +9,7 @@ use Rattle.lines_law.specs.Lines.{fed}
 use Rattle.sheet_law.specs.Printing.{PRINTED-MAX}
 use Rattle.sheet_law.specs.Reads.{KEPT}
 use Rattle.run_sheet.proofs.Parts.{taken-within, taken-some, fed-none, fed-further, stopped, ended}
-use Rattle.sheet.specs.Feeds.{filled}
+use Rattle.sheet.specs.Feeds.{made-fits}
 use Rattle.statement.specs.Machine.{state}
 use Rattle.sheet_law.specs.Sheet.{sheetState, sheetReader}
 use Rattle.run_sheet.proofs.feed_read.Statement.{statement}
@@ -46,10 +46,10 @@ add-from : tie.Need-add-from Inv-loop μ-loop
 add-from c = omega (arith, taken-within (c .before .before .before .before .before .before .before .before .before .before .before .before .before .before .before .before .before .before .before .before .args .input .now) (c .before .before .before .before .before .before .before .before .before .before .before .before .before .before .before .loop .from) (c .before .before .before .before .before .before .before .before .feed .ensures .right (c .before .before .before .before .before .before .before .before .before .before .before .before .before .before .before .loop .inv .2 ∙ c .before .before .before .before .before .before .before .before .before .before .before .before .before .before .before .loop .inv .5)) (c .before .before .before .before .before .before .before .before .before .before .before .before .before .before .loop-test .taken))
 
 slice-reshare-prefix-written : tie.Need-slice-reshare-prefix-written Inv-loop μ-loop
-slice-reshare-prefix-written c = filled (c .before .before .before .before .before .before .before .before .feed .ensures .right (c .before .before .before .before .before .before .before .before .before .before .before .before .before .before .before .loop .inv .2 ∙ c .before .before .before .before .before .before .before .before .before .before .before .before .before .before .before .loop .inv .5))
+slice-reshare-prefix-written c = made-fits (c .before .before .before .before .before .before .before .before .feed .ensures .right (c .before .before .before .before .before .before .before .before .before .before .before .before .before .before .before .loop .inv .2 ∙ c .before .before .before .before .before .before .before .before .before .before .before .before .before .before .before .loop .inv .5))
 
 slice-aggregate-written : tie.Need-slice-aggregate-written Inv-loop μ-loop
-slice-aggregate-written c = sym (length-take-le (c .before .before .before .before .before .before .before .before .before .feed .result .made) (c .before .before .before .before .before .before .before .before .before .feed .last .1 .1 .1 .1 .1 .1 .0) (filled (c .before .before .before .before .before .before .before .before .before .feed .ensures .right (c .before .before .before .before .before .before .before .before .before .before .before .before .before .before .before .before .loop .inv .2 ∙ c .before .before .before .before .before .before .before .before .before .before .before .before .before .before .before .before .loop .inv .5))))
+slice-aggregate-written c = sym (length-take-le (c .before .before .before .before .before .before .before .before .before .feed .result .made) (c .before .before .before .before .before .before .before .before .before .feed .last .1 .1 .1 .1 .1 .1 .0) (made-fits (c .before .before .before .before .before .before .before .before .before .feed .ensures .right (c .before .before .before .before .before .before .before .before .before .before .before .before .before .before .before .before .loop .inv .2 ∙ c .before .before .before .before .before .before .before .before .before .before .before .before .before .before .before .before .loop .inv .5))))
 
 written-requires : tie.Need-written-requires Inv-loop μ-loop
 written-requires c κs = search needs

@@ -4,7 +4,7 @@ use native.Mathlib.Omega.{arith}
 use lib.ListN.{length, length-replicate}
 use mathlib.Core.Path.{_≡_, sym}
 use lib.Seq.{length-take-le}
-use Rattle.sheet.specs.Feeds.{filled}
+use Rattle.sheet.specs.Feeds.{made-fits}
 use Rattle.run_sheet.proofs.main.Statement.{statement}
 use Rattle.run_sheet.proofs.main.Tie as tie
 
@@ -79,10 +79,10 @@ finish-requires : tie.Need-finish-requires Inv-loop μ-loop
 finish-requires c κs = search needs
 
 array-share-prefix-out : tie.Need-array-share-prefix-out Inv-loop μ-loop
-array-share-prefix-out c = omega (arith, filled (c .before .before .before .before .finish .ensures .right (c .before .before .before .before .before .before .before .before .before .before .loop .inv .2)), c .before .before .before .before .finish .kept .1 .1 .1 .1 .1 .0, c .before .before .before .before .before .before .before .before .before .before .loop .inv .4)
+array-share-prefix-out c = omega (arith, made-fits (c .before .before .before .before .finish .ensures .right (c .before .before .before .before .before .before .before .before .before .before .loop .inv .2)), c .before .before .before .before .finish .kept .1 .1 .1 .1 .1 .0, c .before .before .before .before .before .before .before .before .before .before .loop .inv .4)
 
 slice-aggregate-written : tie.Need-slice-aggregate-written Inv-loop μ-loop
-slice-aggregate-written c = sym (length-take-le (c .before .before .before .before .before .finish .result .made) (c .before .before .before .before .before .finish .last .1 .1 .1 .1 .1 .0) (filled (c .before .before .before .before .before .finish .ensures .right (c .before .before .before .before .before .before .before .before .before .before .before .loop .inv .2))))
+slice-aggregate-written c = sym (length-take-le (c .before .before .before .before .before .finish .result .made) (c .before .before .before .before .before .finish .last .1 .1 .1 .1 .1 .0) (made-fits (c .before .before .before .before .before .finish .ensures .right (c .before .before .before .before .before .before .before .before .before .before .before .loop .inv .2))))
 
 written-requires : tie.Need-written-requires Inv-loop μ-loop
 written-requires c κs = search needs
