@@ -8,12 +8,12 @@ use mathlib.Core.Path.{_≡_, refl, sym, ap, _∙_}
 use mathlib.Core.List.{List, _++_, append-nil}
 use lib.IntN.{ℤ}
 use Rattle.calls.specs.PitchLaws.{pitch-back}
-use Rattle.first_table.specs.FillLaws.{puts}
-use Rattle.first_table.specs.FirstTable.{entryOf}
-use Rattle.first_table.proofs.put_table.Statement.{statement}
-use Rattle.first_table.proofs.put_table.Tie as tie
-use Rattle.first_table.proofs.put_table.Reads as reads
-use Rattle.first_table.proofs.put_table.Lts as lts
+use Rattle.publication_tables.specs.FillLaws.{puts}
+use Rattle.publication_tables.specs.FirstTable.{entryOf}
+use Rattle.publication_tables.proofs.put_table.Statement.{statement}
+use Rattle.publication_tables.proofs.put_table.Tie as tie
+use Rattle.publication_tables.proofs.put_table.Reads as reads
+use Rattle.publication_tables.proofs.put_table.Lts as lts
 
 abbrev Inv-loop : tie.InvT-loop
 Inv-loop entries₀ base table k₀ entries k = (k ≤ 32) × (length entries ≡ length entries₀) × (take (base + k) entries ≡ take base entries₀ ++ take k table)

@@ -4,11 +4,11 @@ use mir.ValLaws.{toZ-ofZ}
 use Rattle.calls.specs.PitchLaws.{PITCH-WIDTH}
 use mir.Val.{SFits}
 use lib.IntN.{_-ℤ_}
-use Rattle.first_table.specs.Differences.{difference-fits}
-use Rattle.first_table.proofs.differ.Statement.{statement}
-use Rattle.first_table.proofs.differ.Tie as tie
-use Rattle.first_table.proofs.differ.Reads as reads
-use Rattle.first_table.proofs.differ.Lts as lts
+use Rattle.publication_tables.specs.Differences.{difference-fits}
+use Rattle.publication_tables.proofs.differ.Statement.{statement}
+use Rattle.publication_tables.proofs.differ.Tie as tie
+use Rattle.publication_tables.proofs.differ.Reads as reads
+use Rattle.publication_tables.proofs.differ.Lts as lts
 
 up-fits : (c : lts.Start reads.Pre reads.Post) → SFits PITCH-WIDTH (c .args .v -ℤ c .args .other)
 up-fits c = record { sfits = difference-fits (c .args .v) (c .args .other) (c .pre .0) (c .pre .1) }

@@ -6,7 +6,7 @@ ghost use mathlib.Core.Bool.{false};
 ghost use mathlib.Core.List.{_++_};
 ghost use lib.ListN.{length, take};
 ghost use Rattle.calls.specs.Numbers.{TABLE};
-ghost use Rattle.first_table.specs.FirstTable.{outOfRange, anyOutOfRange, steep, anySteep, tables};
+ghost use Rattle.publication_tables.specs.FirstTable.{outOfRange, anyOutOfRange, steep, anySteep, tables};
 use calls::PITCH_HIGH;
 use calls::PITCH_LOW;
 use calls::Pitch;

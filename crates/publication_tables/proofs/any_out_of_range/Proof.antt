@@ -8,12 +8,12 @@ use mathlib.Core.Bool.{false}
 use Rattle.calls.specs.PitchLaws.{pitch-back}
 use Rattle.base.specs.Rows.{anyBelow}
 use Rattle.base.specs.RowLaws.{some-below, none-first, none-more}
-use Rattle.first_table.specs.FirstTable.{outOfRange, entryOf}
-use Rattle.first_table.proofs.any_out_of_range.Statement.{statement}
-use Rattle.first_table.proofs.any_out_of_range.Tie as tie
-use Rattle.first_table.proofs.any_out_of_range.Reads as reads
-use Rattle.first_table.proofs.any_out_of_range.Lts as lts
-use Rattle.first_table.proofs.out_of_range.Reads as out-of-range-reads
+use Rattle.publication_tables.specs.FirstTable.{outOfRange, entryOf}
+use Rattle.publication_tables.proofs.any_out_of_range.Statement.{statement}
+use Rattle.publication_tables.proofs.any_out_of_range.Tie as tie
+use Rattle.publication_tables.proofs.any_out_of_range.Reads as reads
+use Rattle.publication_tables.proofs.any_out_of_range.Lts as lts
+use Rattle.publication_tables.proofs.out_of_range.Reads as out-of-range-reads
 
 abbrev Inv-loop : tie.InvT-loop
 Inv-loop table n k₀ k = (k ≤ n) × (anyBelow (λ k. outOfRange (entryOf table k)) k ≡ false)

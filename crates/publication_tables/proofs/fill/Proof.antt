@@ -5,13 +5,13 @@ use lib.ListN.{length, take}
 use lib.Seq.{take-all}
 use Prim.Native.Nat.{_-_, _*_, _≤_}
 use mathlib.Core.Path.{_≡_, refl, sym, ap, _∙_}
-use Rattle.first_table.specs.FirstTable.{tables}
-use Rattle.first_table.specs.FillLaws.{fills-next, tables-none}
-use Rattle.first_table.proofs.fill.Statement.{statement}
-use Rattle.first_table.proofs.fill.Tie as tie
-use Rattle.first_table.proofs.fill.Reads as reads
-use Rattle.first_table.proofs.fill.Lts as lts
-use Rattle.first_table.proofs.put_table.Reads as put-table-reads
+use Rattle.publication_tables.specs.FirstTable.{tables}
+use Rattle.publication_tables.specs.FillLaws.{fills-next, tables-none}
+use Rattle.publication_tables.proofs.fill.Statement.{statement}
+use Rattle.publication_tables.proofs.fill.Tie as tie
+use Rattle.publication_tables.proofs.fill.Reads as reads
+use Rattle.publication_tables.proofs.fill.Lts as lts
+use Rattle.publication_tables.proofs.put_table.Reads as put-table-reads
 
 abbrev Inv-loop : tie.InvT-loop
 Inv-loop entries₀ slots table s₀ entries s = (s ≤ slots) × (length entries ≡ length entries₀) × (take (s * 32) entries ≡ tables s table)

@@ -8,12 +8,12 @@ use mathlib.Core.Bool.{false}
 use Rattle.base.specs.Rows.{anyBelow}
 use Rattle.base.specs.RowLaws.{some-below, none-below, none-first, none-more}
 use Rattle.calls.specs.PitchLaws.{pitch-back}
-use Rattle.first_table.specs.FirstTable.{steep, entryOf}
-use Rattle.first_table.proofs.any_steep.Statement.{statement}
-use Rattle.first_table.proofs.any_steep.Tie as tie
-use Rattle.first_table.proofs.any_steep.Reads as reads
-use Rattle.first_table.proofs.any_steep.Lts as lts
-use Rattle.first_table.proofs.differ.Reads as differ-reads
+use Rattle.publication_tables.specs.FirstTable.{steep, entryOf}
+use Rattle.publication_tables.proofs.any_steep.Statement.{statement}
+use Rattle.publication_tables.proofs.any_steep.Tie as tie
+use Rattle.publication_tables.proofs.any_steep.Reads as reads
+use Rattle.publication_tables.proofs.any_steep.Lts as lts
+use Rattle.publication_tables.proofs.differ.Reads as differ-reads
 
 abbrev Inv-loop : tie.InvT-loop
 Inv-loop table n k₀ k = (k ≤ n - 1) × (anyBelow (λ i. steep (entryOf table i) (entryOf table (i + 1))) k ≡ false)
