@@ -1,4 +1,5 @@
 pub mod Numbers
+pub mod FirstTable
 pub mod PitchLaws
 pub mod Events
 pub mod Model

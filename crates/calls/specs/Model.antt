@@ -3,12 +3,11 @@ use Prim.Native.Nat.{ℕ, zero, suc}
 use mathlib.Core.List.{List, [], _∷_, _++_}
 use mathlib.Core.Option.{Option, none, some}
 use lib.IntN.{ℤ}
-use lib.ListN.{replicate}
 use Rattle.base.specs.Base.{choose, upd, is}
 use Rattle.calls.specs.declared.Call.{Call}
 use Rattle.calls.specs.declared.Call.the-variants.{Enter, Look, Leave, Claim, Write, Swap, Sync, Raise, Walk, Release}
 use Rattle.calls.specs.declared.Reply.{Reply}
-use Rattle.calls.specs.Numbers.{TABLE, FEATHERED, PLACE-PICKED}
+use Rattle.calls.specs.Numbers.{PLACE-PICKED}
 use Rattle.calls.specs.Events.{Event, placeOf, foldEvents}
 
 -- It has one table, a note per reader and a draft per publisher.
@@ -17,11 +16,7 @@ pub record Model : Type 0 where
   pub note : ℕ → List ℤ
   pub draft : ℕ → List ℤ
 
--- One table (first all 9000).
-abbrev pub firstTable : List ℤ
-firstTable = replicate TABLE FEATHERED
-
--- At first: the first table, no notes and no drafts.
+-- At first: the table lent to the making, no notes and no drafts.
 abbrev pub model₀ : List ℤ → Model
 model₀ first = record { table = first; note = λ r. []; draft = λ p. [] }
 

@@ -25,13 +25,18 @@ PITCH-BITS = 16
 abbrev pub PITCH-HALF : ℕ
 PITCH-HALF = 32768
 
--- It is in hundredths of a degree, -500 to 9500; a fresh store has every entry 9000 (feathered).
+-- It is in hundredths of a degree, -500 to 9500.
 abbrev pub PITCH-LOW : ℤ
 PITCH-LOW = negℤ (pos 500)
 
 abbrev pub PITCH-HIGH : ℤ
 PITCH-HIGH = pos 9500
 
+-- Two neighbours of a first table may differ by so much.
+abbrev pub STEP-MAX : ℤ
+STEP-MAX = pos 1500
+
+-- A feathered blade.
 abbrev pub FEATHERED : ℤ
 FEATHERED = pos 9000
 
@@ -149,6 +154,15 @@ VERSION-IS-LAST = 32
 
 abbrev pub TOO-MANY-LOOKS : ℕ
 TOO-MANY-LOOKS = 33
+
+abbrev pub BAD-TABLE-LENGTH : ℕ
+BAD-TABLE-LENGTH = 40
+
+abbrev pub BAD-TABLE-PITCH : ℕ
+BAD-TABLE-PITCH = 41
+
+abbrev pub BAD-TABLE-STEP : ℕ
+BAD-TABLE-STEP = 42
 
 -- The codes of accepted replies for C, in document 01's order of replies.
 abbrev pub CODE-MADE : ℕ

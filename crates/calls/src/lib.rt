@@ -11,7 +11,9 @@ pub const PITCH_HALF: u64 = 32768;
 pub const PITCH_LOW: Pitch = -500;
 
 pub const PITCH_HIGH: Pitch = 9500;
-// Every entry of a fresh store.
+// Two neighbours of a first table may differ by so much.
+pub const STEP_MAX: Pitch = 1500;
+// A feathered blade: an entry of many a first table.
 pub const FEATHERED: Pitch = 9000;
 
 pub const READERS_MAX: u16 = 64;
@@ -97,6 +99,12 @@ pub const BUSY: u64 = 31;
 pub const VERSION_IS_LAST: u64 = 32;
 
 pub const TOO_MANY_LOOKS: u64 = 33;
+
+pub const BAD_TABLE_LENGTH: u64 = 40;
+
+pub const BAD_TABLE_PITCH: u64 = 41;
+
+pub const BAD_TABLE_STEP: u64 = 42;
 
 // The codes of accepted replies for C, in document 01's order of replies.
 pub const CODE_MADE: u64 = 100;

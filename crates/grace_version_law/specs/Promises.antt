@@ -18,7 +18,6 @@ use Rattle.calls.specs.declared.WalkReply.the-variants.{Waiting, Spent, Quiet, 
 use Rattle.calls.specs.Numbers.{PLACE-PUBLISHED, PLACE-IDLE, PLACE-RAISED, NO-SUCH-PUBLISHER, NO-SUCH-SLOT, PUBLISHER-TURN, BUSY, SLOT-IN-USE}
 use Rattle.calls.specs.Events.{accepted}
 use Rattle.calls.specs.Tally.{tallyOf}
-use Rattle.calls.specs.Model.{firstTable}
 use Rattle.layout.specs.declared.WalkResult.{WalkResult}
 use Rattle.layout.specs.Layout.{readers, publishers, slots, current, readerAt}
 use Rattle.statement.specs.Machine.{State, Given, Fresh, events, afterAll, heldSlot}
@@ -43,7 +42,7 @@ use Rattle.grace_version_law.specs.Safety.{law, next-below, kind-shows, 
 pub new-promises : Promises rules traits
 new-promises = promises-of fixed traits kind-shows
 
-pub new-demand3 : Demand3 GraceVersion (λ z. firstTable)
+pub new-demand3 : Demand3 GraceVersion (λ z. z .table)
 new-demand3 = new-promises .demand3
 
 pub new-walk-zero : (s : State) (p : ℕ) → step rules s (Walk p 0) .reply ≡ Walked Spent → step rules s (Walk p 0) .after ≡ s

@@ -1,7 +1,6 @@
 -- In what the new store differs for the companions of demand 3.
 use Prim.Native.Nat.{suc, _+_}
 use mathlib.Core.Bool.{true, false}
-use Rattle.calls.specs.Model.{firstTable}
 use Rattle.calls.specs.Tally.{inPhase}
 use Rattle.calls.specs.Tally.Phase.{synchronising, raised}
 use Rattle.statement.specs.Companions.{GraceTraits}
@@ -11,7 +10,7 @@ use Rattle.statement.specs.Companions.{GraceTraits}
 abbrev pub traits : GraceTraits
 traits = record {
   every = record {
-    firstTable = λ z. firstTable;
+    firstTable = λ z. z .table;
     last = 18446744073709551614;
     lacks = λ c. false;
     exclusive = false;

@@ -7,8 +7,7 @@ use mathlib.Core.Logic.{_≢_}
 use mathlib.Core.Bool.{Bool, true, false, not, _&&_, _||_}
 use mathlib.Core.List.{List, _∷_}
 use lib.IntN.{ℤ, pos}
-use lib.Signed.{ltZ}
-use lib.ListN.{getD, set, length, replicate}
+use lib.ListN.{getD, set}
 use lib.Dec.{ltb, eqb}
 use borrow.Author.Tests.{eqb-true, eqb-false, eq-eqb, ne-eqb, lt-leb, lt-ltb, le-ltb}
 use Rattle.base.specs.Rows.{firstOf, anyTrue}
@@ -17,7 +16,8 @@ use Rattle.base.specs.RowLaws.{not-both, or-false, or-right, or-none, neither, 
 use Rattle.calls.specs.declared.Call.{Call}
 use Rattle.calls.specs.declared.Call.the-variants.{Enter, Leave, Raise, Walk}
 use Rattle.calls.specs.declared.Reply.the-variants.{Made, Pitch, Claimed, Written, Swapped, Synced, Raised, Shared, Walked, Freed, Refused}
-use Rattle.calls.specs.Numbers.{FEATHERED, PITCH-LOW, PITCH-HIGH, MODULUS, NUMBER-MAX, PLACE-OPEN, PLACE-PICKED, PLACE-IDLE, PLACE-CLAIMED, PLACE-WRITTEN, PLACE-SWAPPED, PLACE-SYNCHRONISING, PLACE-RAISED, PLACE-RETURNED, DAMAGED}
+use Rattle.calls.specs.FirstTable.{outOfRange, tables}
+use Rattle.calls.specs.Numbers.{MODULUS, NUMBER-MAX, PLACE-OPEN, PLACE-PICKED, PLACE-IDLE, PLACE-CLAIMED, PLACE-WRITTEN, PLACE-SWAPPED, PLACE-SYNCHRONISING, PLACE-RAISED, PLACE-RETURNED, DAMAGED}
 use Rattle.layout.specs.declared.Reader.{Reader}
 use Rattle.layout.specs.declared.Publisher.{Publisher}
 use Rattle.layout.specs.declared.WalkResult.{WalkResult}
@@ -121,7 +121,7 @@ module _ (w : List ℕ) (p : ℕ) (y : Publisher) (named : p < publishers w) (is
       rw (put, is) (sym (decide-accepts (claimTests exclusive (state w es) p slot) (claim (state w es) p slot) (state w es)
       (claim-rows exclusive (state w es) p slot (record { publisher-named = named; slot-named = low; in-turn = rw is at turn; nobody-busy = busy es; unused = used es }))))
 
-  pub write-is : (w′ : List ℕ) (es : List ℤ) (v : ℤ) → (ltZ v PITCH-LOW || ltZ PITCH-HIGH v) ≡ false → PLACE-CLAIMED ≤ y .place → y .place ≤ 32
+  pub write-is : (w′ : List ℕ) (es : List ℤ) (v : ℤ) → outOfRange v ≡ false → PLACE-CLAIMED ≤ y .place → y .place ≤ 32
       → w′ ≡ withPublisher w p (y atPlace (y .place + 1))
       → outcome (Written (y .place)) (state w′ (set es (entryAt (y .held) (y .place - 1)) v)) ≡ decide (writeTests (state w es) p v) (write (state w es) p v) (state w es)
   write-is w′ es v range low high put =
@@ -157,11 +157,11 @@ module _ (w : List ℕ) (p : ℕ) (y : Publisher) (named : p < publishers w) (is
       rw (put, more, is) (sym (decide-accepts (releaseTests (state w es) p) (release (state w es) p) (state w es) (lt-leb _ _ named, (not-at _ 38 (rw is at turn), tt))))
 
 -- Making, by the number of its first row that applies.
-module _ (vs : Versions) (w : List ℕ) (es : List ℤ) (kind rs ps ss ver : ℕ) (x : Reader) where
-  pub make-is : (w′ : List ℕ) (es′ : List ℤ) → firstOf (makingTests vs (given rs ps ss ver) (state w es)) ≡ 0 → w′ ≡ freshWords kind rs ps ss ver x → es′ ≡ replicate (length es) FEATHERED
-      → outcome Made (state w′ es′) ≡ decide (makingTests vs (given rs ps ss ver) (state w es)) (outcome Made (made kind x (given rs ps ss ver) (state w es))) (state w es)
+module _ (vs : Versions) (w : List ℕ) (es : List ℤ) (kind rs ps ss ver : ℕ) (table : List ℤ) (x : Reader) where
+  pub make-is : (w′ : List ℕ) (es′ : List ℤ) → firstOf (makingTests vs (given rs ps ss ver table) (state w es)) ≡ 0 → w′ ≡ freshWords kind rs ps ss ver x → es′ ≡ tables ss table
+      → outcome Made (state w′ es′) ≡ decide (makingTests vs (given rs ps ss ver table) (state w es)) (outcome Made (made kind x (given rs ps ss ver table) (state w es))) (state w es)
   make-is w′ es′ e put fill = rw (put, fill, e) refl
 
-  pub make-refused : (n : ℕ) → n ≢ 0 → n ≡ firstOf (makingTests vs (given rs ps ss ver) (state w es))
-      → outcome (Refused n) (state w es) ≡ decide (makingTests vs (given rs ps ss ver) (state w es)) (outcome Made (made kind x (given rs ps ss ver) (state w es))) (state w es)
+  pub make-refused : (n : ℕ) → n ≢ 0 → n ≡ firstOf (makingTests vs (given rs ps ss ver table) (state w es))
+      → outcome (Refused n) (state w es) ≡ decide (makingTests vs (given rs ps ss ver table) (state w es)) (outcome Made (made kind x (given rs ps ss ver table) (state w es))) (state w es)
   make-refused n ne e = rw (← e, ne-eqb n 0 ne) refl

@@ -1,14 +1,19 @@
 -- A making and a CLAIM to which no row applies, each row by its name. Assumes nothing.
-use Prim.Native.Nat.{ℕ, _*_, _<_, _≤_}
+use Prim.Native.Nat.{ℕ, _+_, _-_, _*_, _<_, _≤_}
+use native.Mathlib.Omega.{arith}
 use mathlib.Core.Path.{_≡_, refl}
 use mathlib.Core.Bool.{Bool, false, _&&_}
+use mathlib.Core.List.{List}
+use lib.IntN.{ℤ}
 use lib.ListN.{length}
 use borrow.Author.Tests.{eqb-true, eq-eqb, leb-false, lt-leb, not-false}
 use Rattle.base.specs.Rows.{firstOf}
-use Rattle.base.specs.RowLaws.{negated, within, not-outside, AllClear, clear}
+use Rattle.base.specs.RowLaws.{negated, within, not-outside, none-below, no-below, AllClear, clear}
 use Rattle.calls.specs.Numbers.{READERS-MAX, PUBLISHERS-MAX, SLOTS-MIN, SLOTS-MAX, TABLE, PLACE-IDLE}
+use Rattle.calls.specs.FirstTable.{outOfRange, anyOutOfRange, steep, anySteep, entryOf}
 use Rattle.layout.specs.Layout.{WORDS, publishers, slots}
 use Rattle.statement.specs.Machine.{State, Given}
+use Rattle.statement.specs.Companions.{GoodTable}
 use Rattle.publication_law.specs.Steps.{Versions, publisher, anotherBusy, inUse, claimTests, makingTests}
 
 pub record MakingClear (vs : Versions) (z : Given) (s : State) : Type 0 where
@@ -21,6 +26,9 @@ pub record MakingClear (vs : Versions) (z : Given) (s : State) : Type 0 where
   pub slots-high : z .slots ≤ SLOTS-MAX
   pub entries-are : length (s .entries) ≡ z .slots * TABLE
   pub version-fits : vs .tooLarge (z .version) ≡ false
+  pub table-long : length (z .table) ≡ TABLE
+  pub table-in-range : anyOutOfRange (z .table) ≡ false
+  pub table-even : anySteep (z .table) ≡ false
 
 module _ (vs : Versions) (z : Given) (s : State) where
   pub making-clear : AllClear (makingTests vs z s) → MakingClear vs z s
@@ -38,6 +46,9 @@ module _ (vs : Versions) (z : Given) (s : State) where
         slots-high = ss .1;
         entries-are = eqb-true _ _ (not-false _ (f .1 .1 .1 .1 .0));
         version-fits = f .1 .1 .1 .1 .1 .0;
+        table-long = eqb-true _ _ (not-false _ (f .1 .1 .1 .1 .1 .1 .0));
+        table-in-range = f .1 .1 .1 .1 .1 .1 .1 .0;
+        table-even = f .1 .1 .1 .1 .1 .1 .1 .1 .0;
       }
 
   pub making-rows : MakingClear vs z s → AllClear (makingTests vs z s)
@@ -47,14 +58,29 @@ module _ (vs : Versions) (z : Given) (s : State) where
       not-outside 1 READERS-MAX _ (f .readers-low) (f .readers-high),
       (
         not-outside 1 PUBLISHERS-MAX _ (f .publishers-low) (f .publishers-high),
-        (not-outside SLOTS-MIN SLOTS-MAX _ (f .slots-low) (f .slots-high), (negated _ (eq-eqb _ _ (f .entries-are)), (f .version-fits, tt))),
+        (not-outside SLOTS-MIN SLOTS-MAX _ (f .slots-low) (f .slots-high), (negated _ (eq-eqb _ _ (f .entries-are)), (f .version-fits, (negated _ (eq-eqb _ _ (f .table-long)), (f .table-in-range, (f .table-even, tt)))))),
       ),
     ),
   )
 
+  -- Its table is a good one.
+  pub table-is-good : MakingClear vs z s → GoodTable (z .table)
+  table-is-good f = record {
+    long = f .table-long;
+    in-range = λ k l. none-below (λ k. outOfRange (entryOf (z .table) k)) _ k (f .table-in-range) (omega (arith, f .table-long));
+    even = λ k l. none-below (λ k. steep (entryOf (z .table) k) (entryOf (z .table) (k + 1))) _ k (f .table-even) (omega (arith, f .table-long));
+  }
+
   -- The same from the number of its first row that applies: there is none.
   pub making-unrefused : firstOf (makingTests vs z s) ≡ 0 → MakingClear vs z s
   making-unrefused e = making-clear (clear (makingTests vs z s) refl e)
+
+-- The last two rows do not apply to a good table.
+pub good-in-range : (table : List ℤ) → GoodTable table → anyOutOfRange table ≡ false
+good-in-range table good = no-below (λ k. outOfRange (entryOf table k)) (length table) (λ k l. good .in-range k (omega (arith, good .long)))
+
+pub good-even : (table : List ℤ) → GoodTable table → anySteep table ≡ false
+good-even table good = no-below (λ k. steep (entryOf table k) (entryOf table (k + 1))) (length table - 1) (λ k l. good .even k (omega (arith, good .long)))
 
 pub record ClaimClear (exclusive : Bool) (s : State) (p slot : ℕ) : Type 0 where
   pub publisher-named : p < publishers (s .words)

@@ -14,7 +14,6 @@ use Rattle.calls.specs.declared.Call.the-variants.{Enter, Leave, Sync, Raise, W
 use Rattle.calls.specs.declared.Reply.the-variants.{At, Left, Synced, Walked}
 use Rattle.calls.specs.declared.WalkReply.the-variants.{Returned}
 use Rattle.calls.specs.Numbers.{PLACE-OUT, PLACE-OPEN, PLACE-SWAPPED, PLACE-SYNCHRONISING, PLACE-QUIET, PLACE-RAISED, PLACE-RETURNED}
-use Rattle.calls.specs.Model.{firstTable}
 use Rattle.layout.specs.declared.Reader.{Reader}
 use Rattle.layout.specs.declared.Publisher.{Publisher}
 use Rattle.layout.specs.declared.WalkResult.{WalkResult}
@@ -36,7 +35,7 @@ use Rattle.publication_law.specs.KindShows.{WholeInvariant}
 
 module _ (D : Detector) where
   -- At the start nobody is waited for.
-  pub start-own : (number : ℕ) (x : Reader) (z : Given) (s : State) → (let w = made number x z s .words in D .Readers (version w) (readers w) (indicator w) (readerAt w)) → invariantOf D (ghost₀ firstTable) (made number x z s)
+  pub start-own : (number : ℕ) (x : Reader) (z : Given) (s : State) → (let w = made number x z s .words in D .Readers (version w) (readers w) (indicator w) (readerAt w)) → invariantOf D (ghost₀ (z .table)) (made number x z s)
   start-own number x z s f = record {
     waited-for = λ p r e. clash (sym e);
     counted = λ p. rw (fresh-publisher number (z .readers) (z .publishers) (z .slots) (z .version) x p) (λ l. absurd (omega arith));

@@ -13,7 +13,6 @@ use Rattle.calls.specs.declared.Reply.the-variants.{At, Left, Synced, Walked, F
 use Rattle.calls.specs.declared.WalkReply.{WalkReply}
 use Rattle.calls.specs.declared.WalkReply.the-variants.{Waiting, Spent, Quiet, Returned}
 use Rattle.calls.specs.Numbers.{PLACE-OUT, PLACE-IDLE, PLACE-SWAPPED, PLACE-SYNCHRONISING, PLACE-QUIET, PLACE-RAISED, PLACE-RETURNED}
-use Rattle.calls.specs.Model.{firstTable}
 use Rattle.calls.specs.Told.{holds}
 use Rattle.calls.specs.Tally.{withPhase}
 use Rattle.calls.specs.Tally.Phase.{idle, synchronising, quiet, raised, returned}
@@ -192,7 +191,7 @@ module _ (K : DamageRules) (law : KindLaw K) (z : Given) (g : Ghost) (s : State)
 
 -- A fresh store.
 pub made-grace-invariant : (K : DamageRules) (x : Reader) (z : Given) (s : State) → MakingClear (K .versions) z s → x .place ≡ PLACE-OUT → x .picked ≡ 0
-    → K .readerDamaged (z .readers) (z .slots) x ≡ false → K .publisherDamaged (z .readers) (z .slots) noPublisher ≡ false → GraceInvariant K z (ghost₀ firstTable) (made (K .number) x z s)
+    → K .readerDamaged (z .readers) (z .slots) x ≡ false → K .publisherDamaged (z .readers) (z .slots) noPublisher ≡ false → GraceInvariant K z (ghost₀ (z .table)) (made (K .number) x z s)
 made-grace-invariant K x z s f out none reader-ok publisher-ok = record {
   every = every.made-invariant K x z s f out none reader-ok publisher-ok;
   grace = rw (

@@ -7,16 +7,17 @@ use mathlib.Core.Bool.{Bool, true, false}
 use mathlib.Core.List.{List}
 use mathlib.Core.Option.{some}
 use lib.IntN.{ℤ, pos}
-use lib.ListN.{getD, set, length, length-set, replicate, length-replicate}
+use lib.ListN.{getD, set, length, length-set}
 use lib.Dec.{ltb, eqb}
 use borrow.Author.Tests.{eqb-true, eqb-false, leb-false, le-leb, ltb-false, lt-ltb, not-false}
 use Rattle.base.specs.Base.{choose}
 use Rattle.base.specs.RowLaws.{not-both, or-false, within, none-below, no-below, choose-split, same, AllClear}
 use Rattle.calls.specs.declared.Call.the-variants.{Claim, Write, Swap}
 use Rattle.calls.specs.declared.Reply.the-variants.{Claimed, Written, Swapped}
-use Rattle.calls.specs.Numbers.{READERS-MAX, TABLE, FEATHERED, PLACE-OUT, PLACE-IDLE, PLACE-CLAIMED, PLACE-SWAPPED}
-use Rattle.calls.specs.Model.{entry, firstTable}
-use Rattle.calls.specs.ModelLaws.{entry-same}
+use Rattle.calls.specs.Numbers.{READERS-MAX, TABLE, PLACE-OUT, PLACE-IDLE, PLACE-CLAIMED, PLACE-SWAPPED}
+use Rattle.calls.specs.FirstTable.{tables}
+use Rattle.calls.specs.Model.{entry}
+use Rattle.calls.specs.ModelLaws.{entry-within}
 use Rattle.calls.specs.Told.{holds, Has}
 use Rattle.calls.specs.Told.Role.{free}
 use Rattle.calls.specs.Tally.{Phase}
@@ -24,9 +25,10 @@ use Rattle.calls.specs.Tally.Phase.{idle, writing, swapped}
 use Rattle.layout.specs.declared.Reader.{Reader}
 use Rattle.layout.specs.declared.Publisher.{Publisher}
 use Rattle.layout.specs.Layout.{HEAD, KIND-AT, READERS-AT, PUBLISHERS-AT, SLOTS-AT, CURRENT-AT, VERSION-AT, readers, publishers, slots, current, entryAt, freshWords, noReader, noPublisher, slotEntry}
-use Rattle.layout.specs.Entries.{set-entry, slot-same}
+use Rattle.layout.specs.Entries.{set-entry}
 use Rattle.layout.specs.Records.{_atPlace_, _held≔_}
 use Rattle.layout.specs.Laws.{fresh-long, fresh-head, fresh-reader, fresh-publisher}
+use Rattle.publication_tables.specs.FillLaws.{tables-long, tables-entry}
 use Rattle.statement.specs.Machine.{State, Given, heldSlot}
 use Rattle.statement.specs.Demand3.{Slots, Picks}
 use Rattle.statement.specs.KeptInvariant.{Ghost, ghost₀, ghostStep}
@@ -172,8 +174,8 @@ module _ (K : DamageRules) (x : Reader) (z : Given) (s : State) (f : MakingClear
   unfolding w
   head j l = fresh-head (K .number) (z .readers) (z .publishers) (z .slots) (z .version) x j l
 
-  entries-long : length (replicate (length (s .entries)) FEATHERED) ≡ z .slots * TABLE
-  entries-long = length-replicate (length (s .entries)) FEATHERED ∙ f .entries-are
+  entries-long : length (tables (z .slots) (z .table)) ≡ z .slots * TABLE
+  entries-long = tables-long (z .table) (f .table-long) (z .slots)
 
   made-undamaged : K .readerDamaged (z .readers) (z .slots) x ≡ false → K .publisherDamaged (z .readers) (z .slots) noPublisher ≡ false → Undamaged K (made (K .number) x z s)
   unfolding w
@@ -198,7 +200,7 @@ module _ (K : DamageRules) (x : Reader) (z : Given) (s : State) (f : MakingClear
   }
 
   pub made-invariant : x .place ≡ PLACE-OUT → x .picked ≡ 0 → K .readerDamaged (z .readers) (z .slots) x ≡ false → K .publisherDamaged (z .readers) (z .slots) noPublisher ≡ false
-      → Invariant K z (ghost₀ firstTable) (made (K .number) x z s)
+      → Invariant K z (ghost₀ (z .table)) (made (K .number) x z s)
   unfolding w
   made-invariant out none reader-ok publisher-ok = record {
     no-damage = made-undamaged reader-ok publisher-ok;
@@ -213,7 +215,7 @@ module _ (K : DamageRules) (x : Reader) (z : Given) (s : State) (f : MakingClear
       publishers-fresh (K .number) x z s (λ (y : Publisher). y .held),
       publishers-fresh (K .number) x z s formers,
     )
-        (fresh-core firstTable _ _ (slotEntry (replicate (length (s .entries)) FEATHERED)) refl
-        (λ k l. entry-same TABLE k FEATHERED l ∙ ap some (sym (slot-same (length (s .entries)) k FEATHERED l (omega (arith, f .entries-are, f .slots-low))))));
+        (fresh-core (z .table) _ _ (slotEntry (tables (z .slots) (z .table))) (f .table-long)
+        (λ k l. entry-within (z .table) k (omega (arith, f .table-long)) ∙ ap some (rw (lt-ltb k TABLE l) (sym (tables-entry (z .table) (f .table-long) (z .slots) 0 k (omega (arith, f .slots-low)) l)))));
     phases = rw (readers-fresh (K .number) x z s (λ (x′ : Reader). x′ .place) out refl, publishers-fresh (K .number) x z s (λ (y : Publisher). y .place)) fresh-phases;
   }

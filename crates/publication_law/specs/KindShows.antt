@@ -7,7 +7,7 @@ use mathlib.Core.Logic.{_≢_}
 use mathlib.Core.Bool.{Bool, true, false, not}
 use mathlib.Core.List.{List, [], _∷_}
 use lib.IntN.{ℤ, pos}
-use lib.ListN.{getD, length-set, replicate}
+use lib.ListN.{getD, length-set}
 use lib.Seq.{getD-set-same, getD-set-other}
 use lib.Dec.{eqb}
 use borrow.Author.Tests.{eqb-true, eq-eqb, leb-false, lt-leb, lt-ltb, ltb-false, le-ltb, not-false}
@@ -17,11 +17,10 @@ use Rattle.calls.specs.declared.Call.the-variants.{Enter, Look, Leave, Claim, W
 use Rattle.calls.specs.declared.Reply.{Reply}
 use Rattle.calls.specs.declared.Reply.the-variants.{Made, At, Left, Synced, Walked, Freed, Refused}
 use Rattle.calls.specs.declared.WalkReply.the-variants.{Spent, Returned}
-use Rattle.calls.specs.Numbers.{READERS-MAX, FEATHERED, NUMBER-MAX, NOT-READING, MODULUS, PLACE-OPEN, PLACE-IDLE, PLACE-CLAIMED, PLACE-WRITTEN, PLACE-SWAPPED, PLACE-RETURNED, DAMAGED}
+use Rattle.calls.specs.Numbers.{READERS-MAX, NUMBER-MAX, NOT-READING, MODULUS, PLACE-OPEN, PLACE-IDLE, PLACE-CLAIMED, PLACE-WRITTEN, PLACE-SWAPPED, PLACE-RETURNED, DAMAGED}
 use Rattle.calls.specs.ReplyNumbersLaws.{Representable}
 use Rattle.calls.specs.Events.{accepted}
 use Rattle.calls.specs.Events.Event.{_⇒_}
-use Rattle.calls.specs.Model.{firstTable}
 use Rattle.calls.specs.Tally.{Phase, firstPlace}
 use Rattle.calls.specs.Tally.Phase.{swapped, returned}
 use Rattle.layout.specs.declared.Reader.{Reader}
@@ -32,10 +31,11 @@ use Rattle.layout.specs.Laws.{publisher-back, fresh-head, fresh-long, fresh-ind
 use Rattle.statement.specs.Machine.{State, state, Outcome, outcome, Given, Fresh, events, afterAll}
 use Rattle.statement.specs.Demand3.{Demand3}
 use Rattle.statement.specs.Frame.{PlaceAndOne, LeaveStays, nextEntry, Writes}
+use Rattle.publication_tables.specs.FillLaws.{tables-long, tables-entry}
 use Rattle.statement.specs.Companions.{GraceTraits, IsFresh, MakesFresh, MakingAccepts, InTurn, StateCompanions, GraceStateCompanions, GraceCompanions}
 use Rattle.statement.specs.KeptInvariant.{Ghost, ghost₀, ghostStep, afterEvent, afterEvents, Back, GraceKeptInvariant, kept-after, grace-demand3, grace-companions}
 use Rattle.publication_law.specs.Steps.{reader, publisher, enterTests, leaveTests, syncTests, sync, raise, walk, oneMore, makingTests, made}
-use Rattle.publication_law.specs.Clear.{MakingClear, making-clear, making-rows, claim-clear}
+use Rattle.publication_law.specs.Clear.{MakingClear, making-clear, making-rows, table-is-good, good-in-range, good-even, claim-clear}
 use Rattle.publication_law.specs.Damage.{DamageRules, sharedDamage}
 use Rattle.publication_law.specs.Table.{damaged, rows, step, making, machine}
 use Rattle.publication_law.specs.SectionRules.{SectionRules, tableBy}
@@ -61,7 +61,7 @@ pub record WholeInvariant (K : DamageRules) (KindInvariant : Ghost → State →
 pub record KindShows (R : SectionRules) (traits : GraceTraits) : Type 1 where
   pub kind-law : KindLaw (R .damage)
   -- what is said of the kind beside its rules
-  pub first-is : traits .every .firstTable ≡ (λ z. firstTable)
+  pub first-is : traits .every .firstTable ≡ (λ z. z .table)
   pub lacks-is : (c : Call) → traits .every .lacks c ≡ false
   pub exclusive-is : traits .every .exclusive ≡ R .exclusive
   pub successor-is : traits .successor ≡ R .damage .versions .markAt
@@ -71,7 +71,7 @@ pub record KindShows (R : SectionRules) (traits : GraceTraits) : Type 1 where
   pub last-fits : (ver : ℕ) → ver ≤ traits .every .last → R .damage .versions .tooLarge ver ≡ false
   pub below-last : (ver : ℕ) → ver < traits .every .last → R .damage .versions .isLast ver ≡ false
   pub KindInvariant : Ghost → State → Type 0
-  pub start-own : (z : Given) (s : State) → MakingClear (R .damage .versions) z s → KindInvariant (ghost₀ firstTable) (made (R .damage .number) (R .freshReader) z s)
+  pub start-own : (z : Given) (s : State) → MakingClear (R .damage .versions) z s → KindInvariant (ghost₀ (z .table)) (made (R .damage .number) (R .freshReader) z s)
   pub fresh-is : R .freshReader ≡ blankReader NOT-READING
   pub fresh-reader-fits : (rs ss : ℕ) → R .damage .readerDamaged rs ss (R .freshReader) ≡ false
   pub no-further : (z : Given) (g : Ghost) (s : State) → WholeInvariant (R .damage) KindInvariant z g s → R .further s ≡ false
@@ -363,11 +363,11 @@ module _ (R : SectionRules) (traits : GraceTraits) (L : KindShows R traits) wher
   outcome-parts : (o : Outcome) (a : Reply) (s : State) → o ≡ outcome a s → (o .reply ≡ a) × (o .after ≡ s)
   outcome-parts o a s e = (ap (λ (o′ : Outcome). o′ .reply) e, ap (λ (o′ : Outcome). o′ .after) e)
 
-  start : (s : State) (f : Fresh (machine (tableBy R)) s) → WholeInvariant (R .damage) (L .KindInvariant) (f .arguments) (ghost₀ firstTable) s
+  start : (s : State) (f : Fresh (machine (tableBy R)) s) → WholeInvariant (R .damage) (L .KindInvariant) (f .arguments) (ghost₀ (f .arguments .table)) s
   unfolding making
-  start s f = decided (λ (o : Outcome). o ≡ outcome Made s → WholeInvariant (R .damage) (L .KindInvariant) (f .arguments) (ghost₀ firstTable) s) (makingTests (R .damage .versions) (f .arguments) (f .lent))
+  start s f = decided (λ (o : Outcome). o ≡ outcome Made s → WholeInvariant (R .damage) (L .KindInvariant) (f .arguments) (ghost₀ (f .arguments .table)) s) (makingTests (R .damage .versions) (f .arguments) (f .lent))
       (outcome Made (made (R .damage .number) (R .freshReader) (f .arguments) (f .lent))) (f .lent) refl
-      (λ ok e. subst (λ (s′ : State). WholeInvariant (R .damage) (L .KindInvariant) (f .arguments) (ghost₀ firstTable) s′) (outcome-parts _ _ _ e .1) (record {
+      (λ ok e. subst (λ (s′ : State). WholeInvariant (R .damage) (L .KindInvariant) (f .arguments) (ghost₀ (f .arguments .table)) s′) (outcome-parts _ _ _ e .1) (record {
         shared = made-grace-invariant (R .damage) (R .freshReader) (f .arguments) (f .lent) (making-clear (R .damage .versions) (f .arguments) (f .lent) ok) (ap (λ (x : Reader). x .place) (L .fresh-is)) (ap (λ (x : Reader). x .picked) (L .fresh-is)) (L .fresh-reader-fits _ _) (early-fits (L .kind-law) (f .arguments .readers) (f .arguments .slots) noPublisher (omega arith) (λ l. absurd (omega arith)));
         own = L .start-own (f .arguments) (f .lent) (making-clear (R .damage .versions) (f .arguments) (f .lent) ok);
       }))
@@ -390,7 +390,9 @@ module _ (R : SectionRules) (traits : GraceTraits) (L : KindShows R traits) wher
         indicators-are = fresh-indicator number (z .readers) (z .publishers) (z .slots) (z .version) x;
         readers-are = λ r l. fresh-reader number (z .readers) (z .publishers) (z .slots) (z .version) x r ∙ rw (lt-ltb r READERS-MAX l) (L .fresh-is);
         publishers-are = fresh-publisher number (z .readers) (z .publishers) (z .slots) (z .version) x;
-        entries-are = ap (λ (n : ℕ). replicate n FEATHERED) (ok .entries-are);
+        table-good = table-is-good (R .damage .versions) z s ok;
+        entries-long = tables-long (z .table) (ok .table-long) (z .slots);
+        entries-are = tables-entry (z .table) (ok .table-long) (z .slots);
       }
 
   pub makes-fresh-of : MakesFresh (machine (tableBy R))
@@ -432,7 +434,7 @@ module _ (R : SectionRules) (traits : GraceTraits) (L : KindShows R traits) wher
 
   -- The damage test is false after every list from fresh.
   pub never-damaged-of : (s : State) → Fresh (machine (tableBy R)) s → (cs : List Call) → damaged (tableBy R) (afterAll (machine (tableBy R)) s cs) ≡ false
-  never-damaged-of s f cs = go (ghost₀ firstTable) s (start s f) cs
+  never-damaged-of s f cs = go (ghost₀ (f .arguments .table)) s (start s f) cs
     where
       go : (g : Ghost) (s′ : State) → WholeInvariant (R .damage) (L .KindInvariant) (f .arguments) g s′ → (cs : List Call) → damaged (tableBy R) (afterAll (machine (tableBy R)) s′ cs) ≡ false
       go g s′ i [] = undamaged-now (f .arguments) g s′ i
@@ -441,7 +443,7 @@ module _ (R : SectionRules) (traits : GraceTraits) (L : KindShows R traits) wher
   -- A making with every argument in its range is accepted.
   pub making-accepts-of : MakingAccepts (machine (tableBy R)) (traits .every)
   unfolding making
-  making-accepts-of z s long rs-low rs-high ps-low ps-high ss-low ss-high len low = rw (decide-accepts (makingTests (R .damage .versions) z s) (outcome Made (made (R .damage .number) (R .freshReader) z s)) s
+  making-accepts-of z s long rs-low rs-high ps-low ps-high ss-low ss-high len low good = rw (decide-accepts (makingTests (R .damage .versions) z s) (outcome Made (made (R .damage .number) (R .freshReader) z s)) s
       (making-rows (R .damage .versions) z s (record {
         long = long;
         readers-low = rs-low;
@@ -452,6 +454,9 @@ module _ (R : SectionRules) (traits : GraceTraits) (L : KindShows R traits) wher
         slots-high = ss-high;
         entries-are = len;
         version-fits = L .last-fits _ low;
+        table-long = good .long;
+        table-in-range = good-in-range (z .table) good;
+        table-even = good-even (z .table) good;
       }))) refl
 
   -- A WALK with no looks that replies spent leaves the whole state as it was.

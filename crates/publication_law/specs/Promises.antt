@@ -11,11 +11,12 @@ use lib.Dec.{leb, eqb}
 use borrow.Author.Tests.{eqb-true, eqb-false, leb-true, leb-false, not-false}
 use Rattle.base.specs.RowLaws.{clash, not-both, choose-split}
 use Rattle.calls.specs.declared.Call.{Call}
-use Rattle.calls.specs.declared.Call.the-variants.{Sync, Raise, Walk}
+use Rattle.calls.specs.declared.Call.the-variants.{Write, Sync, Raise, Walk}
 use Rattle.calls.specs.declared.Reply.the-variants.{Synced, Raised, Shared, Walked}
 use Rattle.calls.specs.declared.WalkReply.the-variants.{Spent}
 use Rattle.calls.specs.Numbers.{PLACE-SYNCHRONISING, PLACE-RAISED}
 use Rattle.calls.specs.ReplyNumbersLaws.{PitchFitsWord, Representable}
+use Rattle.calls.specs.FirstTable.{outOfRange}
 use Rattle.calls.specs.Events.{accepted}
 use Rattle.layout.specs.declared.WalkResult.{WalkResult}
 use Rattle.layout.specs.Layout.{VERSION-AT, publishers, version}
@@ -23,6 +24,7 @@ use Rattle.layout.specs.Records.{_atPlace_, _walk≔_, _mark≔_, _next≔_, _l
 use Rattle.statement.specs.Machine.{State, Outcome, Given, Fresh, afterAll}
 use Rattle.statement.specs.Demand3.{Demand3}
 use Rattle.statement.specs.Frame.{Frame}
+use Rattle.statement.specs.Looks.{LooksInRange, FirstTableFirst, WritesInRange, looks-in-range, first-table-first}
 use Rattle.statement.specs.Companions.{GraceTraits, MakingAccepts, MakesFresh, RefusedLeaves, GraceCompanions}
 use Rattle.publication_law.specs.Steps.{publisher, raise, walked}
 use Rattle.publication_law.specs.Table.{Table, damaged, rows, step, making, machine}
@@ -50,6 +52,9 @@ pub record RaiseFacts (successor : ℕ → ℕ) (s : State) (p : ℕ) (o : Outco
 pub record Promises (T : Table) (traits : GraceTraits) : Type 0 where
   pub demand3 : Demand3 (machine T) (traits .every .firstTable)
   pub companions : GraceCompanions (machine T) traits
+  -- every accepted look is of a pitch in range, and of the table lent to the making until a SWAP is accepted
+  pub looks-in-range : LooksInRange (machine T)
+  pub first-table-first : FirstTableFirst (machine T)
   -- the damage test is false after every list from fresh
   pub never-damaged : (s : State) → Fresh (machine T) s → (cs : List Call) → damaged T (afterAll (machine T) s cs) ≡ false
   pub making-accepts : MakingAccepts (machine T) (traits .every)
@@ -71,6 +76,15 @@ module _ (R : SectionRules) (traits : GraceTraits) (L : KindShows R traits) wher
   unfolding step
   sync-facts-of s p = decided (λ (o : Outcome). accepted (o .reply) ≡ true → SyncFacts (traits .successor) s p o) (rows (tableBy R) s (Sync p)) (tableBy R .act s (Sync p)) s refl
       (λ f _. rw (L .successor-is) (record { reply-is = refl; record-is = publisher-written (publisher-moves (undamaged-facts (tableBy R) s (f .0)) p _ (leb-false _ _ (f .1 .0))) }))
+      (λ ok. clash (sym ok))
+
+  own-table : Demand3 (machine (tableBy R)) (λ z. z .table)
+  own-table = rw (L .first-is) at (demand3-of R traits L)
+
+  writes-in-range : WritesInRange (machine (tableBy R))
+  unfolding step
+  writes-in-range s p v = decided (λ (o : Outcome). accepted (o .reply) ≡ true → outOfRange v ≡ false) (rows (tableBy R) s (Write p v)) (tableBy R .act s (Write p v)) s refl
+      (λ f _. f .1 .1 .0)
       (λ ok. clash (sym ok))
 
   -- A RAISE of a publisher whose mark fits.
@@ -109,6 +123,8 @@ pub promises-of : (R : SectionRules) (traits : GraceTraits) → KindShows R trai
 promises-of R traits L = record {
   demand3 = demand3-of R traits L;
   companions = companions-of R traits L;
+  looks-in-range = looks-in-range (machine (tableBy R)) (writes-in-range R traits L) (own-table R traits L) (makes-fresh-of R traits L);
+  first-table-first = first-table-first (machine (tableBy R)) (own-table R traits L);
   never-damaged = never-damaged-of R traits L;
   making-accepts = making-accepts-of R traits L;
   refused-leaves = refused-leaves-of-acts (λ s. traits .publishes) (tableBy R) (act-laws-of R traits L);

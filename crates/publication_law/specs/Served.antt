@@ -6,14 +6,14 @@ use mathlib.Core.Logic.{_≢_}
 use mathlib.Core.Bool.{Bool, true, false, not, _&&_}
 use mathlib.Core.Option.{some}
 use lib.IntN.{ℤ}
-use lib.Signed.{ltZ}
 use lib.ListN.{length}
 use lib.Dec.{leb, eqb}
 use borrow.Author.Tests.{eqb-true, eqb-false, eq-eqb, ne-eqb, leb-false, lt-leb, le-ltb, not-true, not-false}
-use Rattle.base.specs.RowLaws.{clash, and-not, neither, negated, within, not-outside, no-below, some-below, AllClear}
+use Rattle.base.specs.RowLaws.{clash, and-not, negated, within, not-outside, no-below, some-below, AllClear}
 use Rattle.calls.specs.declared.Call.the-variants.{Look, Claim, Write, Swap}
 use Rattle.calls.specs.declared.Reply.the-variants.{Pitch, Claimed, Written, Swapped, Refused}
-use Rattle.calls.specs.Numbers.{TABLE, PITCH-LOW, PITCH-HIGH, PLACE-PICKED, PLACE-IDLE, BUSY}
+use Rattle.calls.specs.FirstTable.{outOfRange}
+use Rattle.calls.specs.Numbers.{TABLE, PLACE-PICKED, PLACE-IDLE, BUSY}
 use Rattle.calls.specs.Events.{accepted}
 use Rattle.calls.specs.Model.{entry}
 use Rattle.calls.specs.Told.{Has}
@@ -110,15 +110,15 @@ module _ (K : DamageRules) (z : Given) (g : Ghost) (s : State) (i : Invariant K 
         let another : anotherBusy s p ≡ true = some-below (λ q. not (eqb q p) && not (eqb (publisher s q .place) PLACE-IDLE)) (publishers (s .words)) q (busy-now .0) (rw (ne-eqb q p ne, busy-now .1) refl) in
         rw (served .claims p x, named-publisher p pn, named-slot x xn, eq-eqb (publisher s p .place) 0 (placed K z g s i p idle idle-now), e, another) refl
 
-    pub writes-on : (p : ℕ) (v : ℤ) → p < z .publishers → g .tally .phase p ≡ writing → length (g .model .draft p) < TABLE → ltZ v PITCH-LOW ≡ false → ltZ PITCH-HIGH v ≡ false
+    pub writes-on : (p : ℕ) (v : ℤ) → p < z .publishers → g .tally .phase p ≡ writing → length (g .model .draft p) < TABLE → outOfRange v ≡ false
         → M .step s (Write p v) .reply ≡ Written (length (g .model .draft p) + 1)
-    writes-on p v pn ph short low high =
+    writes-on p v pn ph short in-range =
         let at = placed K z g s i p writing ph in
         let drafted = i .core .publishers p .drafted (at .0) (at .1) in
         rw (
           served .writes p v,
           decide-accepts (writeTests s p v) (write s p v) s
-              (named-publisher p pn, (neither (ltZ v PITCH-LOW) (ltZ PITCH-HIGH v) low high, (not-outside 1 32 (publisher s p .place) (at .0) (omega arith), tt))),
+              (named-publisher p pn, (in-range, (not-outside 1 32 (publisher s p .place) (at .0) (omega arith), tt))),
         ) (ap Written (sym drafted))
 
     pub swaps-on : (p : ℕ) → p < z .publishers → g .tally .phase p ≡ writing → length (g .model .draft p) ≡ TABLE → (x : ℕ) × (g .told .current ≡ some x) × (M .step s (Swap p) .reply ≡ Swapped x)

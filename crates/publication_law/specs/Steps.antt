@@ -3,8 +3,7 @@ use Prim.Native.Nat.{ℕ, _+_, _-_, _*_, _%_}
 use mathlib.Core.Bool.{Bool, not, _&&_, _||_}
 use mathlib.Core.List.{List, [], _∷_}
 use lib.IntN.{ℤ, pos}
-use lib.Signed.{ltZ}
-use lib.ListN.{getD, set, length, replicate}
+use lib.ListN.{getD, set, length}
 use lib.Dec.{leb, ltb, eqb}
 use Rattle.base.specs.Base.{choose}
 use Rattle.base.specs.Rows.{Test, firstOf, anyBelow, outside}
@@ -12,7 +11,8 @@ use Rattle.base.specs.Rows.Test.{_gives_}
 use Rattle.calls.specs.declared.Reply.the-variants.{Pitch, Claimed, Written, Swapped, Synced, Raised, Shared, Walked, Freed, Refused}
 use Rattle.calls.specs.declared.WalkReply.{WalkReply}
 use Rattle.calls.specs.declared.WalkReply.the-variants.{Waiting, Spent, Quiet, Returned}
-use Rattle.calls.specs.Numbers.{READERS-MAX, PUBLISHERS-MAX, SLOTS-MIN, SLOTS-MAX, TABLE, PITCH-LOW, PITCH-HIGH, FEATHERED, MODULUS, NUMBER-MAX, PLACE-OPEN, PLACE-PICKED, PLACE-IDLE, PLACE-CLAIMED, PLACE-WRITTEN, PLACE-SWAPPED, PLACE-SYNCHRONISING, PLACE-QUIET, PLACE-RAISED, PLACE-RETURNED, DAMAGED, BAD-READERS, BAD-PUBLISHERS, BAD-SLOTS, BAD-ENTRIES, BAD-VERSION, NO-SUCH-READER, NO-SUCH-PUBLISHER, NO-SUCH-SLOT, NO-SUCH-ENTRY, BAD-PITCH, READER-TURN, PUBLISHER-TURN, SLOT-IN-USE, BUSY, VERSION-IS-LAST, TOO-MANY-LOOKS}
+use Rattle.calls.specs.Numbers.{READERS-MAX, PUBLISHERS-MAX, SLOTS-MIN, SLOTS-MAX, TABLE, MODULUS, NUMBER-MAX, PLACE-OPEN, PLACE-PICKED, PLACE-IDLE, PLACE-CLAIMED, PLACE-WRITTEN, PLACE-SWAPPED, PLACE-SYNCHRONISING, PLACE-QUIET, PLACE-RAISED, PLACE-RETURNED, DAMAGED, BAD-READERS, BAD-PUBLISHERS, BAD-SLOTS, BAD-ENTRIES, BAD-VERSION, NO-SUCH-READER, NO-SUCH-PUBLISHER, NO-SUCH-SLOT, NO-SUCH-ENTRY, BAD-PITCH, READER-TURN, PUBLISHER-TURN, SLOT-IN-USE, BUSY, VERSION-IS-LAST, TOO-MANY-LOOKS, BAD-TABLE-LENGTH, BAD-TABLE-PITCH, BAD-TABLE-STEP}
+use Rattle.calls.specs.FirstTable.{outOfRange, anyOutOfRange, anySteep, tables}
 use Rattle.layout.specs.declared.Reader.{Reader}
 use Rattle.layout.specs.declared.Publisher.{Publisher}
 use Rattle.layout.specs.declared.WalkRecord.{WalkRecord}
@@ -68,7 +68,7 @@ abbrev pub noSuchEntry : ℕ → Test
 noSuchEntry k = leb TABLE k gives NO-SUCH-ENTRY
 
 abbrev pub badPitch : ℤ → Test
-badPitch v = (ltZ v PITCH-LOW || ltZ PITCH-HIGH v) gives BAD-PITCH
+badPitch v = outOfRange v gives BAD-PITCH
 
 -- Turn: 20 reader, 21 publisher at a place where the call is not allowed.
 abbrev pub readerTurn : Bool → Test
@@ -180,7 +180,8 @@ release s p = outcome (Freed (publisher s p .held) (oneMore s)) (state
     (s .entries))
 
 -- Making. 1 at any other length of the words, before all else;
--- 2 readers, 3 publishers, 4 slots out of range; 5 entries' length; 6 first version above the last.
+-- 2 readers, 3 publishers, 4 slots out of range; 5 entries' length; 6 first version above the last;
+-- 40 the first table has not 32 entries, 41 an entry is out of range, 42 two neighbours differ by more than 1500.
 abbrev pub makingTests : Versions → Given → State → List Test
 makingTests vs z s =
     (not (eqb (length (s .words)) WORDS) gives DAMAGED)
@@ -189,9 +190,12 @@ makingTests vs z s =
     ∷ (outside SLOTS-MIN SLOTS-MAX (z .slots) gives BAD-SLOTS)
     ∷ (not (eqb (length (s .entries)) (z .slots * TABLE)) gives BAD-ENTRIES)
     ∷ (vs .tooLarge (z .version) gives BAD-VERSION)
+    ∷ (not (eqb (length (z .table)) TABLE) gives BAD-TABLE-LENGTH)
+    ∷ (anyOutOfRange (z .table) gives BAD-TABLE-PITCH)
+    ∷ (anySteep (z .table) gives BAD-TABLE-STEP)
     ∷ []
 
--- A fresh store has every entry feathered, slot 0 current, readers and publishers at place 0, the version and the sizes as given
+-- A fresh store has the first table in every slot, slot 0 current, readers and publishers at place 0, the version and the sizes as given
 -- and every other number 0, but for the kind word and what a kind's fresh reader x has.
 abbrev pub made : ℕ → Reader → Given → State → State
-made kind x z s = state (freshWords kind (z .readers) (z .publishers) (z .slots) (z .version) x) (replicate (length (s .entries)) FEATHERED)
+made kind x z s = state (freshWords kind (z .readers) (z .publishers) (z .slots) (z .version) x) (tables (z .slots) (z .table))

@@ -9,7 +9,7 @@ use lib.Signed.{mag}
 use borrow.Author.Tests.{ltb-false}
 use Rattle.base.specs.RowLaws.{or-false, clash}
 use Rattle.calls.specs.Numbers.{PITCH-HALF}
-use Rattle.publication_tables.specs.FirstTable.{outOfRange}
+use Rattle.calls.specs.FirstTable.{outOfRange}
 
 -- A pitch in range is at most 9500, and not below -500.
 abbrev Low : ℤ → Type 0

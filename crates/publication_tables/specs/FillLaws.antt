@@ -8,7 +8,7 @@ use lib.IntN.{ℤ, pos}
 use lib.ListN.{length, set, take, length-append, List·getD-append}
 use lib.Seq.{getD-append-add, take-suc, take-suc-set}
 use Rattle.calls.specs.Numbers.{TABLE}
-use Rattle.publication_tables.specs.FirstTable.{entryOf, tables}
+use Rattle.calls.specs.FirstTable.{entryOf, tables}
 
 module _ (l : List ℤ) where
   pub tables-more : (n : ℕ) → tables n l ++ l ≡ tables (suc n) l

@@ -1,3 +1,2 @@
-pub mod FirstTable
 pub mod FillLaws
 pub mod Differences

@@ -1,22 +1,20 @@
 // The table that a store starts with: whether it may be one, and every slot filled with it.
-// The contracts cite FirstTable of specs/. No store is made with a table of its own yet: document 02, request 1.
+// The contracts cite FirstTable of calls.
 ghost use Prim.Native.Nat.{ℕ, _+_, _*_, _<_, _≤_};
 ghost use mathlib.Core.Path.{_≡_};
 ghost use mathlib.Core.Bool.{false};
 ghost use mathlib.Core.List.{_++_};
 ghost use lib.ListN.{length, take};
 ghost use Rattle.calls.specs.Numbers.{TABLE};
-ghost use Rattle.publication_tables.specs.FirstTable.{outOfRange, anyOutOfRange, steep, anySteep, tables};
+ghost use Rattle.calls.specs.FirstTable.{outOfRange, anyOutOfRange, steep, anySteep, tables};
 use calls::PITCH_HIGH;
 use calls::PITCH_LOW;
 use calls::Pitch;
+use calls::STEP_MAX;
 use calls::TABLE;
 
-// Two neighbours may differ by so much.
-pub const STEP_MAX: Pitch = 1500;
-
 // Whether a pitch is out of range.
-fn out_of_range(v: Pitch) -> bool
+pub fn out_of_range(v: Pitch) -> bool
     ensures { λ b. ⌜ b ≡ outOfRange v ⌝ }
 {
     (v < PITCH_LOW) | (v > PITCH_HIGH)

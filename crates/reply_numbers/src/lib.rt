@@ -69,7 +69,7 @@ pub fn numbers_of(reply: Reply) -> ReplyNumbers
 // How many numbers of each sort the header names.
 const LIMITS: usize = 14;
 
-const REFUSALS: usize = 17;
+const REFUSALS: usize = 20;
 
 const CODES: usize = 15;
 
@@ -130,6 +130,9 @@ fn refusal(which: usize) -> u64
         calls::BUSY,
         calls::VERSION_IS_LAST,
         calls::TOO_MANY_LOOKS,
+        calls::BAD_TABLE_LENGTH,
+        calls::BAD_TABLE_PITCH,
+        calls::BAD_TABLE_STEP,
     ];
     numbers[which]
 }

@@ -6,14 +6,14 @@ use mathlib.Core.Bool.{Bool, true, false}
 use mathlib.Core.List.{List, _∷_, _++_}
 use mathlib.Core.Option.{some}
 use lib.IntN.{ℤ}
-use lib.Signed.{ltZ}
-use lib.ListN.{length, replicate}
+use lib.ListN.{length}
 use Rattle.calls.specs.declared.Call.{Call}
 use Rattle.calls.specs.declared.Call.the-variants.{Enter, Look, Leave, Claim, Write, Swap, Sync, Raise, Walk, Release}
 use Rattle.calls.specs.declared.Reply.{Reply}
 use Rattle.calls.specs.declared.Reply.the-variants.{Made, At, Left, Claimed, Written, Swapped, Walked, Freed, Refused}
 use Rattle.calls.specs.declared.WalkReply.the-variants.{Returned}
-use Rattle.calls.specs.Numbers.{READERS-MAX, PUBLISHERS-MAX, SLOTS-MIN, SLOTS-MAX, TABLE, PITCH-LOW, PITCH-HIGH, FEATHERED, NOT-READING, NUMBER-MAX, MODULUS, PLACE-OPEN, PLACE-PICKED, DAMAGED, BUSY}
+use Rattle.calls.specs.Numbers.{READERS-MAX, PUBLISHERS-MAX, SLOTS-MIN, SLOTS-MAX, TABLE, NOT-READING, NUMBER-MAX, MODULUS, PLACE-OPEN, PLACE-PICKED, DAMAGED, BUSY}
+use Rattle.calls.specs.FirstTable.{outOfRange, steep, entryOf}
 use Rattle.calls.specs.Events.{Event, accepted}
 use Rattle.calls.specs.Events.Event.{_⇒_}
 use Rattle.calls.specs.Model.{Model, modelOf}
@@ -21,7 +21,7 @@ use Rattle.calls.specs.Told.{Told, toldBy, holds, Has}
 use Rattle.calls.specs.Told.Role.{free}
 use Rattle.calls.specs.Tally.{Phase, Tally, tallyOf}
 use Rattle.calls.specs.Tally.Phase.{idle, writing, swapped, raised, returned}
-use Rattle.layout.specs.Layout.{WORDS, readers, publishers, slots, current, version, releases, indicator, noPublisher, blankReader, readerAt, publisherAt}
+use Rattle.layout.specs.Layout.{WORDS, readers, publishers, slots, current, version, releases, indicator, noPublisher, blankReader, readerAt, publisherAt, entryAt}
 use Rattle.statement.specs.Machine.{State, outcome, Given, Machine, Fresh, events, afterAll}
 
 -- In what the kinds differ here.
@@ -50,12 +50,18 @@ pub record GraceTraits : Type 0 where
   -- whether readers publish versions, so that a LEAVE publishes too
   pub publishes : Bool
 
--- A making with every argument in its range, and lent words and entries of the right lengths, is accepted.
+-- A table that a store may start with: 32 entries, each in range, and no two neighbours more than 1500 apart.
+pub record GoodTable (table : List ℤ) : Type 0 where
+  pub long : length table ≡ TABLE
+  pub in-range : (k : ℕ) → k < TABLE → outOfRange (entryOf table k) ≡ false
+  pub even : (k : ℕ) → k + 1 < TABLE → steep (entryOf table k) (entryOf table (k + 1)) ≡ false
+
+-- A making with every argument in its range, lent words and entries of the right lengths and a good table, is accepted.
 abbrev pub MakingAccepts : Machine → Traits → Type 0
 MakingAccepts M traits = (z : Given) (s : State) → length (s .words) ≡ WORDS → 1 ≤ z .readers → z .readers ≤ READERS-MAX → 1 ≤ z .publishers → z .publishers ≤ PUBLISHERS-MAX
-    → SLOTS-MIN ≤ z .slots → z .slots ≤ SLOTS-MAX → length (s .entries) ≡ z .slots * TABLE → z .version ≤ traits .last → M .making z s .reply ≡ Made
+    → SLOTS-MIN ≤ z .slots → z .slots ≤ SLOTS-MAX → length (s .entries) ≡ z .slots * TABLE → z .version ≤ traits .last → GoodTable (z .table) → M .making z s .reply ≡ Made
 
--- A fresh store, to the letter: every entry feathered, slot 0 current, readers and publishers at place 0, published versions NOT_READING, the version and the sizes as given
+-- A fresh store, to the letter: entry k of every slot is entry k of the lent table, which is a good one; slot 0 current, readers and publishers at place 0, published versions NOT_READING, the version and the sizes as given
 -- and every other number 0.
 pub record IsFresh (z : Given) (s : State) : Type 0 where
   pub long : length (s .words) ≡ WORDS
@@ -68,7 +74,9 @@ pub record IsFresh (z : Given) (s : State) : Type 0 where
   pub indicators-are : (i : ℕ) → indicator (s .words) i ≡ 0
   pub readers-are : (r : ℕ) → r < READERS-MAX → readerAt (s .words) r ≡ blankReader NOT-READING
   pub publishers-are : (p : ℕ) → publisherAt (s .words) p ≡ noPublisher
-  pub entries-are : s .entries ≡ replicate (z .slots * TABLE) FEATHERED
+  pub table-good : GoodTable (z .table)
+  pub entries-long : length (s .entries) ≡ z .slots * TABLE
+  pub entries-are : (slot k : ℕ) → slot < z .slots → k < TABLE → entryOf (s .entries) (entryAt slot k) ≡ entryOf (z .table) k
 
 abbrev pub MakesFresh : Machine → Type 0
 MakesFresh M = (s : State) (f : Fresh M s) → IsFresh (f .arguments) s
@@ -108,7 +116,7 @@ pub record StateCompanions (M : Machine) (traits : Traits) (z : Given) (h : Mode
   -- who is told to hold nothing is idle: so claims speaks of every publisher that holds nothing
   pub idle-if : (p : ℕ) → ((slot : ℕ) → holds t p slot ≡ false) → u .phase p ≡ idle
   -- a publisher's next call is accepted: it writes 32 entries, then swaps
-  pub writes : (p : ℕ) (v : ℤ) → p < z .publishers → u .phase p ≡ writing → length (h .draft p) < TABLE → ltZ v PITCH-LOW ≡ false → ltZ PITCH-HIGH v ≡ false
+  pub writes : (p : ℕ) (v : ℤ) → p < z .publishers → u .phase p ≡ writing → length (h .draft p) < TABLE → outOfRange v ≡ false
       → M .step s (Write p v) .reply ≡ Written (length (h .draft p) + 1)
   pub swaps : (p : ℕ) → p < z .publishers → u .phase p ≡ writing → length (h .draft p) ≡ TABLE → (slot : ℕ) × (t .current ≡ some slot) × (M .step s (Swap p) .reply ≡ Swapped slot)
 

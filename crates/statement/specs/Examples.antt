@@ -10,10 +10,17 @@ use Rattle.calls.specs.declared.Call.{Call}
 use Rattle.calls.specs.declared.Call.the-variants.{Enter, Claim, Write, Swap}
 use Rattle.calls.specs.declared.Reply.{Reply}
 use Rattle.calls.specs.declared.Reply.the-variants.{Made, Written, Refused}
-use Rattle.calls.specs.Numbers.{TABLE}
+use Rattle.calls.specs.Numbers.{TABLE, FEATHERED}
 use Rattle.calls.specs.Events.{accepted}
 use Rattle.layout.specs.Layout.{WORDS}
 use Rattle.statement.specs.Machine.{State, state, Given, given, Machine, afterAll}
+
+-- The first table of P1: 32 times 9000. Every other example that names none has it too.
+abbrev pub featheredTable : List ℤ
+featheredTable = replicate TABLE FEATHERED
+
+abbrev pub givenFeathered : ℕ → ℕ → ℕ → ℕ → Given
+givenFeathered readers publishers slots version = given readers publishers slots version featheredTable
 
 -- What is lent to the making of an example: words of the right length and as many entries as asked, all 0.
 abbrev pub lentFor : Given → State
@@ -84,12 +91,12 @@ tableFrom p slot v = Claim p slot ∷ writesFrom p v TABLE
 -- Examples that name no kind.
 -- P9: pitches -500, 9500 accepted; -501, 9501 get 14.
 abbrev pub P9 : Machine → Example
-P9 M = shows M (given 1 1 2 0) (Claim 0 1 ∷ [])
+P9 M = shows M (givenFeathered 1 1 2 0) (Claim 0 1 ∷ [])
     (Write 0 (negℤ (pos 500)) ∷ Write 0 (pos 9500) ∷ Write 0 (negℤ (pos 501)) ∷ Write 0 (pos 9501) ∷ [])
     (Made ∷ Written 1 ∷ Written 2 ∷ Refused 14 ∷ Refused 14 ∷ [])
 
 -- P10: SWAP with 31 written and a 33rd WRITE get 21.
 abbrev pub P10 : Machine → Example
-P10 M = shows M (given 1 1 2 0) (Claim 0 1 ∷ replicate 31 (Write 0 (pos 5)))
+P10 M = shows M (givenFeathered 1 1 2 0) (Claim 0 1 ∷ replicate 31 (Write 0 (pos 5)))
     (Swap 0 ∷ Write 0 (pos 5) ∷ Write 0 (pos 5) ∷ [])
     (Made ∷ Refused 21 ∷ Written 32 ∷ Refused 21 ∷ [])

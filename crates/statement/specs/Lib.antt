@@ -2,6 +2,7 @@
 pub mod Machine
 pub mod Demand3
 pub mod Companions
+pub mod Looks
 pub mod Frame
 pub mod FreeSlot
 -- What gives them: an invariant that each step keeps; another machine that is alike.

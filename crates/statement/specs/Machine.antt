@@ -31,15 +31,16 @@ pub record Outcome : Type 0 where
 abbrev pub outcome : Reply → State → Outcome
 outcome a s = record { reply = a; after = s }
 
--- What a making is given beside the lent words and entries.
+-- What a making is given beside the lent words and entries: three sizes, the first version and the first table.
 pub record Given : Type 0 where
   pub readers : ℕ
   pub publishers : ℕ
   pub slots : ℕ
   pub version : ℕ
+  pub table : List ℤ
 
-abbrev pub given : ℕ → ℕ → ℕ → ℕ → Given
-given readers publishers slots version = record { readers = readers; publishers = publishers; slots = slots; version = version }
+abbrev pub given : ℕ → ℕ → ℕ → ℕ → List ℤ → Given
+given readers publishers slots version table = record { readers = readers; publishers = publishers; slots = slots; version = version; table = table }
 
 -- A kind gives its making and its step, and nothing else.
 pub record Machine : Type 0 where

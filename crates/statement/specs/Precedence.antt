@@ -1,9 +1,9 @@
 -- The order of the refusals, by examples that name no kind. Where a call or making but the last gets a number, the next row of document 01's table applies to it too:
 -- the one after it differs in one thing, so that the first row no longer applies, and gets the number of the next.
--- `makingEnds`, `enterRows` and the last of `walkRows` are not about the order: they show where a number begins.
-use Prim.Native.Nat.{ℕ, _+_}
+-- `tableEnds`, `makingEnds`, `enterRows` and the last of `walkRows` are not about the order: they show where a number begins.
+use Prim.Native.Nat.{ℕ, zero, suc, _+_}
 use mathlib.Core.List.{List, [], _∷_, _++_}
-use lib.IntN.{pos}
+use lib.IntN.{ℤ, pos, negℤ}
 use lib.ListN.{replicate}
 use Rattle.calls.specs.declared.Call.the-variants.{Enter, Look, Leave, Claim, Write, Swap, Sync, Raise, Walk, Release}
 use Rattle.calls.specs.declared.Reply.the-variants.{Made, Swapped, Walked, Freed, Refused}
@@ -12,62 +12,97 @@ use Rattle.layout.specs.declared.Publisher.{Publisher}
 use Rattle.layout.specs.Layout.{WORDS, withCurrent, withPublisher, noPublisher, noWalk}
 use Rattle.layout.specs.Records.{_atPlace_, _held≔_, _walk≔_, _mark≔_, _looks≔_}
 use Rattle.statement.specs.Machine.{State, state, Given, given, Machine}
-use Rattle.statement.specs.Examples.{Example, lentFor, enters, claimAndWrite}
+use Rattle.statement.specs.Examples.{Example, givenFeathered, lentFor, enters, claimAndWrite}
 use Rattle.statement.specs.Examples.Example.{shows, makes, each}
 
 -- Words and entries lent to a making, all 0.
 abbrev lent : ℕ → ℕ → State
 lent words entries = state (replicate words 0) (replicate entries (pos 0))
 
--- Making: 1 before 2, 2 before 3, 3 before 4, 4 before 5, 5 before 6. At first nothing is as it must be: words, readers, publishers, slots, entries, version.
+-- A first table: v, and n times v′ after it.
+abbrev thenAll : ℤ → ℤ → ℕ → List ℤ
+thenAll v v′ n = v ∷ replicate n v′
+
+-- Making: 1 before 2, 2 before 3, 3 before 4, 4 before 5, 5 before 6, 6 before 40, 40 before 41, 41 before 42.
+-- At first nothing is as it must be: words, readers, publishers, slots, entries, version, and a table of 31 entries with one out of range and far from its neighbour.
 abbrev pub makingRows : Machine → ℕ → List Example
 makingRows M last =
-    makes M (given 0 0 1 (last + 1)) (lent 424 31) (Refused 1)
-    ∷ makes M (given 0 0 1 (last + 1)) (lent WORDS 31) (Refused 2)
-    ∷ makes M (given 1 0 1 (last + 1)) (lent WORDS 31) (Refused 3)
-    ∷ makes M (given 1 1 1 (last + 1)) (lent WORDS 31) (Refused 4)
-    ∷ makes M (given 1 1 2 (last + 1)) (lent WORDS 31) (Refused 5)
-    ∷ makes M (given 1 1 2 (last + 1)) (lent WORDS 64) (Refused 6)
-    ∷ makes M (given 1 1 2 last) (lent WORDS 64) Made
+    let short = thenAll (pos 9501) (pos 0) 30 in
+    makes M (given 0 0 1 (last + 1) short) (lent 424 31) (Refused 1)
+    ∷ makes M (given 0 0 1 (last + 1) short) (lent WORDS 31) (Refused 2)
+    ∷ makes M (given 1 0 1 (last + 1) short) (lent WORDS 31) (Refused 3)
+    ∷ makes M (given 1 1 1 (last + 1) short) (lent WORDS 31) (Refused 4)
+    ∷ makes M (given 1 1 2 (last + 1) short) (lent WORDS 31) (Refused 5)
+    ∷ makes M (given 1 1 2 (last + 1) short) (lent WORDS 64) (Refused 6)
+    ∷ makes M (given 1 1 2 last short) (lent WORDS 64) (Refused 40)
+    ∷ makes M (given 1 1 2 last (thenAll (pos 9501) (pos 0) 31)) (lent WORDS 64) (Refused 41)
+    ∷ makes M (given 1 1 2 last (thenAll (pos 9500) (pos 0) 31)) (lent WORDS 64) (Refused 42)
+    ∷ makes M (given 1 1 2 last (thenAll (pos 1500) (pos 0) 31)) (lent WORDS 64) Made
+    ∷ []
+
+-- A first table of n pairs v, v′; and one of n entries from v up by steps.
+abbrev pairs : ℕ → ℤ → ℤ → List ℤ
+pairs zero v v′ = []
+pairs (suc n) v v′ = v ∷ v′ ∷ pairs n v v′
+
+abbrev ramp : ℕ → ℕ → ℕ → List ℤ
+ramp zero v by = []
+ramp (suc n) v by = pos v ∷ ramp n (v + by) by
+
+-- The ends of a first table. No entries get 40, and 33; with a first version above the last they get 6. -501 and 9501 get 41 wherever they stand.
+-- Steps of 1500 are made, up and down; 1501 gets 42, at the first pair and at the last. Entries 31 and 0 are no neighbours.
+abbrev pub tableEnds : Machine → ℕ → List Example
+tableEnds M last =
+    makes M (given 1 1 2 last []) (lent WORDS 64) (Refused 40)
+    ∷ makes M (given 1 1 2 last (replicate 33 (pos 0))) (lent WORDS 64) (Refused 40)
+    ∷ makes M (given 1 1 2 (last + 1) []) (lent WORDS 64) (Refused 6)
+    ∷ makes M (given 1 1 2 last (replicate 31 (negℤ (pos 500)) ++ (negℤ (pos 501) ∷ []))) (lent WORDS 64) (Refused 41)
+    ∷ makes M (given 1 1 2 last (thenAll (pos 9501) (pos 9500) 31)) (lent WORDS 64) (Refused 41)
+    ∷ makes M (given 1 1 2 last (replicate 32 (negℤ (pos 500)))) (lent WORDS 64) Made
+    ∷ makes M (given 1 1 2 last (replicate 32 (pos 9500))) (lent WORDS 64) Made
+    ∷ makes M (given 1 1 2 last (pairs 16 (negℤ (pos 500)) (pos 1000))) (lent WORDS 64) Made
+    ∷ makes M (given 1 1 2 last (thenAll (negℤ (pos 500)) (pos 1001) 31)) (lent WORDS 64) (Refused 42)
+    ∷ makes M (given 1 1 2 last (replicate 31 (pos 1501) ++ (pos 0 ∷ []))) (lent WORDS 64) (Refused 42)
+    ∷ makes M (given 1 1 2 last (ramp 32 0 300)) (lent WORDS 64) Made
     ∷ []
 
 -- The ends of making: 64 readers, 16 publishers and 32 slots on 425 words and 1024 entries are made; one more of each gets 2, 3, 4 and 1.
 abbrev pub makingEnds : Machine → List Example
 makingEnds M =
-    makes M (given 64 16 32 0) (lent 425 1024) Made
-    ∷ makes M (given 65 16 32 0) (lent 425 1024) (Refused 2)
-    ∷ makes M (given 64 17 32 0) (lent 425 1024) (Refused 3)
-    ∷ makes M (given 64 16 33 0) (lent 425 1056) (Refused 4)
-    ∷ makes M (given 64 16 32 0) (lent 426 1024) (Refused 1)
+    makes M (givenFeathered 64 16 32 0) (lent 425 1024) Made
+    ∷ makes M (givenFeathered 65 16 32 0) (lent 425 1024) (Refused 2)
+    ∷ makes M (givenFeathered 64 17 32 0) (lent 425 1024) (Refused 3)
+    ∷ makes M (givenFeathered 64 16 33 0) (lent 425 1056) (Refused 4)
+    ∷ makes M (givenFeathered 64 16 32 0) (lent 426 1024) (Refused 1)
     ∷ []
 
 -- The calls that are not allowed at place 0 and have no second argument to test, on a fresh store: 10 before 20, 11 before 21, a pair for each call.
 abbrev pub nameRows : Machine → Example
-nameRows M = shows M (given 1 1 2 0) []
+nameRows M = shows M (givenFeathered 1 1 2 0) []
     (Leave 1 ∷ Leave 0 ∷ Swap 1 ∷ Swap 0 ∷ Sync 1 ∷ Sync 0 ∷ Raise 1 ∷ Raise 0 ∷ Walk 1 1 ∷ Walk 0 1 ∷ Release 1 ∷ Release 0 ∷ [])
     (Made ∷ Refused 10 ∷ Refused 20 ∷ Refused 11 ∷ Refused 21 ∷ Refused 11 ∷ Refused 21 ∷ Refused 11 ∷ Refused 21 ∷ Refused 11 ∷ Refused 21 ∷ Refused 11 ∷ Refused 21 ∷ [])
 
 -- ENTER of a reader beyond the store's: 10; and at place 5, to which n ENTERs lead: 20.
 abbrev pub enterRows : Machine → ℕ → Example
-enterRows M n = shows M (given 1 1 2 0) (enters n 0) (Enter 1 ∷ Enter 0 ∷ []) (Made ∷ Refused 10 ∷ Refused 20 ∷ [])
+enterRows M n = shows M (givenFeathered 1 1 2 0) (enters n 0) (Enter 1 ∷ Enter 0 ∷ []) (Made ∷ Refused 10 ∷ Refused 20 ∷ [])
 
 -- LOOK at place 0: 10 before 13, 13 before 20.
 abbrev pub lookRows : Machine → Example
-lookRows M = shows M (given 1 1 2 0) [] (Look 1 32 ∷ Look 0 32 ∷ Look 0 31 ∷ []) (Made ∷ Refused 10 ∷ Refused 13 ∷ Refused 20 ∷ [])
+lookRows M = shows M (givenFeathered 1 1 2 0) [] (Look 1 32 ∷ Look 0 32 ∷ Look 0 31 ∷ []) (Made ∷ Refused 10 ∷ Refused 13 ∷ Refused 20 ∷ [])
 
 -- CLAIM when publisher 0 holds slot 1: 11 before 12, 12 before 21.
 abbrev pub claimRows : Machine → Example
-claimRows M = shows M (given 1 2 3 0) (Claim 0 1 ∷ []) (Claim 2 3 ∷ Claim 0 3 ∷ Claim 0 2 ∷ []) (Made ∷ Refused 11 ∷ Refused 12 ∷ Refused 21 ∷ [])
+claimRows M = shows M (givenFeathered 1 2 3 0) (Claim 0 1 ∷ []) (Claim 2 3 ∷ Claim 0 3 ∷ Claim 0 2 ∷ []) (Made ∷ Refused 11 ∷ Refused 12 ∷ Refused 21 ∷ [])
 
 -- WRITE at place 0: 11 before 14, 14 before 21.
 abbrev pub writeRows : Machine → Example
-writeRows M = shows M (given 1 1 2 0) []
+writeRows M = shows M (givenFeathered 1 1 2 0) []
     (Write 1 (pos 9501) ∷ Write 0 (pos 9501) ∷ Write 0 (pos 9500) ∷ [])
     (Made ∷ Refused 11 ∷ Refused 14 ∷ Refused 21 ∷ [])
 
 -- SYNC at the last version, at place 33 and at 34: 21 before 32.
 abbrev pub syncRows : Machine → ℕ → Example
-syncRows M last = shows M (given 1 1 2 last) (claimAndWrite 0 1 (pos 100)) (Sync 0 ∷ Swap 0 ∷ Sync 0 ∷ []) (Made ∷ Refused 21 ∷ Swapped 0 ∷ Refused 32 ∷ [])
+syncRows M last = shows M (givenFeathered 1 1 2 last) (claimAndWrite 0 1 (pos 100)) (Sync 0 ∷ Swap 0 ∷ Sync 0 ∷ []) (Made ∷ Refused 21 ∷ Swapped 0 ∷ Refused 32 ∷ [])
 
 -- States put together by hand: a fresh store, and what is changed in it.
 abbrev pub freshOf : Machine → Given → State
@@ -80,7 +115,7 @@ abbrev pub withCurrentAs : State → ℕ → State
 withCurrentAs s slot = state (withCurrent (s .words) slot) (s .entries)
 
 abbrev pub small : Given
-small = given 1 1 2 0
+small = givenFeathered 1 1 2 0
 
 -- A current slot beyond the two of a store, and then slot 0: 1 before 10, 1 before 11.
 abbrev pub damagedRows : Machine → List Example
@@ -104,4 +139,4 @@ walkRows M =
 -- All of them, of a kind with this last version and so many ENTERs to place 5.
 abbrev pub sharedRows : Machine → ℕ → ℕ → List Example
 sharedRows M last n =
-    makingRows M last ++ (makingEnds M ++ (damagedRows M ++ (walkRows M ++ (lookRows M ∷ claimRows M ∷ writeRows M ∷ syncRows M last ∷ nameRows M ∷ enterRows M n ∷ []))))
+    makingRows M last ++ (tableEnds M last ++ (makingEnds M ++ (damagedRows M ++ (walkRows M ++ (lookRows M ∷ claimRows M ∷ writeRows M ∷ syncRows M last ∷ nameRows M ∷ enterRows M n ∷ [])))))

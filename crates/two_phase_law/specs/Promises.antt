@@ -6,7 +6,6 @@ use Rattle.calls.specs.declared.Call.the-variants.{Walk}
 use Rattle.calls.specs.declared.Reply.the-variants.{Walked}
 use Rattle.calls.specs.declared.WalkReply.the-variants.{Spent}
 use Rattle.calls.specs.Events.{accepted}
-use Rattle.calls.specs.Model.{firstTable}
 use Rattle.layout.specs.Layout.{indicator}
 use Rattle.statement.specs.Machine.{State}
 use Rattle.statement.specs.Demand3.{Demand3}
@@ -21,7 +20,7 @@ use Rattle.two_phase_law.specs.Safety.{kind-shows}
 pub old-promises : Promises rules traits
 old-promises = promises-of fixed traits kind-shows
 
-pub old-demand3 : Demand3 TwoPhase (λ z. firstTable)
+pub old-demand3 : Demand3 TwoPhase (λ z. z .table)
 old-demand3 = old-promises .demand3
 
 pub old-walk-zero : (s : State) (p : ℕ) → step rules s (Walk p 0) .reply ≡ Walked Spent → step rules s (Walk p 0) .after ≡ s

@@ -4,7 +4,6 @@ use mathlib.Core.Bool.{true, false, _||_}
 use lib.Dec.{eqb}
 use Rattle.base.specs.Base.{choose}
 use Rattle.calls.specs.Numbers.{PLACE-OUT, PLACE-LOADED, PLACE-OPEN, PLACE-PICKED}
-use Rattle.calls.specs.Model.{firstTable}
 use Rattle.calls.specs.Tally.{inPhase}
 use Rattle.calls.specs.Tally.Phase.{synchronising, quiet, raised}
 use Rattle.statement.specs.Companions.{GraceTraits}
@@ -14,7 +13,7 @@ use Rattle.statement.specs.Companions.{GraceTraits}
 abbrev pub traits : GraceTraits
 traits = record {
   every = record {
-    firstTable = λ z. firstTable;
+    firstTable = λ z. z .table;
     last = 9223372036854775807;
     lacks = λ c. false;
     exclusive = true;

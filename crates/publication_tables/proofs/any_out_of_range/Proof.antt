@@ -8,7 +8,7 @@ use mathlib.Core.Bool.{false}
 use Rattle.calls.specs.PitchLaws.{pitch-back}
 use Rattle.base.specs.Rows.{anyBelow}
 use Rattle.base.specs.RowLaws.{some-below, none-first, none-more}
-use Rattle.publication_tables.specs.FirstTable.{outOfRange, entryOf}
+use Rattle.calls.specs.FirstTable.{outOfRange, entryOf}
 use Rattle.publication_tables.proofs.any_out_of_range.Statement.{statement}
 use Rattle.publication_tables.proofs.any_out_of_range.Tie as tie
 use Rattle.publication_tables.proofs.any_out_of_range.Reads as reads

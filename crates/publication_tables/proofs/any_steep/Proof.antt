@@ -8,7 +8,7 @@ use mathlib.Core.Bool.{false}
 use Rattle.base.specs.Rows.{anyBelow}
 use Rattle.base.specs.RowLaws.{some-below, none-below, none-first, none-more}
 use Rattle.calls.specs.PitchLaws.{pitch-back}
-use Rattle.publication_tables.specs.FirstTable.{steep, entryOf}
+use Rattle.calls.specs.FirstTable.{steep, entryOf}
 use Rattle.publication_tables.proofs.any_steep.Statement.{statement}
 use Rattle.publication_tables.proofs.any_steep.Tie as tie
 use Rattle.publication_tables.proofs.any_steep.Reads as reads

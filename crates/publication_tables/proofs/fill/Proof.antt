@@ -5,7 +5,7 @@ use lib.ListN.{length, take}
 use lib.Seq.{take-all}
 use Prim.Native.Nat.{_-_, _*_, _≤_}
 use mathlib.Core.Path.{_≡_, refl, sym, ap, _∙_}
-use Rattle.publication_tables.specs.FirstTable.{tables}
+use Rattle.calls.specs.FirstTable.{tables}
 use Rattle.publication_tables.specs.FillLaws.{fills-next, tables-none}
 use Rattle.publication_tables.proofs.fill.Statement.{statement}
 use Rattle.publication_tables.proofs.fill.Tie as tie

@@ -9,7 +9,7 @@ use mathlib.Core.List.{List, _++_, append-nil}
 use lib.IntN.{ℤ}
 use Rattle.calls.specs.PitchLaws.{pitch-back}
 use Rattle.publication_tables.specs.FillLaws.{puts}
-use Rattle.publication_tables.specs.FirstTable.{entryOf}
+use Rattle.calls.specs.FirstTable.{entryOf}
 use Rattle.publication_tables.proofs.put_table.Statement.{statement}
 use Rattle.publication_tables.proofs.put_table.Tie as tie
 use Rattle.publication_tables.proofs.put_table.Reads as reads

@@ -6,11 +6,7 @@ use lib.IntN.{ℤ, pos, _-ℤ_}
 use lib.ListN.{getD, length}
 use lib.Signed.{ltZ}
 use Rattle.base.specs.Rows.{anyBelow}
-use Rattle.calls.specs.Numbers.{PITCH-LOW, PITCH-HIGH}
-
--- Two neighbours may differ by so much.
-abbrev pub STEP-MAX : ℤ
-STEP-MAX = pos 1500
+use Rattle.calls.specs.Numbers.{PITCH-LOW, PITCH-HIGH, STEP-MAX}
 
 -- A pitch out of range.
 abbrev pub outOfRange : ℤ → Bool
