@@ -10,21 +10,23 @@ use calls::Reply;
 use grace_version_law::LAST;
 use making::make_store;
 
-// Making, in words and entries whatever they hold.
+// Making, in words and entries whatever they hold. The table goes into every slot.
 pub fn make(
     words: &mut [u64],
     entries: &mut [Pitch],
+    table: &[Pitch],
     readers: u16,
     publishers: u16,
     slots: u16,
     version: u64,
 ) -> Reply
     ensures { λ a. ⌜ outcome a (state (now (words .exit)) (now (entries .exit)))
-        ≡ making rules (given readers publishers slots version) (state (now (words .entry)) (now (entries .entry))) ⌝ }
+        ≡ making rules (given readers publishers slots version (now (table .entry))) (state (now (words .entry)) (now (entries .entry))) ⌝ }
 {
     make_store(
         words,
         entries,
+        table,
         KIND_NEW,
         NOT_READING,
         readers,

@@ -15,11 +15,12 @@ use calls::Reply;
 use layout::WORDS;
 use layout::kind_of;
 
-// Making a store of the kind with this number, in words and entries whatever they hold.
+// Making a store of the kind with this number, in words and entries whatever they hold. The table goes into every slot.
 // A number that no kind has gets 1.
 pub fn make(
     words: &mut [u64],
     entries: &mut [Pitch],
+    table: &[Pitch],
     kind: u16,
     readers: u16,
     publishers: u16,
@@ -27,15 +28,17 @@ pub fn make(
     version: u64,
 ) -> Reply
     ensures { λ a. ⌜ outcome a (state (now (words .exit)) (now (entries .exit)))
-        ≡ anyMaking kind (given readers publishers slots version)
+        ≡ anyMaking kind (given readers publishers slots version (now (table .entry)))
         (state (now (words .entry)) (now (entries .entry))) ⌝ }
 {
     let number = kind as u64;
     match number {
         KIND_NEW => {
-            grace_version_making::make(words, entries, readers, publishers, slots, version)
+            grace_version_making::make(words, entries, table, readers, publishers, slots, version)
         }
-        KIND_OLD => { two_phase_making::make(words, entries, readers, publishers, slots, version) }
+        KIND_OLD => {
+            two_phase_making::make(words, entries, table, readers, publishers, slots, version)
+        }
         _ => Reply::Refused(DAMAGED),
     }
 }

@@ -1,23 +1,24 @@
-// What the kinds share of making: for any words, any entries and any numbers.
+// What the kinds share of making: for any words, any entries, any first table and any numbers.
 // Its contracts cite publication_law.
 ghost use mathlib.Core.Path.{_≡_};
 ghost use mathlib.Core.List.{List};
-ghost use Prim.Native.Nat.{ℕ, _+_, _*_, _≤_};
+ghost use Prim.Native.Nat.{ℕ};
 ghost use lib.IntN.{ℤ};
-ghost use lib.ListN.{length, replicate, take};
+ghost use lib.ListN.{length};
 ghost use Rattle.base.specs.Rows.{firstOf};
-ghost use Rattle.calls.specs.Numbers.{FEATHERED, TABLE};
 ghost use Rattle.calls.specs.declared.Reply.the-variants.{Made};
 ghost use Rattle.layout.specs.Layout.{blankReader};
 ghost use Rattle.statement.specs.Machine.{state, outcome, given};
-ghost use Rattle.publication_law.specs.Steps.{Versions, decide, makingTests, made};
+ghost use Rattle.publication_law.specs.Steps.{Versions, decide, tableTests, makingTests, made};
 use calls::BAD_ENTRIES;
 use calls::BAD_PUBLISHERS;
 use calls::BAD_READERS;
 use calls::BAD_SLOTS;
+use calls::BAD_TABLE_LENGTH;
+use calls::BAD_TABLE_PITCH;
+use calls::BAD_TABLE_STEP;
 use calls::BAD_VERSION;
 use calls::DAMAGED;
-use calls::FEATHERED;
 use calls::PUBLISHERS_MAX;
 use calls::Pitch;
 use calls::READERS_MAX;
@@ -27,26 +28,24 @@ use calls::SLOTS_MIN;
 use calls::TABLE;
 use layout::WORDS;
 use layout::put_fresh;
+use publication_tables::any_out_of_range;
+use publication_tables::any_steep;
+use publication_tables::fill;
 
-// Feathers the table at `base`, where all before it are feathered.
-fn feather_table(entries: &mut [Pitch], base: usize)
-    requires { ⌜ (base + TABLE ≤ length (now entries)) × (take base (now entries) ≡ replicate base FEATHERED) ⌝ }
-    ensures { λ _. ⌜ (length (now (entries .exit)) ≡ length (now (entries .entry)))
-        × (take (base + TABLE) (now (entries .exit)) ≡ replicate (base + TABLE) FEATHERED) ⌝ }
+// The number of the first row of a first table that applies, or 0.
+fn table_refusal(table: &[Pitch]) -> u64
+    ensures { λ n. ⌜ n ≡ firstOf (tableTests (now (table .entry))) ⌝ }
 {
-    for k in 0..TABLE {
-        entries[base + k] = FEATHERED;
+    if table.len() != TABLE {
+        return BAD_TABLE_LENGTH;
     }
-}
-
-// Feathers every entry, a table at a time.
-fn feather(entries: &mut [Pitch], slots: u16)
-    requires { ⌜ length (now entries) ≡ slots * TABLE ⌝ }
-    ensures { λ _. ⌜ now (entries .exit) ≡ replicate (length (now (entries .entry))) FEATHERED ⌝ }
-{
-    for s in 0..slots {
-        feather_table(entries, s as usize * TABLE);
+    if any_out_of_range(table) {
+        return BAD_TABLE_PITCH;
     }
+    if any_steep(table) {
+        return BAD_TABLE_STEP;
+    }
+    0
 }
 
 // The number of the first row of making that applies, or 0; `large` says whether the first version is above the last.
@@ -57,10 +56,11 @@ fn first_refusal(
     publishers: u16,
     slots: u16,
     large: bool,
+    table: &[Pitch],
 ) -> u64
     ensures { λ n. ⌜ ((vs : Versions) (w : List ℕ) (es : List ℤ) (version : ℕ) →
         length w ≡ «words_len» → length es ≡ «entries_len» → large ≡ vs .tooLarge version →
-        n ≡ firstOf (makingTests vs (given readers publishers slots version) (state w es))) ⌝ }
+        n ≡ firstOf (makingTests vs (given readers publishers slots version (now (table .entry))) (state w es))) ⌝ }
 {
     if words_len != WORDS {
         return DAMAGED;
@@ -80,7 +80,7 @@ fn first_refusal(
     if large {
         return BAD_VERSION;
     }
-    0
+    table_refusal(table)
 }
 
 // Making of a store of this kind, whose fresh readers have published this;
@@ -88,6 +88,7 @@ fn first_refusal(
 pub fn make_store(
     words: &mut [u64],
     entries: &mut [Pitch],
+    table: &[Pitch],
     kind: u64,
     published: u64,
     readers: u16,
@@ -98,9 +99,9 @@ pub fn make_store(
 ) -> Reply
     ensures { λ a. ⌜ ((vs : Versions) → large ≡ vs .tooLarge version →
         let s = state (now (words .entry)) (now (entries .entry)) in
-        let g = given readers publishers slots version in
+        let z = given readers publishers slots version (now (table .entry)) in
         outcome a (state (now (words .exit)) (now (entries .exit)))
-        ≡ decide (makingTests vs g s) (outcome Made (made kind (blankReader published) g s)) s) ⌝ }
+        ≡ decide (makingTests vs z s) (outcome Made (made kind (blankReader published) z s)) s) ⌝ }
 {
     let n = first_refusal(
         words.len(),
@@ -109,6 +110,7 @@ pub fn make_store(
         publishers,
         slots,
         large,
+        table,
     );
     if n != 0 {
         return Reply::Refused(n);
@@ -122,6 +124,6 @@ pub fn make_store(
         version,
         published,
     );
-    feather(entries, slots);
+    fill(entries, slots, table);
     Reply::Made
 }

@@ -2,11 +2,9 @@
 // A kind tests for damage first, and asks nothing of its own callers.
 // The contracts cite publication_law.
 ghost use mathlib.Core.Path.{_≡_};
-ghost use mathlib.Core.Bool.{_||_};
 ghost use Prim.Native.Nat.{_*_};
 ghost use lib.ListN.{length};
-ghost use lib.Signed.{ltZ};
-ghost use Rattle.calls.specs.Numbers.{TABLE, PITCH-LOW, PITCH-HIGH};
+ghost use Rattle.calls.specs.Numbers.{TABLE};
 ghost use Rattle.layout.specs.Layout.{slots};
 ghost use Rattle.statement.specs.Machine.{state, outcome};
 ghost use Rattle.publication_law.specs.Steps.{decide, lookTests, look, writeTests, write};
@@ -15,8 +13,6 @@ use calls::BAD_PITCH;
 use calls::NO_SUCH_ENTRY;
 use calls::NO_SUCH_PUBLISHER;
 use calls::NO_SUCH_READER;
-use calls::PITCH_HIGH;
-use calls::PITCH_LOW;
 use calls::PLACE_PICKED;
 use calls::PUBLISHER_TURN;
 use calls::Pitch;
@@ -28,6 +24,7 @@ use layout::publishers_of;
 use layout::put_publisher;
 use layout::reader_at;
 use layout::readers_of;
+use publication_tables::out_of_range;
 
 // LOOK r k (place 5): entry k of the picked slot.
 pub fn look_up(words: &[u64], entries: &[Pitch], r: u16, k: u16) -> Reply
@@ -50,13 +47,6 @@ pub fn look_up(words: &[u64], entries: &[Pitch], r: u16, k: u16) -> Reply
     Reply::Pitch(v)
 }
 
-// Whether a pitch is out of range.
-fn bad_pitch(v: Pitch) -> bool
-    ensures { λ b. ⌜ b ≡ (ltZ v PITCH-LOW || ltZ PITCH-HIGH v) ⌝ }
-{
-    (v < PITCH_LOW) | (v > PITCH_HIGH)
-}
-
 // WRITE p v: stores the next entry, and replies with the number written.
 pub fn write_entry(words: &mut [u64], entries: &mut [Pitch], p: u16, v: Pitch) -> Reply
     requires { ⌜ InBounds (now words) × (length (now entries) ≡ slots (now words) * TABLE) ⌝ }
@@ -67,7 +57,7 @@ pub fn write_entry(words: &mut [u64], entries: &mut [Pitch], p: u16, v: Pitch) -
     if p as u64 >= publishers_of(words) {
         return Reply::Refused(NO_SUCH_PUBLISHER);
     }
-    if bad_pitch(v) {
+    if out_of_range(v) {
         return Reply::Refused(BAD_PITCH);
     }
     let at = p as usize;

@@ -179,9 +179,16 @@ release s p = outcome (Freed (publisher s p .held) (oneMore s)) (state
     (withReleases (withPublisher (s .words) p (publisher s p atPlace PLACE-IDLE)) (oneMore s))
     (s .entries))
 
+-- The first table: 40 it has not 32 entries, 41 an entry is out of range, 42 two neighbours differ by more than 1500.
+abbrev pub tableTests : List ℤ → List Test
+tableTests table =
+    (not (eqb (length table) TABLE) gives BAD-TABLE-LENGTH)
+    ∷ (anyOutOfRange table gives BAD-TABLE-PITCH)
+    ∷ (anySteep table gives BAD-TABLE-STEP)
+    ∷ []
+
 -- Making. 1 at any other length of the words, before all else;
--- 2 readers, 3 publishers, 4 slots out of range; 5 entries' length; 6 first version above the last;
--- 40 the first table has not 32 entries, 41 an entry is out of range, 42 two neighbours differ by more than 1500.
+-- 2 readers, 3 publishers, 4 slots out of range; 5 entries' length; 6 first version above the last; then the first table.
 abbrev pub makingTests : Versions → Given → State → List Test
 makingTests vs z s =
     (not (eqb (length (s .words)) WORDS) gives DAMAGED)
@@ -190,10 +197,7 @@ makingTests vs z s =
     ∷ (outside SLOTS-MIN SLOTS-MAX (z .slots) gives BAD-SLOTS)
     ∷ (not (eqb (length (s .entries)) (z .slots * TABLE)) gives BAD-ENTRIES)
     ∷ (vs .tooLarge (z .version) gives BAD-VERSION)
-    ∷ (not (eqb (length (z .table)) TABLE) gives BAD-TABLE-LENGTH)
-    ∷ (anyOutOfRange (z .table) gives BAD-TABLE-PITCH)
-    ∷ (anySteep (z .table) gives BAD-TABLE-STEP)
-    ∷ []
+    ∷ tableTests (z .table)
 
 -- A fresh store has the first table in every slot, slot 0 current, readers and publishers at place 0, the version and the sizes as given
 -- and every other number 0, but for the kind word and what a kind's fresh reader x has.

@@ -26,11 +26,12 @@ pub extern "C" fn rahuvyte_number(which: u16) -> u64
     reply_numbers::number(which)
 }
 
-// Making a store of the kind with this number.
+// Making a store of the kind with this number, every slot with the table.
 #[no_mangle]
 pub extern "C" fn rahuvyte_make(
     store: &mut [u64],
     entries: &mut [Pitch],
+    table: &[Pitch],
     kind: u16,
     readers: u16,
     publishers: u16,
@@ -38,10 +39,19 @@ pub extern "C" fn rahuvyte_make(
     version: u64,
 ) -> ReplyNumbers
     ensures { λ a. ⌜ OutcomeForC a (state (now (store .exit)) (now (entries .exit)))
-        (anyMaking kind (given readers publishers slots version)
+        (anyMaking kind (given readers publishers slots version (now (table .entry)))
         (state (now (store .entry)) (now (entries .entry)))) ⌝ }
 {
-    numbers_of(kinds::make(store, entries, kind, readers, publishers, slots, version))
+    numbers_of(kinds::make(
+        store,
+        entries,
+        table,
+        kind,
+        readers,
+        publishers,
+        slots,
+        version,
+    ))
 }
 
 // ENTER r: one place on.

@@ -116,8 +116,8 @@ module _ (M : Machine) (writes : WritesInRange M) where
       let found = promise s f cs .looks pre post r k a e ok in
       let good = fresh s f .table-good in
       let has = shelf-has InRange InRange (model₀ (f .arguments .table)) pre
-          (first-has InRange InRange (f .arguments .table) (λ k v e. let there = entry-is (f .arguments .table) k v e in rw (there .1) at (good .in-range k (rw (good .long) at (there .0)))))
-          (brings-before InRange InRange pre ((Look r k ⇒ a) ∷ post) (rw e at (all-bring-range s cs))) in
+      (first-has InRange InRange (f .arguments .table) (λ k v e. let there = entry-is (f .arguments .table) k v e in rw (there .1) at (good .in-range k (rw (good .long) at (there .0)))))
+      (brings-before InRange InRange pre ((Look r k ⇒ a) ∷ post) (rw e at (all-bring-range s cs))) in
       (found .0, found .1, has .note r k (found .0) (found .2))
 
 -- The first table's: nothing is asked of drafts, of which no SWAP makes the table.

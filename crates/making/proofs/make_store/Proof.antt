@@ -12,14 +12,14 @@ use Rattle.making.proofs.make_store.Tie as tie
 use Rattle.making.proofs.make_store.Reads as reads
 use Rattle.making.proofs.make_store.Lts as lts
 use Rattle.layout.proofs.put_fresh.Reads as put-fresh-reads
-use Rattle.making.proofs.feather.Reads as feather-reads
+use Rattle.publication_tables.proofs.fill.Reads as fill-reads
 use Rattle.making.proofs.first_refusal.Reads as first-refusal-reads
 
 -- Some versions of which the first is too large or not.
 some : Bool → Versions
 some large = record { tooLarge = λ v. large; isLast = λ v. large; wrongMark = λ m. large; markAt = λ v. v; beforeMark = λ m. m }
 
-fits : (c : tie.Else1) → let a = c .before .before .before .args in MakingClear (some (a .large)) (given (a .readers) (a .publishers) (a .slots) (a .version)) (state (a .words .now) (a .entries .now))
+fits : (c : tie.Else1) → let a = c .before .before .before .args in MakingClear (some (a .large)) (given (a .readers) (a .publishers) (a .slots) (a .version) (a .table .now)) (state (a .words .now) (a .entries .now))
 unfolding some
 fits c = making-unrefused _ _ _ (sym (c .before .first-refusal .ensures (some (c .before .before .before .args .large)) (c .before .before .before .args .words .now) (c .before .before .before .args .entries .now) (c .before .before .before .args .version) refl refl refl) ∙ c .if1 .left)
 
@@ -28,14 +28,14 @@ first-refusal-requires c κs = search needs
 
 -- refused with what first_refusal gives
 returns : tie.Need-returns
-returns c = λ vs e. make-refused vs (c .before .before .before .args .words .now) (c .before .before .before .args .entries .now) (c .before .before .before .args .kind) (c .before .before .before .args .readers) (c .before .before .before .args .publishers) (c .before .before .before .args .slots) (c .before .before .before .args .version) (blankReader (c .before .before .before .args .published)) _ (c .if1 .taken)
+returns c = λ vs e. make-refused vs (c .before .before .before .args .words .now) (c .before .before .before .args .entries .now) (c .before .before .before .args .kind) (c .before .before .before .args .readers) (c .before .before .before .args .publishers) (c .before .before .before .args .slots) (c .before .before .before .args .version) (c .before .before .before .args .table .now) (blankReader (c .before .before .before .args .published)) _ (c .if1 .taken)
     (c .before .first-refusal .ensures vs (c .before .before .before .args .words .now) (c .before .before .before .args .entries .now) (c .before .before .before .args .version) refl refl e)
 
 put-fresh-requires : tie.Need-put-fresh-requires
 put-fresh-requires c κs = fits (c .before) .long
 
-feather-requires : tie.Need-feather-requires
-feather-requires c κs = fits (c .before .before .before .before .before) .entries-are
+fill-requires : tie.Need-fill-requires
+fill-requires c κs = let clear = fits (c .before .before .before .before .before) in (clear .entries-are, clear .table-long)
 
 same-length : tie.Need-same-length
 same-length c = search needs
@@ -45,8 +45,8 @@ same-length-2 c = search needs
 
 -- made
 returns-2 : tie.Need-returns-2
-returns-2 c = λ vs e. make-is vs (c .before .before .before .before .before .before .before .before .before .before .args .words .now) (c .before .before .before .before .before .before .before .before .before .before .args .entries .now) (c .before .before .before .before .before .before .before .before .before .before .args .kind) (c .before .before .before .before .before .before .before .before .before .before .args .readers) (c .before .before .before .before .before .before .before .before .before .before .args .publishers) (c .before .before .before .before .before .before .before .before .before .before .args .slots) (c .before .before .before .before .before .before .before .before .before .before .args .version) (blankReader (c .before .before .before .before .before .before .before .before .before .before .args .published)) _ _
-    (sym (c .before .before .before .before .before .before .before .before .first-refusal .ensures vs (c .before .before .before .before .before .before .before .before .before .before .args .words .now) (c .before .before .before .before .before .before .before .before .before .before .args .entries .now) (c .before .before .before .before .before .before .before .before .before .before .args .version) refl refl e) ∙ c .before .before .before .before .before .before .before .if1 .left) (c .before .before .before .before .before .put-fresh .ensures) (c .before .feather .ensures)
+returns-2 c = λ vs e. make-is vs (c .before .before .before .before .before .before .before .before .before .before .args .words .now) (c .before .before .before .before .before .before .before .before .before .before .args .entries .now) (c .before .before .before .before .before .before .before .before .before .before .args .kind) (c .before .before .before .before .before .before .before .before .before .before .args .readers) (c .before .before .before .before .before .before .before .before .before .before .args .publishers) (c .before .before .before .before .before .before .before .before .before .before .args .slots) (c .before .before .before .before .before .before .before .before .before .before .args .version) (c .before .before .before .before .before .before .before .before .before .before .args .table .now) (blankReader (c .before .before .before .before .before .before .before .before .before .before .args .published)) _ _
+    (sym (c .before .before .before .before .before .before .before .before .first-refusal .ensures vs (c .before .before .before .before .before .before .before .before .before .before .args .words .now) (c .before .before .before .before .before .before .before .before .before .before .args .entries .now) (c .before .before .before .before .before .before .before .before .before .before .args .version) refl refl e) ∙ c .before .before .before .before .before .before .before .if1 .left) (c .before .before .before .before .before .put-fresh .ensures) (c .before .fill .ensures)
 
 pub make-store-spec : {M : Type 1} → statement M
 make-store-spec =
@@ -55,7 +55,7 @@ make-store-spec =
     first-refusal-requires
     returns
     put-fresh-requires
-    feather-requires
+    fill-requires
     same-length
     same-length-2
     returns-2)

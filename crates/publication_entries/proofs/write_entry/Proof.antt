@@ -4,10 +4,9 @@ use native.Mathlib.Omega.{arith}
 use mathlib.Core.Path.{_≡_, refl, sym, _∙_}
 use borrow.Author.Tests.{le-leb, lt-leb, lt-ltb, le-ltb}
 use Prim.Native.Nat.{_<_}
-use mathlib.Core.Bool.{_||_, true, false}
-use lib.Signed.{ltZ}
+use mathlib.Core.Bool.{true, false}
 use mir.ValLaws.{toZ-ofZ}
-use Rattle.calls.specs.Numbers.{PITCH-LOW, PITCH-HIGH}
+use Rattle.calls.specs.FirstTable.{outOfRange}
 use Rattle.layout.specs.Layout.{slots}
 use Rattle.publication_law.specs.Calls.{write-is}
 use Rattle.publication_entries.proofs.write_entry.Statement.{statement}
@@ -17,16 +16,16 @@ use Rattle.publication_entries.proofs.write_entry.Lts as lts
 use Rattle.layout.proofs.publisher_at.Reads as publisher-at-reads
 use Rattle.layout.proofs.publishers_of.Reads as publishers-of-reads
 use Rattle.layout.proofs.put_publisher.Reads as put-publisher-reads
-use Rattle.publication_entries.proofs.bad_pitch.Reads as bad-pitch-reads
+use Rattle.publication_tables.proofs.out_of_range.Reads as out-of-range-reads
 
 held : (c : tie.Then4) → c .before .before .publisher-at .result .held < slots (c .before .before .before .before .before .before .before .before .before .before .args .words .now)
 held c = rw (c .before .before .publisher-at .ensures) (c .before .before .before .before .before .before .before .before .before .before .pre .0 .held-below _ (rw (c .before .before .before .before .before .before .before .publishers-of .ensures) at (c .before .before .before .before .before .before .if1 .left)) (rw (c .before .before .publisher-at .ensures) at (c .before .if3 .left)))
 
-pitch-is : (c : tie.Else2) → (ltZ (c .before .before .before .before .before .before .args .v) PITCH-LOW || ltZ PITCH-HIGH (c .before .before .before .before .before .before .args .v)) ≡ false
-pitch-is c = sym (simp (toZ-ofZ _ _ (c .before .before .before .before .before .before .fits .v)) at (c .before .bad-pitch .ensures)) ∙ c .if2 .left
+pitch-is : (c : tie.Else2) → outOfRange (c .before .before .before .before .before .before .args .v) ≡ false
+pitch-is c = sym (simp (toZ-ofZ _ _ (c .before .before .before .before .before .before .fits .v)) at (c .before .out-of-range .ensures)) ∙ c .if2 .left
 
-pitch-wrong : (c : tie.Then2) → (ltZ (c .before .before .before .before .before .before .args .v) PITCH-LOW || ltZ PITCH-HIGH (c .before .before .before .before .before .before .args .v)) ≡ true
-pitch-wrong c = sym (simp (toZ-ofZ _ _ (c .before .before .before .before .before .before .fits .v)) at (c .before .bad-pitch .ensures)) ∙ c .if2 .taken
+pitch-wrong : (c : tie.Then2) → outOfRange (c .before .before .before .before .before .before .args .v) ≡ true
+pitch-wrong c = sym (simp (toZ-ofZ _ _ (c .before .before .before .before .before .before .fits .v)) at (c .before .out-of-range .ensures)) ∙ c .if2 .taken
 
 publishers-of-requires : tie.Need-publishers-of-requires
 publishers-of-requires c κs = c .before .before .pre .0 .long
@@ -38,8 +37,8 @@ same-length c = search needs
 returns : tie.Need-returns
 returns c = rw (le-leb _ _ (rw (c .before .publishers-of .ensures) at (c .if1 .taken))) refl
 
-bad-pitch-requires : tie.Need-bad-pitch-requires
-bad-pitch-requires c κs = search needs
+out-of-range-requires : tie.Need-out-of-range-requires
+out-of-range-requires c κs = search needs
 
 same-length-2 : tie.Need-same-length-2
 same-length-2 c = search needs
@@ -103,7 +102,7 @@ write-entry-spec =
     publishers-of-requires
     same-length
     returns
-    bad-pitch-requires
+    out-of-range-requires
     same-length-2
     returns-2
     publisher-at-requires
