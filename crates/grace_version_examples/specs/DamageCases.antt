@@ -5,6 +5,7 @@ use Rattle.base.specs.Rows.{anyBelow}
 use Rattle.calls.specs.declared.Call.the-variants.{Enter, Claim}
 use Rattle.calls.specs.declared.Reply.the-variants.{At, Refused}
 use Rattle.calls.specs.Numbers.{KIND-NEW}
+use Rattle.calls.specs.FirstTable.{tables}
 use Rattle.layout.specs.Layout.{readerAt, publisherAt, withReader, withPublisher, withReaders, freshWords}
 use Rattle.statement.specs.Machine.{State}
 use Rattle.statement.specs.Examples.{AllHold}
@@ -31,11 +32,11 @@ unfoldable pub clauses : List Case
 clauses = kindCases ++ sharedCases 18446744073709551614
 
 pub fresh-spelled : freshOf GraceVersion small ≡ spelled KIND-NEW
-unfolding withReader withReaders freshWords making
+unfolding withReader withReaders freshWords anyBelow making tables
 fresh-spelled = refl
 
 on-spelled : AllHold (casesOn GraceVersion (spelled KIND-NEW) clauses)
-unfolding clauses readerAt publisherAt withReader withPublisher withReaders freshWords anyBelow damaged onward looksFrom step making
+unfolding clauses readerAt publisherAt withReader withPublisher withReaders freshWords anyBelow damaged onward looksFrom step making tables
 on-spelled = (refl, (refl, (refl, (refl, (refl, (refl, (refl, (refl, (refl, (refl, (refl, (refl, (refl, (refl, (refl, (refl, (refl, (refl, (refl, (refl, (refl, (refl, (refl, (refl, (refl, (refl, (refl, (refl, (refl, (refl, (refl, (refl, (refl, (refl, (refl, (refl, (refl, (refl, (refl, (refl, (refl, (refl, tt))))))))))))))))))))))))))))))))))))))))))
 
 pub damage-cases : AllHold (cases GraceVersion clauses)

@@ -5,6 +5,7 @@ use Rattle.base.specs.Rows.{anyBelow, countBelow}
 use Rattle.calls.specs.declared.Call.the-variants.{Enter, Claim}
 use Rattle.calls.specs.declared.Reply.the-variants.{At, Claimed, Refused}
 use Rattle.calls.specs.Numbers.{KIND-OLD}
+use Rattle.calls.specs.FirstTable.{tables}
 use Rattle.layout.specs.Layout.{indicator, readerAt, publisherAt, withReader, withPublisher, withReaders, freshWords}
 use Rattle.statement.specs.Machine.{State}
 use Rattle.statement.specs.Examples.{AllHold}
@@ -39,11 +40,11 @@ unfoldable pub clauses : List Case
 clauses = ownPlaces ++ (indicators ++ (walking 9223372036854775807 36 ++ sharedCases 9223372036854775807))
 
 pub fresh-spelled : freshOf TwoPhase small ≡ spelled KIND-OLD
-unfolding withReader withReaders freshWords making
+unfolding withReader withReaders freshWords anyBelow making tables
 fresh-spelled = refl
 
 on-spelled : AllHold (casesOn TwoPhase (spelled KIND-OLD) clauses)
-unfolding clauses indicator readerAt publisherAt withReader withPublisher withReaders freshWords anyBelow countBelow damaged onward lookAt step making
+unfolding clauses indicator readerAt publisherAt withReader withPublisher withReaders freshWords anyBelow countBelow damaged onward lookAt step making tables
 on-spelled = (refl, (refl, (refl, (refl, (refl, (refl, (refl, (refl, (refl, (refl, (refl, (refl, (refl, (refl, (refl, (refl, (refl, (refl, (refl, (refl, (refl, (refl, (refl, (refl, (refl, (refl, (refl, (refl, (refl, (refl, (refl, (refl, (refl, (refl, (refl, (refl, (refl, (refl, (refl, (refl, (refl, (refl, (refl, (refl, (refl, (refl, (refl, (refl, (refl, tt)))))))))))))))))))))))))))))))))))))))))))))))))
 
 pub damage-cases : AllHold (cases TwoPhase clauses)

@@ -7,9 +7,9 @@ use Rattle.calls.specs.declared.Call.{Call}
 use Rattle.calls.specs.declared.Call.the-variants.{Enter, Look, Leave, Claim, Swap, Sync, Raise, Walk, Release}
 use Rattle.calls.specs.declared.Reply.the-variants.{Made, At, Pitch, Left, Swapped, Synced, Raised, Walked, Freed, Refused}
 use Rattle.calls.specs.declared.WalkReply.the-variants.{Waiting, Spent, Quiet, Returned}
+use Rattle.calls.specs.FirstTable.{tables}
 use Rattle.layout.specs.Layout.{indicator, readerAt, publisherAt, withReader, withPublisher, withReaders, freshWords}
-use Rattle.statement.specs.Machine.{given}
-use Rattle.statement.specs.Examples.{Example, AllHold, leadTo, enters, publication, tableFrom, P9, P10}
+use Rattle.statement.specs.Examples.{Example, AllHold, leadTo, enters, publication, tableFrom, P9, P10, givenFeathered}
 use Rattle.statement.specs.Examples.Example.{shows, unchanged}
 use Rattle.publication_law.specs.Table.{damaged, step, making}
 use Rattle.two_phase_law.specs.Steps.{rules, TwoPhase, onward, lookAt}
@@ -17,7 +17,7 @@ use Rattle.two_phase_law.specs.Promises.{old-walk-zero}
 
 -- P5: reader loads 0; a whole publication runs; reader arrives at indicator 0; next SYNC has mark 2, WALK 1: waiting 0.
 abbrev pub P5 : Example
-P5 = shows TwoPhase (given 1 1 2 0)
+P5 = shows TwoPhase (givenFeathered 1 1 2 0)
     (Enter 0 ∷ publication 0 1 (pos 100) ++ (Sync 0 ∷ Walk 0 1 ∷ Raise 0 ∷ Walk 0 1 ∷ Release 0 ∷ Enter 0 ∷ publication 0 0 (pos 200)))
     (Sync 0 ∷ Walk 0 1 ∷ [])
     (Made ∷ Synced 2 ∷ Walked (Waiting 0) ∷ [])
@@ -27,25 +27,25 @@ abbrev pub to37 : List Call
 to37 = publication 0 1 (pos 100) ++ (Sync 0 ∷ Walk 0 1 ∷ Raise 0 ∷ [])
 
 abbrev pub P6 : Example
-P6 = unchanged TwoPhase (given 1 1 2 0) to37 (Walk 0 0) (Walked Spent)
+P6 = unchanged TwoPhase (givenFeathered 1 1 2 0) to37 (Walk 0 0) (Walked Spent)
 
 -- P11: another publisher's CLAIM of a free slot during a wait: old 31.
 abbrev pub P11 : Example
-P11 = shows TwoPhase (given 1 2 3 0) (enters 2 0 ++ publication 0 1 (pos 100))
+P11 = shows TwoPhase (givenFeathered 1 2 3 0) (enters 2 0 ++ publication 0 1 (pos 100))
     (Sync 0 ∷ Walk 0 9 ∷ Raise 0 ∷ Walk 0 9 ∷ Claim 1 2 ∷ [])
     (Made ∷ Synced 1 ∷ Walked Quiet ∷ Raised ∷ Walked (Waiting 0) ∷ Refused 31 ∷ [])
 
 -- One whole publication of 32 different pitches, with every reply from SWAP on: SWAP and RELEASE reply with the former slot.
 -- What was picked before the SWAP has the first table after it; what is picked after the RELEASE has each entry of the new one.
 abbrev pub whole : Example
-whole = shows TwoPhase (given 1 1 2 0) (enters 3 0 ++ tableFrom 0 1 100)
+whole = shows TwoPhase (givenFeathered 1 1 2 0) (enters 3 0 ++ tableFrom 0 1 100)
     (Swap 0 ∷ Look 0 1 ∷ Leave 0 ∷ Sync 0 ∷ Walk 0 1 ∷ Raise 0 ∷ Walk 0 1 ∷ Release 0 ∷ enters 3 0 ++ (Look 0 0 ∷ Look 0 1 ∷ Look 0 30 ∷ Look 0 31 ∷ []))
     (Made ∷ Swapped 0 ∷ Pitch (pos 9000) ∷ Left ∷ Synced 1 ∷ Walked Quiet ∷ Raised ∷ Walked (Returned 2 0) ∷ Freed 0 1 ∷ At 1 ∷ At 4 ∷ At 5
     ∷ Pitch (pos 100) ∷ Pitch (pos 101) ∷ Pitch (pos 130) ∷ Pitch (pos 131) ∷ [])
 
 -- A reader that enters after the RAISE loads the version raised and adds to its indicator: the walk does not wait for it.
 abbrev pub loadsRaised : Example
-loadsRaised = shows TwoPhase (given 1 1 2 0) (publication 0 1 (pos 100))
+loadsRaised = shows TwoPhase (givenFeathered 1 1 2 0) (publication 0 1 (pos 100))
     (Sync 0 ∷ Walk 0 1 ∷ Raise 0 ∷ Enter 0 ∷ Enter 0 ∷ Walk 0 1 ∷ [])
     (Made ∷ Synced 1 ∷ Walked Quiet ∷ Raised ∷ At 1 ∷ At 4 ∷ Walked (Returned 2 0) ∷ [])
 
@@ -54,14 +54,14 @@ unfoldable pub examples : List Example
 examples = P5 ∷ P6 ∷ P9 TwoPhase ∷ P10 TwoPhase ∷ P11 ∷ whole ∷ loadsRaised ∷ []
 
 -- The reply of P6's call, at the state that it starts from.
-p6-spent : step rules (leadTo TwoPhase (given 1 1 2 0) to37) (Walk 0 0) .reply ≡ Walked Spent
-unfolding indicator readerAt publisherAt withReader withPublisher withReaders freshWords anyBelow countBelow damaged onward lookAt step making
+p6-spent : step rules (leadTo TwoPhase (givenFeathered 1 1 2 0) to37) (Walk 0 0) .reply ≡ Walked Spent
+unfolding indicator readerAt publisherAt withReader withPublisher withReaders freshWords anyBelow countBelow damaged onward lookAt step making tables
 p6-spent = refl
 
-p6-same : step rules (leadTo TwoPhase (given 1 1 2 0) to37) (Walk 0 0) .after ≡ leadTo TwoPhase (given 1 1 2 0) to37
+p6-same : step rules (leadTo TwoPhase (givenFeathered 1 1 2 0) to37) (Walk 0 0) .after ≡ leadTo TwoPhase (givenFeathered 1 1 2 0) to37
 p6-same = old-walk-zero _ 0 p6-spent
 
 -- Each by computation, and that P6's call changes nothing by what is promised of every such call.
 pub bench : AllHold examples
-unfolding examples indicator readerAt publisherAt withReader withPublisher withReaders freshWords anyBelow countBelow damaged onward lookAt step making
+unfolding examples indicator readerAt publisherAt withReader withPublisher withReaders freshWords anyBelow countBelow damaged onward lookAt step making tables
 bench = (refl, ((refl, p6-same), (refl, (refl, (refl, (refl, (refl, tt)))))))

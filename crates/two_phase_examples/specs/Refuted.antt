@@ -15,13 +15,13 @@ use Rattle.calls.specs.declared.WalkReply.the-variants.{Spent, Returned}
 use Rattle.calls.specs.Numbers.{PLACE-SYNCHRONISING, PLACE-RAISED}
 use Rattle.calls.specs.Events.{Event}
 use Rattle.calls.specs.Events.Event.{_⇒_}
-use Rattle.calls.specs.Model.{firstTable}
 use Rattle.calls.specs.Told.{toldBy}
+use Rattle.calls.specs.FirstTable.{tables}
 use Rattle.layout.specs.Layout.{publishers, version, indicator, readerAt, publisherAt, withReader, withPublisher, withReaders, freshWords}
 use Rattle.layout.specs.Records.{_atPlace_}
-use Rattle.statement.specs.Machine.{State, Outcome, outcome, Given, given, Machine, Fresh, events, afterAll}
+use Rattle.statement.specs.Machine.{State, Outcome, outcome, Given, Machine, Fresh, events, afterAll}
 use Rattle.statement.specs.Demand3.{Demand3}
-use Rattle.statement.specs.Examples.{lentFor, claimAndWrite, publication}
+use Rattle.statement.specs.Examples.{lentFor, claimAndWrite, publication, givenFeathered}
 use Rattle.statement.specs.Refute.{someLeave, not-left, events-append}
 use Rattle.publication_law.specs.Steps.{publisher, putPublisher}
 use Rattle.publication_law.specs.Table.{damaged, step, making}
@@ -58,7 +58,7 @@ Published = record { making = making (tableBy several); step = publishedStep }
 
 -- One reader, two publishers, three slots, version 0.
 small : Given
-small = given 1 2 3 0
+small = givenFeathered 1 2 3 0
 
 start : State
 unfolding small several
@@ -78,20 +78,20 @@ trapped : List Event
 trapped = (Sync 1 ⇒ Synced 2) ∷ (Raise 0 ⇒ Raised) ∷ (Walk 1 1 ⇒ Walked Spent) ∷ (Walk 1 1 ⇒ Walked (Returned 1 0)) ∷ []
 
 trap-events : events Published (afterAll Published start before) trap ≡ trapped
-unfolding Published publishedStep breaksOff several start small before trap trapped indicator readerAt publisherAt withReader withPublisher withReaders freshWords anyBelow countBelow damaged onward lookAt step making
+unfolding Published publishedStep breaksOff several start small before trap trapped indicator readerAt publisherAt withReader withPublisher withReaders freshWords anyBelow countBelow damaged onward lookAt step making tables
 trap-events = refl
 
 -- The reader's section is open then ..
 reader-inside : toldBy (events Published start before) .inside 0 ≡ true
-unfolding Published publishedStep breaksOff several start small before indicator readerAt publisherAt withReader withPublisher withReaders freshWords anyBelow countBelow damaged onward lookAt step making
+unfolding Published publishedStep breaksOff several start small before indicator readerAt publisherAt withReader withPublisher withReaders freshWords anyBelow countBelow damaged onward lookAt step making tables
 reader-inside = refl
 
 start-fresh : Fresh Published start
-unfolding Published several start small making
+unfolding Published several start small anyBelow making tables
 start-fresh = record { arguments = small; lent = lentFor small; made = refl }
 
 -- .. and nobody leaves before U returns.
-pub published-refuted : Demand3 Published (λ z. firstTable) → ⊥
+pub published-refuted : Demand3 Published (λ z. z .table) → ⊥
 unfolding someLeave trapped
 published-refuted promise =
     let mid : List Event = (Raise 0 ⇒ Raised) ∷ (Walk 1 1 ⇒ Walked Spent) ∷ [] in
