@@ -6,6 +6,7 @@ pub mod Example
 pub mod Decimals
 pub mod SheetLaws
 pub mod Reads
+pub mod ByTable
 pub mod Canonical
 pub mod Replies
 pub mod Only

@@ -6,6 +6,7 @@ use mathlib.Core.Path.{_≡_, refl, sym, ap, _∙_}
 use mathlib.Core.Bool.{Bool, true, false}
 use mathlib.Core.List.{List, [], _++_, flatten}
 use lib.Dec.{ltb}
+use lib.IntN.{ℤ}
 use lib.ListN.{length, take, length-take}
 use lib.Seq.{take-all}
 use borrow.Author.Tests.{lt-ltb, ltb-true, ltb-false}
@@ -31,15 +32,16 @@ kept-read k = go (ltb LINE-MAX (length k)) refl
     go true e = let l = ltb-true LINE-MAX (length k) e in over-80 (take KEPT k) (omega (arith, length-take KEPT k)) ∙ sym (over-80 k l)
     go false e = ap lineOf (take-all KEPT k (omega (arith, ltb-false LINE-MAX (length k) e)))
 
-told-by-first : lines.ToldByFirst sheetReader
-told-by-first = record { after-told = λ x l. rw (kept-read l) refl; says-told = λ x l. rw (kept-read l) refl }
+module _ (table : List ℤ) where
+  told-by-first : lines.ToldByFirst (sheetReader table)
+  told-by-first = record { after-told = λ x l. rw (kept-read l) refl; says-told = λ x l. rw (kept-read l) refl }
 
--- The reading byte by byte prints what the whole sheet's definition says.
-pub by-bytes : (t : List ℕ) → printed sheetReader start (t ++ ending (fed sheetReader start t .begun)) ≡ sheet t
-unfolding sheet
-by-bytes t = lines.fed-whole sheetReader told-by-first (linesPlayed 0 unmade) t
+  -- The reading byte by byte prints what the whole sheet's definition says.
+  pub by-bytes : (t : List ℕ) → printed (sheetReader table) start (t ++ ending (fed (sheetReader table) start t .begun)) ≡ sheet table t
+  unfolding sheet
+  by-bytes t = lines.fed-whole (sheetReader table) told-by-first (linesPlayed 0 unmade) t
 
--- However the input is cut into reads, the output is that of the whole sheet.
-pub reads-join : (rs : List (List ℕ)) → lines.printedReads sheetReader start rs ≡ sheet (flatten rs)
-unfolding sheet
-reads-join rs = lines.reads-join sheetReader told-by-first (linesPlayed 0 unmade) rs
+  -- However the input is cut into reads, the output is that of the whole sheet.
+  pub reads-join : (rs : List (List ℕ)) → lines.printedReads (sheetReader table) start rs ≡ sheet table (flatten rs)
+  unfolding sheet
+  reads-join rs = lines.reads-join (sheetReader table) told-by-first (linesPlayed 0 unmade) rs

@@ -1,4 +1,4 @@
--- The whole sheet, bytes in to bytes out, as a reader of lines.
+-- The whole sheet, a first table and bytes in to bytes out, as a reader of lines.
 use Prim.Native.Nat.{ℕ, _+_, _*_, _%_}
 use mathlib.Core.List.{List, [], _∷_, _++_}
 use lib.IntN.{ℤ, pos}
@@ -33,9 +33,10 @@ abbrev pub lent : ℕ → (State → Outcome) → State → Outcome
 lent n f s = rejoined (f (state (s .words) (take n (s .entries)))) (drop n (s .entries))
 
 -- `store` is lent exactly slots × 32 entries (all of the room for more slots than a store may have), and a call those of the made store. A refused `store` leaves the one before, since making does.
-unfoldable pub played : State → Command → Outcome
-played s (Make kind rs ps ss version) = lent (ss * TABLE) (anyMaking kind (given rs ps ss version)) s
-played s (Run c) = lent (slots (s .words) * TABLE) (λ (part : State). anyStep part c) s
+-- Every `store` line of a sheet is lent the same first table.
+unfoldable pub played : List ℤ → State → Command → Outcome
+played table s (Make kind rs ps ss version) = lent (ss * TABLE) (anyMaking kind (given rs ps ss version table)) s
+played table s (Run c) = lent (slots (s .words) * TABLE) (λ (part : State). anyStep part c) s
 
 -- A call that the made store's kind lacks is unread. Both kinds have the ten calls, so that no call is; before a made store each gets 1.
 abbrev pub known : ℕ → Line → Line
@@ -47,13 +48,13 @@ abbrev pub lineFor : State → List ℕ → Line
 lineFor s l = known (kindWord (s .words)) (lineOf l)
 
 -- What is said to a line, and the store after it. An unread line makes no call.
-abbrev pub saidTo : State → Line → List ℕ
-saidTo s Unread = text "unread"
-saidTo s (Read c) = replyText (played s c .reply)
+abbrev pub saidTo : List ℤ → State → Line → List ℕ
+saidTo table s Unread = text "unread"
+saidTo table s (Read c) = replyText (played table s c .reply)
 
-abbrev pub afterLine : State → Line → State
-afterLine s Unread = s
-afterLine s (Read c) = played s c .after
+abbrev pub afterLine : List ℤ → State → Line → State
+afterLine table s Unread = s
+afterLine table s (Read c) = played table s c .after
 
 -- The number of the line after n lines, in 64 bits.
 abbrev pub nextLine : ℕ → ℕ
@@ -68,17 +69,17 @@ abbrev pub linesPlayed : ℕ → State → LinesPlayed
 linesPlayed n s = record { lines = n; store = s }
 
 -- One line is printed for each line.
-abbrev pub sheetReader : LineReader
-sheetReader = record {
+abbrev pub sheetReader : List ℤ → LineReader
+sheetReader table = record {
   Kept = LinesPlayed;
-  after = λ kept l. linesPlayed (nextLine (kept .lines)) (afterLine (kept .store) (lineFor (kept .store) l));
-  says = λ kept l. printedLine (nextLine (kept .lines)) (saidTo (kept .store) (lineFor (kept .store) l));
+  after = λ kept l. linesPlayed (nextLine (kept .lines)) (afterLine table (kept .store) (lineFor (kept .store) l));
+  says = λ kept l. printedLine (nextLine (kept .lines)) (saidTo table (kept .store) (lineFor (kept .store) l));
   longest = LINE-MAX;
 }
 
--- The whole sheet.
-unfoldable pub sheet : List ℕ → List ℕ
-sheet t = printedFor sheetReader (linesPlayed 0 unmade) (linesOf t)
+-- The whole sheet, with a first table.
+unfoldable pub sheet : List ℤ → List ℕ → List ℕ
+sheet table t = printedFor (sheetReader table) (linesPlayed 0 unmade) (linesOf t)
 
 -- Between two bytes: how many lines were read, the bytes of the next one so far, and the store.
 abbrev pub SheetState : Type 0

@@ -6,6 +6,7 @@ use mathlib.Core.Path.{_≡_, refl}
 use mathlib.Core.Bool.{false}
 use mathlib.Core.Option.{Option, none, some}
 use mathlib.Core.List.{List}
+use lib.IntN.{ℤ}
 use lib.ListN.{take, take-append-drop}
 use Rattle.calls.specs.declared.Call.{Call}
 use Rattle.calls.specs.declared.Reply.the-variants.{Refused}
@@ -41,17 +42,17 @@ known-all s l = go (lineOf l)
     go (Read (Run c)) = rw (lacks-none (kindOfNumber (kindWord (s .words))) c) refl
 
 -- An unread line makes no call: it says `unread`, and the store is the one before.
-pub unread-makes-no-call : (s : State) (l : List ℕ) → lineOf l ≡ Unread → (saidTo s (lineFor s l) ≡ text "unread") × (afterLine s (lineFor s l) ≡ s)
-unread-makes-no-call s l e = rw e (refl, refl)
+pub unread-makes-no-call : (table : List ℤ) (s : State) (l : List ℕ) → lineOf l ≡ Unread → (saidTo table s (lineFor s l) ≡ text "unread") × (afterLine table s (lineFor s l) ≡ s)
+unread-makes-no-call table s l e = rw e (refl, refl)
 
 -- Before a made store a call gets 1, and there is still none.
-pub before-made : (c : Call) → played unmade (Run c) ≡ outcome (Refused DAMAGED) unmade
+pub before-made : (table : List ℤ) (c : Call) → played table unmade (Run c) ≡ outcome (Refused DAMAGED) unmade
 unfolding played anyStep kindOfNumber
-before-made c = refl
+before-made table c = refl
 
 -- A refused `store` leaves the one before, since a refused making leaves what was lent.
-pub refused-store : (s : State) (kind rs ps ss version n : ℕ) → played s (Make kind rs ps ss version) .reply ≡ Refused n → played s (Make kind rs ps ss version) .after ≡ s
+pub refused-store : (table : List ℤ) (s : State) (kind rs ps ss version n : ℕ) → played table s (Make kind rs ps ss version) .reply ≡ Refused n → played table s (Make kind rs ps ss version) .after ≡ s
 unfolding played
-refused-store s kind rs ps ss version n e =
-    let q = any-making-leaves kind (given rs ps ss version) (state (s .words) (take (ss * TABLE) (s .entries))) n e in
+refused-store table s kind rs ps ss version n e =
+    let q = any-making-leaves kind (given rs ps ss version table) (state (s .words) (take (ss * TABLE) (s .entries))) n e in
     rw (q, take-append-drop (ss * TABLE) (s .entries)) refl
