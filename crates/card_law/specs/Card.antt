@@ -2,16 +2,15 @@
 use Prim.Native.Nat.{ℕ, _+_}
 use mathlib.Core.List.{List, [], _∷_, _++_}
 use mathlib.Core.Option.{Option, none, some}
-use lib.Dec.{eqb}
 use lib.IntN.{ℤ}
-use lib.ListN.{length}
-use Rattle.base.specs.Base.{choose}
 use Rattle.calls.specs.Numbers.{TABLE}
 use Rattle.lines_law.specs.Lines.{NEWLINE, linesOf, LineReader, afterLines}
 use Rattle.sheet_law.specs.declared.Angle.{Angle}
 use Rattle.sheet_law.specs.declared.Angle.the-variants.{Hundredths, NoAngle}
 use Rattle.sheet_law.specs.Reading.{LINE-MAX, angle}
 use Rattle.sheet_law.specs.Canonical.{angleText}
+use Rattle.sheet_law.specs.Sheet.{sheet}
+use Rattle.sheet_law.specs.ByTable.{firstTable}
 
 -- The entries of the lines so far, none after a line that is no pitch.
 abbrev pub withLine : Option (List ℤ) → Angle → Option (List ℤ)
@@ -46,10 +45,17 @@ unfoldable pub cardText : List ℤ → List ℕ
 cardText [] = []
 cardText (v ∷ vs) = angleText v ++ (NEWLINE ∷ cardText vs)
 
--- A first table has 32 entries: which ones stand on a card, if so many do.
+-- The first table that a card is, if it is one.
 abbrev pub tableOn : List ℕ → Option (List ℤ)
-tableOn t = choose (eqb (length (cardOf t)) TABLE) (some (cardOf t)) none
+tableOn t = firstTable (cardOf t)
 
--- A program reads so many bytes of the file.
+-- A program reads so many bytes of the file, and keeps so many entries: one more than a first table has tells that there are more.
 abbrev pub CARD-READ : ℕ
 CARD-READ = 4096
+
+abbrev pub CARD-KEPT : ℕ
+CARD-KEPT = TABLE + 1
+
+-- The whole program: a card's bytes and a sheet's bytes to the bytes that are printed. A missing card is an empty one.
+unfoldable pub sheetOn : List ℕ → List ℕ → List ℕ
+sheetOn card t = sheet (cardOf card) t

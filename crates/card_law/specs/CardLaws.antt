@@ -3,7 +3,7 @@
 use Prim.Native.Nat.{ℕ, suc, _+_, _*_, _<_, _≤_}
 use native.Mathlib.Omega.{arith}
 use mathlib.Core.Path.{_≡_, refl, sym, ap, subst, _∙_}
-use mathlib.Core.Logic.{_≢_, _↔_, _⊎_, inl, inr}
+use mathlib.Core.Logic.{_↔_, _⊎_, inl, inr}
 use mathlib.Core.Bool.{Bool, true, false}
 use mathlib.Core.List.{List, [], _∷_, _++_, append-assoc, append-nil}
 use mathlib.Core.Option.{Option, none, some}
@@ -12,14 +12,13 @@ use lib.IntN.{ℤ, pos, negsuc}
 use lib.ListN.{length, take, length-append, length-take}
 use lib.Seq.{take-all}
 use borrow.Author.Tests.{ne-eqb, ltb-true, ltb-false}
-use Rattle.base.specs.Base.{choose}
 use Rattle.calls.specs.Numbers.{TABLE}
 use Rattle.lines_law.specs.Lines.{NEWLINE, linesOf, afterLines}
 use Rattle.lines_law.specs.Joining.{joinedLines, OneLine, OneLineEach, IsJoined, is-joined, lines-joined, lines-ended}
 use Rattle.sheet_law.specs.declared.Angle.{Angle}
 use Rattle.sheet_law.specs.declared.Angle.the-variants.{Hundredths, NoAngle}
 use Rattle.sheet_law.specs.Reading.{angle}
-use Rattle.sheet_law.specs.Text.{MINUS, DIGIT-0, DIGIT-9, decimal}
+use Rattle.sheet_law.specs.Text.{decimal}
 use Rattle.sheet_law.specs.Decimals.{AllDigits, all-digits}
 use Rattle.sheet_law.specs.Canonical.{angleText, FitsAngle, angle-back, angle-length}
 use Rattle.sheet_law.specs.Only.{angle-text}

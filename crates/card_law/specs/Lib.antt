@@ -1,2 +1,4 @@
 pub mod Card
 pub mod CardLaws
+pub mod CardSheet
+pub mod CardExamples
