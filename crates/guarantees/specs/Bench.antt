@@ -80,13 +80,13 @@ new-in-order : AllCarry (storeOf new) (store KIND-NEW) new-order.inOrder
 unfolding new-order.inOrder
 new-in-order =
     let s = freshOf (storeOf new) small in
-    ((refl, refl), (refl, (refl, (refl, (refl, (refl, (refl, (refl, (refl, (refl, (refl, (refl, (refl, ((refl, put-current new s new-kind 2), ((refl, refl), ((refl, put-publisher new s new-kind 0 (looked 38 18446744073709551615)), ((refl, put-publisher new s new-kind 0 (looked 37 18446744073709551615)), ((refl, put-publisher new s new-kind 0 (looked 37 18446744073709551614)), ((refl, refl), ((refl, refl), ((refl, refl), ((refl, refl), ((refl, refl), ((refl, refl), tt))))))))))))))))))))))))
+    ((refl, refl), (refl, (refl, (refl, (refl, (refl, (refl, (refl, (refl, (refl, (refl, (refl, (refl, (refl, (refl, (refl, (refl, (refl, (refl, (refl, (refl, (refl, (refl, (refl, (refl, (refl, (refl, ((refl, put-current new s new-kind 2), ((refl, refl), ((refl, put-publisher new s new-kind 0 (looked 38 18446744073709551615)), ((refl, put-publisher new s new-kind 0 (looked 37 18446744073709551615)), ((refl, put-publisher new s new-kind 0 (looked 37 18446744073709551614)), ((refl, refl), ((refl, refl), ((refl, refl), ((refl, refl), ((refl, refl), ((refl, refl), tt))))))))))))))))))))))))))))))))))))))
 
 old-in-order : AllCarry (storeOf old) (store KIND-OLD) old-order.inOrder
 unfolding old-order.inOrder
 old-in-order =
     let s = freshOf (storeOf old) small in
-    ((refl, refl), ((refl, put-publisher old old-order.oneClaimed one-claimed-kind 1 (old-order.claimed 2)), (refl, (refl, (refl, (refl, (refl, (refl, (refl, (refl, (refl, (refl, (refl, (refl, ((refl, put-current old s old-kind 2), ((refl, refl), ((refl, put-publisher old s old-kind 0 (looked 38 18446744073709551615)), ((refl, put-publisher old s old-kind 0 (looked 37 18446744073709551615)), ((refl, put-publisher old s old-kind 0 (looked 37 18446744073709551614)), ((refl, refl), ((refl, refl), ((refl, refl), ((refl, refl), ((refl, refl), ((refl, refl), tt)))))))))))))))))))))))))
+    ((refl, refl), ((refl, put-publisher old old-order.oneClaimed one-claimed-kind 1 (old-order.claimed 2)), (refl, (refl, (refl, (refl, (refl, (refl, (refl, (refl, (refl, (refl, (refl, (refl, (refl, (refl, (refl, (refl, (refl, (refl, (refl, (refl, (refl, (refl, (refl, (refl, (refl, (refl, ((refl, put-current old s old-kind 2), ((refl, refl), ((refl, put-publisher old s old-kind 0 (looked 38 18446744073709551615)), ((refl, put-publisher old s old-kind 0 (looked 37 18446744073709551615)), ((refl, put-publisher old s old-kind 0 (looked 37 18446744073709551614)), ((refl, refl), ((refl, refl), ((refl, refl), ((refl, refl), ((refl, refl), ((refl, refl), tt)))))))))))))))))))))))))))))))))))))))
 
 pub precedence : AllHold inOrder
 precedence = all-hold-append (allBy (store KIND-NEW) new-order.inOrder) (allBy (store KIND-OLD) old-order.inOrder)
