@@ -76,8 +76,8 @@ fn copied(table: &[Pitch]) -> [Pitch; TABLE]
     ensures { λ copy. ⌜ copy ≡ now (table .entry) ⌝ }
 {
     let mut copy: [Pitch; TABLE] = [0; TABLE];
-    for k in 0..TABLE {
-        copy[k] = table[k];
+    for i in 0..TABLE {
+        copy[i] = table[i];
     }
     copy
 }

@@ -1,4 +1,4 @@
--- The first k entries are the table's. Assumes nothing.
+-- The first i entries are the table's. Assumes nothing.
 use borrow.Author.Needs.{needs}
 use native.Mathlib.Omega.{arith}
 use lib.ListN.{length, length-set, length-replicate, take}
@@ -14,10 +14,10 @@ use Rattle.publication_tables.proofs.copied.Reads as reads
 use Rattle.publication_tables.proofs.copied.Lts as lts
 
 abbrev Inv-loop : tie.InvT-loop
-Inv-loop table copy₀ k₀ copy k = (k ≤ 32) × (length copy ≡ 32) × (take k copy ≡ take k table)
+Inv-loop table copy₀ i₀ copy i = (i ≤ 32) × (length copy ≡ 32) × (take i copy ≡ take i table)
 
 abbrev μ-loop : tie.MeasureT-loop
-μ-loop table copy₀ k₀ copy k = 32 - k
+μ-loop table copy₀ i₀ copy i = 32 - i
 
 loop-holds : tie.Need-loop-holds Inv-loop μ-loop
 loop-holds c = (search needs, simp length-replicate, refl)
@@ -34,21 +34,21 @@ mul-copy-2 c = search needs
 array-set-from-copy : tie.Need-array-set-from-copy Inv-loop μ-loop
 array-set-from-copy c = search needs
 
-add-k : tie.Need-add-k Inv-loop μ-loop
-add-k c = search needs
+add-i : tie.Need-add-i Inv-loop μ-loop
+add-i c = search needs
 
 loop-less : tie.Need-loop-less Inv-loop μ-loop
 loop-less c = search needs
 
 loop-again : tie.Need-loop-again Inv-loop μ-loop
-loop-again c = let k = c .before .before .loop in
+loop-again c = let l = c .before .before .loop in
     let table = c .before .before .before .args .table .now in
-    let low : k .k < length table = omega (arith, c .before .loop-test .taken, c .before .before .before .pre) in
-    (omega (arith, c .before .loop-test .taken), simp length-set (k .inv .1), simp (pitch-back (entryOf table (k .k)) (c .copy .given)) (copies (k .copy) table (k .k) (omega (arith, c .before .loop-test .taken, k .inv .1)) low (k .inv .2)))
+    let low : l .i < length table = omega (arith, c .before .loop-test .taken, c .before .before .before .pre) in
+    (omega (arith, c .before .loop-test .taken), simp length-set (l .inv .1), simp (pitch-back (entryOf table (l .i)) (c .copy .given)) (copies (l .copy) table (l .i) (omega (arith, c .before .loop-test .taken, l .inv .1)) low (l .inv .2)))
 
 returns : tie.Need-returns Inv-loop μ-loop
-returns c = let k = c .before .loop in let e : k .k ≡ 32 = omega (arith, k .inv .0, c .loop-test .left) in
-    sym (take-all 32 (k .copy) (omega (arith, k .inv .1))) ∙ (rw e at (k .inv .2)) ∙ take-all 32 (c .before .before .args .table .now) (omega (arith, c .before .before .pre))
+returns c = let l = c .before .loop in let e : l .i ≡ 32 = omega (arith, l .inv .0, c .loop-test .left) in
+    sym (take-all 32 (l .copy) (omega (arith, l .inv .1))) ∙ (rw e at (l .inv .2)) ∙ take-all 32 (c .before .before .args .table .now) (omega (arith, c .before .before .pre))
 
 pub copied-spec : {M : Type 1} → statement M
 copied-spec =
@@ -61,7 +61,7 @@ copied-spec =
     shared-slice-copy-out-copy
     mul-copy-2
     array-set-from-copy
-    add-k
+    add-i
     loop-less
     loop-again
     returns)
