@@ -7,6 +7,7 @@ use Rattle.sheet_law.specs.Widths.{tail}
 use mathlib.Core.Path.{refl, sym, _≡_, ap, _∙_}
 use mathlib.Core.List.{List, _++_}
 use mathlib.Core.Bool.{true, false}
+use lib.IntN.{ℤ}
 use lib.ListN.{length, take, drop, length-drop}
 use lib.Seq.{take-all, take-add}
 use Rattle.sheet_law.specs.Printing.{PRINTED-MAX}
@@ -18,7 +19,7 @@ use Rattle.run_sheet.specs.ReadFed.{ReadFed}
 tail-length : (n : ℕ) (l : List ℕ) → length (take (length l - n) (drop n l)) ≡ length l - n
 tail-length n l = ap length (take-all (length l - n) (drop n l) (rw length-drop (omega arith))) ∙ length-drop n l
 
-module _ {d : SheetState} (l : List ℕ) (from : ℕ) {used : ℕ} {e : SheetState} {before out : List ℕ} {made : ℕ} (f : Feeds d (take (length l - from) (drop from l)) used e before out made) (h : from < length l) where
+module _ {table : List ℤ} {d : SheetState} (l : List ℕ) (from : ℕ) {used : ℕ} {e : SheetState} {before out : List ℕ} {made : ℕ} (f : Feeds table d (take (length l - from) (drop from l)) used e before out made) (h : from < length l) where
   pub taken-within : from + used ≤ length l
   taken-within = omega (arith, used-fits f, tail-length from l)
 
@@ -26,21 +27,21 @@ module _ {d : SheetState} (l : List ℕ) (from : ℕ) {used : ℕ} {e : SheetSta
   taken-some fits = moves f fits (omega (arith, tail-length from l))
 
 -- Fed so far, and then some of what is left: fed so much further.
-pub fed-further : (d e g : SheetState) (l : List ℕ) (from used : ℕ) → e ≡ fed sheetReader d (take from l) → g ≡ fed sheetReader e (take used (take (length l - from) (drop from l))) → g ≡ fed sheetReader d (take (from + used) l)
-fed-further d e g l from used p q =
+pub fed-further : (table : List ℤ) (d e g : SheetState) (l : List ℕ) (from used : ℕ) → e ≡ fed (sheetReader table) d (take from l) → g ≡ fed (sheetReader table) e (take used (take (length l - from) (drop from l))) → g ≡ fed (sheetReader table) d (take (from + used) l)
+fed-further table d e g l from used p q =
     q
-    ∙ ap (λ (x : SheetState). fed sheetReader x (take used (take (length l - from) (drop from l)))) p
-    ∙ sym (fed-append sheetReader d (take from l) (take used (take (length l - from) (drop from l))))
-    ∙ ap (λ (k : List ℕ). fed sheetReader d (take from l ++ take used k)) (tail from l)
-    ∙ ap (λ (k : List ℕ). fed sheetReader d k) (sym (take-add from used l))
+    ∙ ap (λ (x : SheetState). fed (sheetReader table) x (take used (take (length l - from) (drop from l)))) p
+    ∙ sym (fed-append (sheetReader table) d (take from l) (take used (take (length l - from) (drop from l))))
+    ∙ ap (λ (k : List ℕ). fed (sheetReader table) d (take from l ++ take used k)) (tail from l)
+    ∙ ap (λ (k : List ℕ). fed (sheetReader table) d k) (sym (take-add from used l))
 
-pub fed-none : (d : SheetState) (l : List ℕ) → d ≡ fed sheetReader d (take 0 l)
+pub fed-none : (table : List ℤ) (d : SheetState) (l : List ℕ) → d ≡ fed (sheetReader table) d (take 0 l)
 unfolding fed
-fed-none d l = refl
+fed-none table d l = refl
 
 -- What is kept where a write failed after a step, and at the end of the read.
-pub stopped : {d e g : SheetState} (l : List ℕ) (from : ℕ) {used : ℕ} {before out : List ℕ} {made : ℕ} → e ≡ fed sheetReader d (take from l) → from < length l → Feeds e (take (length l - from) (drop from l)) used g before out made → ReadFed d l g false
-stopped {d} {e} {g} l from {used} p h f = record { bytes = from + used; within = taken-within l from f h; after = fed-further d e g l from used p (f .after); whole = λ w. clash (sym w) }
+pub stopped : {table : List ℤ} {d e g : SheetState} (l : List ℕ) (from : ℕ) {used : ℕ} {before out : List ℕ} {made : ℕ} → e ≡ fed (sheetReader table) d (take from l) → from < length l → Feeds table e (take (length l - from) (drop from l)) used g before out made → ReadFed table d l g false
+stopped {table} {d} {e} {g} l from {used} p h f = record { bytes = from + used; within = taken-within l from f h; after = fed-further table d e g l from used p (f .after); whole = λ w. clash (sym w) }
 
-pub ended : {d e : SheetState} (l : List ℕ) (from : ℕ) → e ≡ fed sheetReader d (take from l) → from ≤ length l → length l ≤ from → ReadFed d l e true
+pub ended : {table : List ℤ} {d e : SheetState} (l : List ℕ) (from : ℕ) → e ≡ fed (sheetReader table) d (take from l) → from ≤ length l → length l ≤ from → ReadFed table d l e true
 ended l from p h k = record { bytes = from; within = h; after = p; whole = λ w. omega arith }

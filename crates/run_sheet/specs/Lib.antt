@@ -1,1 +1,3 @@
+pub mod CardLent
 pub mod ReadFed
+pub mod Program

@@ -1,6 +1,7 @@
-// The run-sheet program: a sheet on standard input, and a line for each of its lines on standard output.
-// It has the loop of reads and writes and nothing else;
-// lines, commands and replies are read and printed by `sheet`.
+// The run-sheet program: a sheet on standard input, and a line for each of its lines on standard output,
+// with the first table that the file `card` has, in the folder where the program is started.
+// It has the reading of the card's bytes, the loop of reads and writes, and nothing else;
+// the card's lines are read by `card`, and the sheet's lines, commands and replies are read and printed by `sheet`.
 ghost use Prim.Native.Nat.{_≤_};
 ghost use mathlib.Core.Path.{_≡_};
 ghost use lib.ListN.{length, take};
@@ -9,14 +10,120 @@ ghost use Rattle.statement.specs.Machine.{state};
 ghost use Rattle.sheet_law.specs.Printing.{PRINTED-MAX};
 ghost use Rattle.sheet_law.specs.Sheet.{sheetState};
 ghost use Rattle.sheet_law.specs.Reads.{KEPT};
+ghost use Rattle.card_law.specs.Card.{CARD-KEPT, CARD-READ, cardOf};
+ghost use Rattle.run_sheet.specs.CardLent.{CardLent};
 ghost use Rattle.run_sheet.specs.ReadFed.{ReadFed};
 use calls::Pitch;
+use calls::TABLE;
+use card_law::CARD_KEPT;
+use card_law::CARD_READ;
 use layout::WORDS;
 use libc::STDERR_FILENO;
 use libc::STDIN_FILENO;
 use libc::STDOUT_FILENO;
 use sheet::KEPT;
 use sheet::ROOM;
+
+// Whether the card ends behind the bytes that were read; a message where it does not.
+fn card_ends(fd: i32) -> bool {
+    let mut more = [0u8; 1];
+    let got = libc::read(fd, &mut more);
+    if got == 0 {
+        return true;
+    }
+    if got < 0 {
+        os::fail(b"run_sheet: card cannot be read");
+        return false;
+    }
+    io::write_all(
+        STDERR_FILENO,
+        b"run_sheet: card cannot be read: a read was cut short\n",
+    );
+    false
+}
+
+// A message with a number in it.
+fn say_number(before: &[u8], n: usize, after: &[u8]) {
+    io::write_all(STDERR_FILENO, before);
+    io::print_decimal(STDERR_FILENO, n as u64);
+    io::write_all(STDERR_FILENO, after);
+}
+
+// Why a card of so many bytes, so many entries and this bad line has not the 32 lines of a first table; nothing where it has.
+fn say_why(size: usize, count: usize, bad: usize) {
+    if size >= CARD_READ {
+        io::write_all(
+            STDERR_FILENO,
+            b"run_sheet: card is too long: a first table is 32 lines\n",
+        );
+    } else if bad > 0 {
+        say_number(b"run_sheet: card: line ", bad, b" is no pitch\n");
+    } else if count > TABLE {
+        io::write_all(
+            STDERR_FILENO,
+            b"run_sheet: card has more than 32 lines, and a first table is 32\n",
+        );
+    } else if count < TABLE {
+        say_number(
+            b"run_sheet: card has ",
+            count,
+            b" lines, and a first table is 32\n",
+        );
+    }
+}
+
+// The entries of a card's bytes.
+fn card_entries(bytes: &[u8], room: &mut [Pitch]) -> usize
+    requires { ⌜ length (now room) ≡ CARD-KEPT ⌝ }
+    ensures { λ n. ⌜ (n ≤ length (now (room .exit))) × (take n (now (room .exit)) ≡ take CARD-KEPT (cardOf (now (bytes .entry)))) ⌝ }
+{
+    let read = card::read_card(bytes, room);
+    say_why(bytes.len(), read.count, read.bad);
+    read.count
+}
+
+// The entries of an open card; none, with a message, where it cannot be read.
+fn read_opened_card(fd: i32, room: &mut [Pitch]) -> usize
+    requires { ⌜ length (now room) ≡ CARD-KEPT ⌝ }
+    ensures { λ n. ⌜ (n ≤ length (now (room .exit))) × CardLent (take n (now (room .exit))) ⌝ }
+{
+    let mut bytes = io::buffer();
+    let n = io::read_full(fd, &mut bytes);
+    if n < CARD_READ && !card_ends(fd) {
+        return 0;
+    }
+    card_entries(&bytes[..n], room)
+}
+
+// The entries of the card; none, with a message, where it cannot be opened.
+fn open_card(room: &mut [Pitch]) -> usize
+    requires { ⌜ length (now room) ≡ CARD-KEPT ⌝ }
+    ensures { λ n. ⌜ (n ≤ length (now (room .exit))) × CardLent (take n (now (room .exit))) ⌝ }
+{
+    let fd = os::open_read(b"card");
+    if fd < 0 {
+        os::fail(b"run_sheet: card, looked for in the folder where run_sheet was started");
+        return 0;
+    }
+    let count = read_opened_card(fd, room);
+    libc::close(fd);
+    count
+}
+
+// What `store` lines are lent; where that is no first table, a message says what they get.
+fn first_table(room: &mut [Pitch]) -> usize
+    requires { ⌜ length (now room) ≡ CARD-KEPT ⌝ }
+    ensures { λ n. ⌜ (n ≤ length (now (room .exit))) × CardLent (take n (now (room .exit))) ⌝ }
+{
+    let count = open_card(room);
+    if count != TABLE {
+        io::write_all(
+            STDERR_FILENO,
+            b"run_sheet: without a first table each store line is refused with 40, or with a number that is tested before it\n",
+        );
+    }
+    count
+}
 
 // One read: how many bytes it brought, 0 at the end of the input and, with a message, where it failed.
 fn read_some(input: &mut [u8]) -> usize
@@ -53,6 +160,7 @@ struct AfterRead {
 fn feed_read(
     words: &mut [u64],
     room: &mut [Pitch],
+    table: &[Pitch],
     kept: &mut [u8],
     lines: u64,
     count: usize,
@@ -61,7 +169,7 @@ fn feed_read(
 ) -> AfterRead
     requires { ⌜ length (now kept) ≡ KEPT ⌝ }
     requires { ⌜ PRINTED-MAX ≤ length (now out) ⌝ }
-    ensures { λ r. ⌜ ReadFed
+    ensures { λ r. ⌜ ReadFed (now (table .entry))
         (sheetState lines (take count (now (kept .entry))) (state (now (words .entry)) (now (room .entry))))
         (now (input .entry))
         (sheetState (r .lines) (take (r .count) (now (kept .exit))) (state (now (words .exit)) (now (room .exit))))
@@ -71,7 +179,7 @@ fn feed_read(
     let mut held = count;
     let mut from: usize = 0;
     while from < input.len() {
-        let fed = sheet::feed(words, room, kept, read, held, &input[from..], out);
+        let fed = sheet::feed(words, room, table, kept, read, held, &input[from..], out);
         read = fed.lines;
         held = fed.count;
         from = from + fed.used;
@@ -91,9 +199,29 @@ fn feed_read(
     }
 }
 
+// The end of the input: what is printed then is written.
+fn finish_sheet(
+    words: &mut [u64],
+    room: &mut [Pitch],
+    table: &[Pitch],
+    kept: &mut [u8],
+    lines: u64,
+    count: usize,
+    out: &mut [u8],
+)
+    requires { ⌜ length (now kept) ≡ KEPT ⌝ }
+{
+    let last = sheet::finish(words, room, table, kept, lines, count, out);
+    let made = last.made;
+    written(&out[..made]);
+}
+
+// The sheet on standard input, to its end, with the first table that a card gave.
 // A proved loop has to end, and nothing says that the input does:
 // the loop counts its reads down, from a number that no run uses up.
-fn main() {
+fn play_sheet(table: &[Pitch])
+    requires { ⌜ CardLent (now table) ⌝ }
+{
     let mut words = [0u64; WORDS];
     let mut room: [Pitch; ROOM] = [0; ROOM];
     let mut kept = [0u8; KEPT];
@@ -111,6 +239,7 @@ fn main() {
         let after = feed_read(
             &mut words,
             &mut room,
+            table,
             &mut kept,
             lines,
             count,
@@ -123,7 +252,19 @@ fn main() {
             return;
         }
     }
-    let last = sheet::finish(&mut words, &mut room, &mut kept, lines, count, &mut out);
-    let made = last.made;
-    written(&out[..made]);
+    finish_sheet(
+        &mut words,
+        &mut room,
+        table,
+        &mut kept,
+        lines,
+        count,
+        &mut out,
+    );
+}
+
+fn main() {
+    let mut room: [Pitch; CARD_KEPT] = [0; CARD_KEPT];
+    let count = first_table(&mut room);
+    play_sheet(&room[..count]);
 }

@@ -6,6 +6,7 @@ use mathlib.Core.Path.{_≡_, refl, sym, ap, _∙_}
 use mathlib.Core.Bool.{Bool, true, false, _&&_}
 use mathlib.Core.List.{List, [], _∷_, _++_}
 use lib.Dec.{eqb, ltb}
+use lib.IntN.{ℤ}
 use lib.ListN.{length, take, drop, length-append}
 use lib.Seq.{take-at, take-length}
 use borrow.Author.Tests.{le-ltb}
@@ -27,55 +28,55 @@ abbrev pub stopsAt : ℕ → ℕ → Bool
 stopsAt room b = eqb b NEWLINE && ltb room PRINTED-MAX
 
 -- How many bytes of an input are taken, with so much room in the output; what is printed for a byte takes its length of it.
-unfoldable pub taken : ℕ → SheetState → List ℕ → ℕ
-taken room d [] = 0
-taken room d (b ∷ t) = choose (stopsAt room b) 0 (suc (taken (room - length (saidAt sheetReader d b)) (byte sheetReader d b) t))
+unfoldable pub taken : List ℤ → ℕ → SheetState → List ℕ → ℕ
+taken table room d [] = 0
+taken table room d (b ∷ t) = choose (stopsAt room b) 0 (suc (taken table (room - length (saidAt (sheetReader table) d b)) (byte (sheetReader table) d b) t))
 
--- From the state d, `used` bytes of the input are taken; e is the state after them, and `made` bytes are printed for them, at the start of the output. Behind
+-- With a first table and from the state d, `used` bytes of the input are taken; e is the state after them, and `made` bytes are printed for them, at the start of the output. Behind
 -- those the output is as before. Left open are the kept bytes beyond the line's, and how far a count goes above them all.
-pub record Feeds (d : SheetState) (input : List ℕ) (used : ℕ) (e : SheetState) (before out : List ℕ) (made : ℕ) : Type 0 where
-  pub takes : used ≡ taken (length before) d input
-  pub after : e ≡ fed sheetReader d (take used input)
-  pub prints : made ≡ length (printed sheetReader d (take used input))
-  pub says : out ≡ printed sheetReader d (take used input) ++ drop made before
+pub record Feeds (table : List ℤ) (d : SheetState) (input : List ℕ) (used : ℕ) (e : SheetState) (before out : List ℕ) (made : ℕ) : Type 0 where
+  pub takes : used ≡ taken table (length before) d input
+  pub after : e ≡ fed (sheetReader table) d (take used input)
+  pub prints : made ≡ length (printed (sheetReader table) d (take used input))
+  pub says : out ≡ printed (sheetReader table) d (take used input) ++ drop made before
 
 -- A state whose line is kept in so many bytes is fed; with any other number of bytes for it nothing is done.
-pub record FeedsIn (size : ℕ) (d : SheetState) (input : List ℕ) (used : ℕ) (e : SheetState) (before out : List ℕ) (made : ℕ) : Type 0 where
-  pub right : size ≡ KEPT → Feeds d input used e before out made
+pub record FeedsIn (table : List ℤ) (size : ℕ) (d : SheetState) (input : List ℕ) (used : ℕ) (e : SheetState) (before out : List ℕ) (made : ℕ) : Type 0 where
+  pub right : size ≡ KEPT → Feeds table d input used e before out made
   pub wrong : (size ≡ KEPT → ⊥) → (used ≡ 0) × (made ≡ 0) × (e ≡ d) × (out ≡ before)
 
 -- No more is taken than there is, and into an output that the longest line fits into something of every input.
-taken-most : (room : ℕ) (d : SheetState) (t : List ℕ) → taken room d t ≤ length t
+taken-most : (table : List ℤ) (room : ℕ) (d : SheetState) (t : List ℕ) → taken table room d t ≤ length t
 unfolding taken
-taken-most room d [] = omega arith
-taken-most room d (b ∷ t) = choose-split (λ (n : ℕ). n ≤ suc (length t)) (stopsAt room b) (λ e. omega arith) (λ e. omega (arith, taken-most (room - length (saidAt sheetReader d b)) (byte sheetReader d b) t))
+taken-most table room d [] = omega arith
+taken-most table room d (b ∷ t) = choose-split (λ (n : ℕ). n ≤ suc (length t)) (stopsAt room b) (λ e. omega arith) (λ e. omega (arith, taken-most table (room - length (saidAt (sheetReader table) d b)) (byte (sheetReader table) d b) t))
 
 and-with-false : (x : Bool) → (x && false) ≡ false
 and-with-false true = refl
 and-with-false false = refl
 
-taken-some : (room : ℕ) (d : SheetState) (t : List ℕ) → PRINTED-MAX ≤ room → 0 < length t → 0 < taken room d t
+taken-some : (table : List ℤ) (room : ℕ) (d : SheetState) (t : List ℕ) → PRINTED-MAX ≤ room → 0 < length t → 0 < taken table room d t
 unfolding taken
-taken-some room d [] fits some = absurd (omega arith)
-taken-some room d (b ∷ t) fits some = rw (le-ltb room PRINTED-MAX fits, and-with-false (eqb b NEWLINE)) (omega arith)
+taken-some table room d [] fits some = absurd (omega arith)
+taken-some table room d (b ∷ t) fits some = rw (le-ltb room PRINTED-MAX fits, and-with-false (eqb b NEWLINE)) (omega arith)
 
 -- What is known of a step besides.
-module _ {d : SheetState} {input : List ℕ} {used : ℕ} {e : SheetState} {before out : List ℕ} {made : ℕ} (f : Feeds d input used e before out made) where
+module _ {table : List ℤ} {d : SheetState} {input : List ℕ} {used : ℕ} {e : SheetState} {before out : List ℕ} {made : ℕ} (f : Feeds table d input used e before out made) where
   pub used-fits : used ≤ length input
-  used-fits = omega (arith, f .takes, taken-most (length before) d input)
+  used-fits = omega (arith, f .takes, taken-most table (length before) d input)
 
   pub moves : PRINTED-MAX ≤ length before → 0 < length input → 0 < used
-  moves fits some = omega (arith, f .takes, taken-some (length before) d input fits some)
+  moves fits some = omega (arith, f .takes, taken-some table (length before) d input fits some)
 
   pub made-fits : made ≤ length out
-  made-fits = omega (arith, f .prints, ap length (f .says), length-append (printed sheetReader d (take used input)) (drop made before))
+  made-fits = omega (arith, f .prints, ap length (f .says), length-append (printed (sheetReader table) d (take used input)) (drop made before))
 
-  pub begins-with : take made out ≡ printed sheetReader d (take used input)
-  begins-with = ap (λ (l : List ℕ). take made l) (f .says) ∙ take-at (printed sheetReader d (take used input)) (drop made before) made (sym (f .prints))
+  pub begins-with : take made out ≡ printed (sheetReader table) d (take used input)
+  begins-with = ap (λ (l : List ℕ). take made l) (f .says) ∙ take-at (printed (sheetReader table) d (take used input)) (drop made before) made (sym (f .prints))
 
   -- Where nothing was made the output is as before.
   pub nothing-made : made ≡ 0 → out ≡ before
-  nothing-made none = f .says ∙ ap (λ (l : List ℕ). l ++ drop made before) (empty (printed sheetReader d (take used input)) (omega (arith, f .prints))) ∙ ap (λ (n : ℕ). drop n before) none
+  nothing-made none = f .says ∙ ap (λ (l : List ℕ). l ++ drop made before) (empty (printed (sheetReader table) d (take used input)) (omega (arith, f .prints))) ∙ ap (λ (n : ℕ). drop n before) none
     where
       empty : (l : List ℕ) → length l ≡ 0 → l ≡ []
       empty [] h = refl
@@ -90,10 +91,10 @@ pub record Step : Type 0 where
   pub out : List ℕ
   pub made : ℕ
 
--- Steps after each other, each from the state as the one before left it.
-abbrev pub Chain : SheetState → List Step → Type 0
-Chain d [] = Unit {0}
-Chain d (s ∷ ss) = Feeds d (s .input) (s .used) (s .after) (s .before) (s .out) (s .made) × Chain (s .after) ss
+-- Steps after each other with one first table, each from the state as the one before left it.
+abbrev pub Chain : List ℤ → SheetState → List Step → Type 0
+Chain table d [] = Unit {0}
+Chain table d (s ∷ ss) = Feeds table d (s .input) (s .used) (s .after) (s .before) (s .out) (s .made) × Chain table (s .after) ss
 
 -- The state after them, all that they took and all that they printed.
 abbrev pub stateAfter : SheetState → List Step → SheetState
@@ -108,28 +109,28 @@ abbrev pub allPrinted : List Step → List ℕ
 allPrinted [] = []
 allPrinted (s ∷ ss) = take (s .made) (s .out) ++ allPrinted ss
 
-chain-after : (d : SheetState) (ss : List Step) → Chain d ss → stateAfter d ss ≡ fed sheetReader d (allTaken ss)
+chain-after : (table : List ℤ) (d : SheetState) (ss : List Step) → Chain table d ss → stateAfter d ss ≡ fed (sheetReader table) d (allTaken ss)
 unfolding fed
-chain-after d [] c = refl
-chain-after d (s ∷ ss) (f, c) =
-    chain-after (s .after) ss c
-    ∙ ap (λ (e : SheetState). fed sheetReader e (allTaken ss)) (f .after)
-    ∙ sym (fed-append sheetReader d (take (s .used) (s .input)) (allTaken ss))
+chain-after table d [] c = refl
+chain-after table d (s ∷ ss) (f, c) =
+    chain-after table (s .after) ss c
+    ∙ ap (λ (e : SheetState). fed (sheetReader table) e (allTaken ss)) (f .after)
+    ∙ sym (fed-append (sheetReader table) d (take (s .used) (s .input)) (allTaken ss))
 
-chain-printed : (d : SheetState) (ss : List Step) → Chain d ss → allPrinted ss ≡ printed sheetReader d (allTaken ss)
+chain-printed : (table : List ℤ) (d : SheetState) (ss : List Step) → Chain table d ss → allPrinted ss ≡ printed (sheetReader table) d (allTaken ss)
 unfolding printed
-chain-printed d [] c = refl
-chain-printed d (s ∷ ss) (f, c) =
+chain-printed table d [] c = refl
+chain-printed table d (s ∷ ss) (f, c) =
     ap (λ (k : List ℕ). k ++ allPrinted ss) (begins-with f)
-    ∙ ap (λ (k : List ℕ). printed sheetReader d (take (s .used) (s .input)) ++ k) (chain-printed (s .after) ss c ∙ ap (λ (e : SheetState). printed sheetReader e (allTaken ss)) (f .after))
-    ∙ sym (printed-append sheetReader d (take (s .used) (s .input)) (allTaken ss))
+    ∙ ap (λ (k : List ℕ). printed (sheetReader table) d (take (s .used) (s .input)) ++ k) (chain-printed table (s .after) ss c ∙ ap (λ (e : SheetState). printed (sheetReader table) e (allTaken ss)) (f .after))
+    ∙ sym (printed-append (sheetReader table) d (take (s .used) (s .input)) (allTaken ss))
 
 -- However the input is cut, and however often the output was full: what all steps printed from the start, and the step that takes the whole ending, is the sheet of all that was taken.
-pub fed-sheet : (ss : List Step) → Chain start ss → (l : Step) → Feeds (stateAfter start ss) (l .input) (l .used) (l .after) (l .before) (l .out) (l .made) → l .input ≡ ending (stateAfter start ss .begun) → l .used ≡ length (l .input)
-    → allPrinted ss ++ take (l .made) (l .out) ≡ sheet (allTaken ss)
-fed-sheet ss c l f e all =
-    ap (λ (k : List ℕ). allPrinted ss ++ k) (begins-with f ∙ ap (λ (n : ℕ). printed sheetReader (stateAfter start ss) (take n (l .input))) all ∙ ap (λ (k : List ℕ). printed sheetReader (stateAfter start ss) k) (take-length (l .input) ∙ e))
-    ∙ ap (λ (k : List ℕ). k ++ printed sheetReader (stateAfter start ss) (ending (stateAfter start ss .begun))) (chain-printed start ss c)
-    ∙ ap (λ (x : SheetState). printed sheetReader start (allTaken ss) ++ printed sheetReader x (ending (x .begun))) (chain-after start ss c)
-    ∙ sym (printed-append sheetReader start (allTaken ss) (ending (fed sheetReader start (allTaken ss) .begun)))
-    ∙ by-bytes (allTaken ss)
+pub fed-sheet : (table : List ℤ) (ss : List Step) → Chain table start ss → (l : Step) → Feeds table (stateAfter start ss) (l .input) (l .used) (l .after) (l .before) (l .out) (l .made) → l .input ≡ ending (stateAfter start ss .begun) → l .used ≡ length (l .input)
+    → allPrinted ss ++ take (l .made) (l .out) ≡ sheet table (allTaken ss)
+fed-sheet table ss c l f e all =
+    ap (λ (k : List ℕ). allPrinted ss ++ k) (begins-with f ∙ ap (λ (n : ℕ). printed (sheetReader table) (stateAfter start ss) (take n (l .input))) all ∙ ap (λ (k : List ℕ). printed (sheetReader table) (stateAfter start ss) k) (take-length (l .input) ∙ e))
+    ∙ ap (λ (k : List ℕ). k ++ printed (sheetReader table) (stateAfter start ss) (ending (stateAfter start ss .begun))) (chain-printed table start ss c)
+    ∙ ap (λ (x : SheetState). printed (sheetReader table) start (allTaken ss) ++ printed (sheetReader table) x (ending (x .begun))) (chain-after table start ss c)
+    ∙ sym (printed-append (sheetReader table) start (allTaken ss) (ending (fed (sheetReader table) start (allTaken ss) .begun)))
+    ∙ by-bytes table (allTaken ss)

@@ -1,8 +1,9 @@
 // A run sheet from bytes to bytes, by the definition of sheet_law, however the input is cut into reads,
-// on the lent words of a store and the lent room for its entries.
+// on the lent words of a store and the lent room for its entries, with the lent first table.
 // `feed` takes the bytes of a read and prints a line for each line that ends in them, as far as the output has room;
 // `finish` is for the end of the input.
 ghost use mathlib.Core.Path.{_≡_};
+ghost use mathlib.Core.List.{[]};
 ghost use lib.ListN.{length, take};
 ghost use Rattle.statement.specs.Machine.{state};
 ghost use Rattle.lines_law.specs.Lines.{ending, joined};
@@ -52,10 +53,10 @@ fn feed_result(lines: u64, count: usize, used: usize, made: usize) -> Fed
     }
 }
 
-// A byte joins what is kept of its line.
+// A byte joins what is kept of its line, which is the same with every table.
 fn keep(kept: &mut [u8], count: usize, b: u8) -> usize
     requires { ⌜ length (now kept) ≡ KEPT ⌝ }
-    ensures { λ r. ⌜ take r (now (kept .exit)) ≡ joined sheetReader (take count (now (kept .entry))) b ⌝ }
+    ensures { λ r. ⌜ take r (now (kept .exit)) ≡ joined (sheetReader []) (take count (now (kept .entry))) b ⌝ }
 {
     if count > LINE_MAX {
         return count;
@@ -80,13 +81,14 @@ fn line_in(kept: &[u8], count: usize) -> Line
 pub fn feed(
     words: &mut [u64],
     room: &mut [Pitch],
+    table: &[Pitch],
     kept: &mut [u8],
     mut lines: u64,
     mut count: usize,
     input: &[u8],
     out: &mut [u8],
 ) -> Fed
-    ensures { λ r. ⌜ FeedsIn (length (now (kept .entry)))
+    ensures { λ r. ⌜ FeedsIn (now (table .entry)) (length (now (kept .entry)))
         (sheetState lines (take count (now (kept .entry))) (state (now (words .entry)) (now (room .entry))))
         (now (input .entry)) (r .used)
         (sheetState (r .lines) (take (r .count) (now (kept .exit))) (state (now (words .exit)) (now (room .exit))))
@@ -114,7 +116,7 @@ pub fn feed(
             count = 0;
             continue;
         };
-        let reply = play(words, room, command);
+        let reply = play(words, room, table, command);
         made = print_reply(out, made, lines, reply);
         count = 0;
     }
@@ -125,12 +127,13 @@ pub fn feed(
 pub fn finish(
     words: &mut [u64],
     room: &mut [Pitch],
+    table: &[Pitch],
     kept: &mut [u8],
     lines: u64,
     count: usize,
     out: &mut [u8],
 ) -> Fed
-    ensures { λ r. ⌜ FeedsIn (length (now (kept .entry)))
+    ensures { λ r. ⌜ FeedsIn (now (table .entry)) (length (now (kept .entry)))
         (sheetState lines (take count (now (kept .entry))) (state (now (words .entry)) (now (room .entry))))
         (ending (take count (now (kept .entry)))) (r .used)
         (sheetState (r .lines) (take (r .count) (now (kept .exit))) (state (now (words .exit)) (now (room .exit))))
@@ -139,5 +142,5 @@ pub fn finish(
     if count == 0 {
         return feed_result(lines, count, 0, 0);
     }
-    feed(words, room, kept, lines, count, b"\n", out)
+    feed(words, room, table, kept, lines, count, b"\n", out)
 }

@@ -37,16 +37,16 @@ module _ (es : List ℤ) (n m : ℕ) where
       ∙ ap (λ (k : List ℤ). rejoined (f (state w (take m es))) k) (same-back h)
 
 -- Words of another length: 1, and the room is as it was.
-pub played-length : (w : List ℕ) (es : List ℤ) (c : Call) → length w ≢ WORDS → outcome (Refused DAMAGED) (state w es) ≡ played (state w es) (Run c)
+pub played-length : (table : List ℤ) (w : List ℕ) (es : List ℤ) (c : Call) → length w ≢ WORDS → outcome (Refused DAMAGED) (state w es) ≡ played table (state w es) (Run c)
 unfolding played
-played-length w es c ne =
+played-length table w es c ne =
     ap (λ (k : List ℤ). outcome (Refused DAMAGED) (state w k)) (sym (take-append-drop (slots w * TABLE) es))
     ∙ ap (λ (o : Outcome). rejoined o (drop (slots w * TABLE) es)) (step-length (state w (take (slots w * TABLE) es)) c ne)
 
-pub played-make : (w : List ℕ) (es : List ℤ) (k rs ps ss v : ℕ) → lent (ss * TABLE) (anyMaking k (given rs ps ss v)) (state w es) ≡ played (state w es) (Make k rs ps ss v)
+pub played-make : (table : List ℤ) (w : List ℕ) (es : List ℤ) (k rs ps ss v : ℕ) → lent (ss * TABLE) (anyMaking k (given rs ps ss v table)) (state w es) ≡ played table (state w es) (Make k rs ps ss v)
 unfolding played
-played-make w es k rs ps ss v = refl
+played-make table w es k rs ps ss v = refl
 
-pub played-run : (w : List ℕ) (es : List ℤ) (c : Call) → lent (slots w * TABLE) (λ (t : State). anyStep t c) (state w es) ≡ played (state w es) (Run c)
+pub played-run : (table : List ℤ) (w : List ℕ) (es : List ℤ) (c : Call) → lent (slots w * TABLE) (λ (t : State). anyStep t c) (state w es) ≡ played table (state w es) (Run c)
 unfolding played
-played-run w es c = refl
+played-run table w es c = refl

@@ -1,4 +1,4 @@
-// One command of a run sheet, played on the lent words of the store and the lent room for its entries,
+// One command of a run sheet, played on the lent words of the store and the lent room for its entries, with the lent first table,
 // by the definition of sheet_law.
 ghost use Prim.Native.Nat.{_*_, _≤_};
 ghost use mathlib.Core.Path.{_≡_};
@@ -25,10 +25,10 @@ fn part(slots: u64, room: usize) -> usize
     room
 }
 
-// One command: a making, or a call on the made store.
-pub fn play(words: &mut [u64], room: &mut [Pitch], command: Command) -> Reply
+// One command: a making, which is lent the table, or a call on the made store.
+pub fn play(words: &mut [u64], room: &mut [Pitch], table: &[Pitch], command: Command) -> Reply
     ensures { λ a. ⌜ outcome a (state (now (words .exit)) (now (room .exit)))
-        ≡ played (state (now (words .entry)) (now (room .entry))) command ⌝ }
+        ≡ played (now (table .entry)) (state (now (words .entry)) (now (room .entry))) command ⌝ }
 {
     match command {
         Command::Make(kind, readers, publishers, slots, version) => {
@@ -36,6 +36,7 @@ pub fn play(words: &mut [u64], room: &mut [Pitch], command: Command) -> Reply
             kinds::make(
                 words,
                 &mut room[..n],
+                table,
                 kind,
                 readers,
                 publishers,

@@ -16,10 +16,10 @@ use Rattle.run_sheet.proofs.feed_read.Statement.{statement}
 use Rattle.run_sheet.proofs.feed_read.Tie as tie
 
 abbrev Inv-loop : tie.InvT-loop
-Inv-loop words₀ room₀ kept₀ lines count input out₀ read₀ held₀ from₀ words room kept out read held from = (length words ≡ length words₀) × (length room ≡ length room₀) × (length kept ≡ length kept₀) × (length out ≡ length out₀) × (from ≤ length input) × (length kept₀ ≡ KEPT) × (PRINTED-MAX ≤ length out₀) × (sheetState read (take held kept) (state words room) ≡ fed sheetReader (sheetState lines (take count kept₀) (state words₀ room₀)) (take from input))
+Inv-loop words₀ room₀ table kept₀ lines count input out₀ read₀ held₀ from₀ words room kept out read held from = (length words ≡ length words₀) × (length room ≡ length room₀) × (length kept ≡ length kept₀) × (length out ≡ length out₀) × (from ≤ length input) × (length kept₀ ≡ KEPT) × (PRINTED-MAX ≤ length out₀) × (sheetState read (take held kept) (state words room) ≡ fed (sheetReader table) (sheetState lines (take count kept₀) (state words₀ room₀)) (take from input))
 
 abbrev μ-loop : tie.MeasureT-loop
-μ-loop words₀ room₀ kept₀ lines count input out₀ read₀ held₀ from₀ words room kept out read held from = length input - from
+μ-loop words₀ room₀ table kept₀ lines count input out₀ read₀ held₀ from₀ words room kept out read held from = length input - from
 
 within : (c : tie.Else1 Inv-loop μ-loop) → c .before .before .before .before .before .before .before .before .before .before .before .before .before .before .before .before .before .before .loop .from + c .before .before .before .before .before .before .before .before .before .before .before .feed .result .used ≤ length (c .before .before .before .before .before .before .before .before .before .before .before .before .before .before .before .before .before .before .before .before .before .before .before .args .input .now)
 within c = taken-within (c .before .before .before .before .before .before .before .before .before .before .before .before .before .before .before .before .before .before .before .before .before .before .before .args .input .now) (c .before .before .before .before .before .before .before .before .before .before .before .before .before .before .before .before .before .before .loop .from) (c .before .before .before .before .before .before .before .before .before .before .before .feed .ensures .right (c .before .before .before .before .before .before .before .before .before .before .before .before .before .before .before .before .before .before .loop .inv .2 ∙ c .before .before .before .before .before .before .before .before .before .before .before .before .before .before .before .before .before .before .loop .inv .5)) (c .before .before .before .before .before .before .before .before .before .before .before .before .before .before .before .before .before .loop-test .taken)
@@ -28,7 +28,7 @@ some : (c : tie.Else1 Inv-loop μ-loop) → 0 < c .before .before .before .befor
 some c = let k = c .before .before .before .before .before .before .before .before .before .before .before .before .before .before .before .before .before .before .loop in taken-some (c .before .before .before .before .before .before .before .before .before .before .before .before .before .before .before .before .before .before .before .before .before .before .before .args .input .now) (k .from) (c .before .before .before .before .before .before .before .before .before .before .before .feed .ensures .right (c .before .before .before .before .before .before .before .before .before .before .before .before .before .before .before .before .before .before .loop .inv .2 ∙ c .before .before .before .before .before .before .before .before .before .before .before .before .before .before .before .before .before .before .loop .inv .5)) (c .before .before .before .before .before .before .before .before .before .before .before .before .before .before .before .before .before .loop-test .taken) (omega (arith, k .inv .3, k .inv .6))
 
 loop-holds : tie.Need-loop-holds Inv-loop μ-loop
-loop-holds c = (refl, refl, refl, refl, omega arith, c .before .before .before .before .pre .0, c .before .before .before .before .pre .1, fed-none _ (c .before .before .before .before .args .input .now))
+loop-holds c = (refl, refl, refl, refl, omega arith, c .before .before .before .before .pre .0, c .before .before .before .before .pre .1, fed-none _ _ (c .before .before .before .before .args .input .now))
 
 sub-feed : tie.Need-sub-feed Inv-loop μ-loop
 sub-feed c = omega (arith, c .before .before .before .loop-test .taken)
@@ -49,7 +49,7 @@ slice-reshare-prefix-written : tie.Need-slice-reshare-prefix-written Inv-loop μ
 slice-reshare-prefix-written c = made-fits (c .before .before .before .before .before .before .before .before .feed .ensures .right (c .before .before .before .before .before .before .before .before .before .before .before .before .before .before .before .loop .inv .2 ∙ c .before .before .before .before .before .before .before .before .before .before .before .before .before .before .before .loop .inv .5))
 
 slice-aggregate-written : tie.Need-slice-aggregate-written Inv-loop μ-loop
-slice-aggregate-written c = sym (length-take-le (c .before .before .before .before .before .before .before .before .before .feed .result .made) (c .before .before .before .before .before .before .before .before .before .feed .last .1 .1 .1 .1 .1 .1 .0) (made-fits (c .before .before .before .before .before .before .before .before .before .feed .ensures .right (c .before .before .before .before .before .before .before .before .before .before .before .before .before .before .before .before .loop .inv .2 ∙ c .before .before .before .before .before .before .before .before .before .before .before .before .before .before .before .before .loop .inv .5))))
+slice-aggregate-written c = sym (length-take-le (c .before .before .before .before .before .before .before .before .before .feed .result .made) (c .before .before .before .before .before .before .before .before .before .feed .last .1 .1 .1 .1 .1 .1 .1 .0) (made-fits (c .before .before .before .before .before .before .before .before .before .feed .ensures .right (c .before .before .before .before .before .before .before .before .before .before .before .before .before .before .before .before .loop .inv .2 ∙ c .before .before .before .before .before .before .before .before .before .before .before .before .before .before .before .before .loop .inv .5))))
 
 written-requires : tie.Need-written-requires Inv-loop μ-loop
 written-requires c κs = search needs
@@ -61,10 +61,10 @@ same-length-2 : tie.Need-same-length-2 Inv-loop μ-loop
 same-length-2 c = c .before .before .before .before .before .before .before .before .before .before .before .feed .kept .1 .0 ∙ c .before .before .before .before .before .before .before .before .before .before .before .before .before .before .before .before .before .before .loop .inv .1
 
 same-length-3 : tie.Need-same-length-3 Inv-loop μ-loop
-same-length-3 c = c .before .before .before .before .before .before .before .before .before .before .before .feed .kept .1 .1 .0 ∙ c .before .before .before .before .before .before .before .before .before .before .before .before .before .before .before .before .before .before .loop .inv .2
+same-length-3 c = c .before .before .before .before .before .before .before .before .before .before .before .feed .kept .1 .1 .1 .0 ∙ c .before .before .before .before .before .before .before .before .before .before .before .before .before .before .before .before .before .before .loop .inv .2
 
 same-length-4 : tie.Need-same-length-4 Inv-loop μ-loop
-same-length-4 c = c .before .before .before .before .before .before .before .before .before .before .before .feed .kept .1 .1 .1 .1 .1 .1 .0 ∙ c .before .before .before .before .before .before .before .before .before .before .before .before .before .before .before .before .before .before .loop .inv .3
+same-length-4 c = c .before .before .before .before .before .before .before .before .before .before .before .feed .kept .1 .1 .1 .1 .1 .1 .1 .0 ∙ c .before .before .before .before .before .before .before .before .before .before .before .before .before .before .before .before .before .before .loop .inv .3
 
 -- not all could be written
 returns : tie.Need-returns Inv-loop μ-loop
@@ -75,7 +75,7 @@ loop-less c = omega (arith, within c, some c)
 
 loop-again : tie.Need-loop-again Inv-loop μ-loop
 loop-again c = let k = c .before .before .before .before .before .before .before .before .before .before .before .before .before .before .before .before .before .before .loop in
-    (c .before .before .before .before .before .before .before .before .before .before .before .feed .kept .0 ∙ k .inv .0, c .before .before .before .before .before .before .before .before .before .before .before .feed .kept .1 .0 ∙ k .inv .1, c .before .before .before .before .before .before .before .before .before .before .before .feed .kept .1 .1 .0 ∙ k .inv .2, c .before .before .before .before .before .before .before .before .before .before .before .feed .kept .1 .1 .1 .1 .1 .1 .0 ∙ k .inv .3, within c, k .inv .5, k .inv .6, fed-further _ _ _ (c .before .before .before .before .before .before .before .before .before .before .before .before .before .before .before .before .before .before .before .before .before .before .before .args .input .now) (k .from) (c .before .before .before .before .before .before .before .before .before .before .before .feed .result .used) (k .inv .7) ((c .before .before .before .before .before .before .before .before .before .before .before .feed .ensures .right (c .before .before .before .before .before .before .before .before .before .before .before .before .before .before .before .before .before .before .loop .inv .2 ∙ c .before .before .before .before .before .before .before .before .before .before .before .before .before .before .before .before .before .before .loop .inv .5)) .after))
+    (c .before .before .before .before .before .before .before .before .before .before .before .feed .kept .0 ∙ k .inv .0, c .before .before .before .before .before .before .before .before .before .before .before .feed .kept .1 .0 ∙ k .inv .1, c .before .before .before .before .before .before .before .before .before .before .before .feed .kept .1 .1 .1 .0 ∙ k .inv .2, c .before .before .before .before .before .before .before .before .before .before .before .feed .kept .1 .1 .1 .1 .1 .1 .1 .0 ∙ k .inv .3, within c, k .inv .5, k .inv .6, fed-further _ _ _ _ (c .before .before .before .before .before .before .before .before .before .before .before .before .before .before .before .before .before .before .before .before .before .before .before .args .input .now) (k .from) (c .before .before .before .before .before .before .before .before .before .before .before .feed .result .used) (k .inv .7) ((c .before .before .before .before .before .before .before .before .before .before .before .feed .ensures .right (c .before .before .before .before .before .before .before .before .before .before .before .before .before .before .before .before .before .before .loop .inv .2 ∙ c .before .before .before .before .before .before .before .before .before .before .before .before .before .before .before .before .before .before .loop .inv .5)) .after))
 
 same-length-5 : tie.Need-same-length-5 Inv-loop μ-loop
 same-length-5 c = c .before .loop .inv .0

@@ -1,124 +1,35 @@
--- The arrays keep their lengths, and each turn leaves one read fewer. Assumes nothing.
+-- The entries that are lent are within the room. Assumes nothing.
 use borrow.Author.Needs.{needs}
-use native.Mathlib.Omega.{arith}
-use lib.ListN.{length, length-replicate}
-use mathlib.Core.Path.{_≡_, sym}
+use mathlib.Core.Path.{sym}
 use lib.Seq.{length-take-le}
-use Rattle.sheet.specs.Feeds.{made-fits}
 use Rattle.run_sheet.proofs.main.Statement.{statement}
 use Rattle.run_sheet.proofs.main.Tie as tie
 
-abbrev Inv-loop : tie.InvT-loop
-Inv-loop words₀ room₀ kept₀ input₀ out₀ lines₀ count₀ reads₀ words room kept input out lines count reads = (length words ≡ 425) × (length room ≡ 1024) × (length kept ≡ 81) × (length input ≡ 65536) × (length out ≡ 65536)
+slice-aggregate-first-table : tie.Need-slice-aggregate-first-table
+slice-aggregate-first-table c = search needs
 
-abbrev μ-loop : tie.MeasureT-loop
-μ-loop words₀ room₀ kept₀ input₀ out₀ lines₀ count₀ reads₀ words room kept input out lines count reads = reads
+first-table-requires : tie.Need-first-table-requires
+first-table-requires c κs = search needs
 
-large-buffer-requires : tie.Need-large-buffer-requires Inv-loop μ-loop
-large-buffer-requires c κs = search needs
+array-share-prefix-room : tie.Need-array-share-prefix-room
+array-share-prefix-room c = search needs
 
-large-buffer-requires-2 : tie.Need-large-buffer-requires-2 Inv-loop μ-loop
-large-buffer-requires-2 c κs = search needs
+slice-aggregate-play-sheet : tie.Need-slice-aggregate-play-sheet
+slice-aggregate-play-sheet c = sym (length-take-le (c .before .before .first-table .result) (c .before .before .first-table .last .0) (c .before .before .first-table .ensures .0))
 
-loop-holds : tie.Need-loop-holds Inv-loop μ-loop
-loop-holds c = (simp length-replicate, simp length-replicate, simp length-replicate, sym (c .before .large-buffer .ensures), sym (c .large-buffer2 .ensures))
+play-sheet-requires : tie.Need-play-sheet-requires
+play-sheet-requires c κs = search needs
 
-sub-reads : tie.Need-sub-reads Inv-loop μ-loop
-sub-reads c = omega (arith, c .loop-test .taken)
-
-slice-aggregate-read-some : tie.Need-slice-aggregate-read-some Inv-loop μ-loop
-slice-aggregate-read-some c = sym (c .before .before .loop .inv .3)
-
-read-some-requires : tie.Need-read-some-requires Inv-loop μ-loop
-read-some-requires c κs = search needs
-
-slice-aggregate-feed-read : tie.Need-slice-aggregate-feed-read Inv-loop μ-loop
-slice-aggregate-feed-read c = search needs
-
-slice-aggregate-feed-read-2 : tie.Need-slice-aggregate-feed-read-2 Inv-loop μ-loop
-slice-aggregate-feed-read-2 c = search needs
-
-slice-aggregate-feed-read-3 : tie.Need-slice-aggregate-feed-read-3 Inv-loop μ-loop
-slice-aggregate-feed-read-3 c = search needs
-
-array-share-prefix-input : tie.Need-array-share-prefix-input Inv-loop μ-loop
-array-share-prefix-input c = search needs
-
-slice-aggregate-feed-read-4 : tie.Need-slice-aggregate-feed-read-4 Inv-loop μ-loop
-slice-aggregate-feed-read-4 c = search needs
-
-slice-aggregate-feed-read-5 : tie.Need-slice-aggregate-feed-read-5 Inv-loop μ-loop
-slice-aggregate-feed-read-5 c = search needs
-
-feed-read-requires : tie.Need-feed-read-requires Inv-loop μ-loop
-feed-read-requires c κs = search needs
-
--- the output cannot be written
-returns : tie.Need-returns Inv-loop μ-loop
+returns : tie.Need-returns
 returns c = search needs
-
-loop-less : tie.Need-loop-less Inv-loop μ-loop
-loop-less c = search needs
-
-loop-again : tie.Need-loop-again Inv-loop μ-loop
-loop-again c = search needs
-
-slice-aggregate-finish : tie.Need-slice-aggregate-finish Inv-loop μ-loop
-slice-aggregate-finish c = search needs
-
-slice-aggregate-finish-2 : tie.Need-slice-aggregate-finish-2 Inv-loop μ-loop
-slice-aggregate-finish-2 c = search needs
-
-slice-aggregate-finish-3 : tie.Need-slice-aggregate-finish-3 Inv-loop μ-loop
-slice-aggregate-finish-3 c = search needs
-
-slice-aggregate-finish-4 : tie.Need-slice-aggregate-finish-4 Inv-loop μ-loop
-slice-aggregate-finish-4 c = search needs
-
-finish-requires : tie.Need-finish-requires Inv-loop μ-loop
-finish-requires c κs = search needs
-
-array-share-prefix-out : tie.Need-array-share-prefix-out Inv-loop μ-loop
-array-share-prefix-out c = omega (arith, made-fits (c .before .before .before .before .finish .ensures .right (c .before .before .before .before .before .before .before .before .before .before .loop .inv .2)), c .before .before .before .before .finish .kept .1 .1 .1 .1 .1 .0, c .before .before .before .before .before .before .before .before .before .before .loop .inv .4)
-
-slice-aggregate-written : tie.Need-slice-aggregate-written Inv-loop μ-loop
-slice-aggregate-written c = sym (length-take-le (c .before .before .before .before .before .finish .result .made) (c .before .before .before .before .before .finish .last .1 .1 .1 .1 .1 .0) (made-fits (c .before .before .before .before .before .finish .ensures .right (c .before .before .before .before .before .before .before .before .before .before .before .loop .inv .2))))
-
-written-requires : tie.Need-written-requires Inv-loop μ-loop
-written-requires c κs = search needs
-
--- the input has ended
-returns-2 : tie.Need-returns-2 Inv-loop μ-loop
-returns-2 c = search needs
 
 pub main-spec : {M : Type 1} → statement M
 main-spec =
     tie.close
     (tie.spec
-    Inv-loop
-    μ-loop
-    large-buffer-requires
-    large-buffer-requires-2
-    loop-holds
-    sub-reads
-    slice-aggregate-read-some
-    read-some-requires
-    slice-aggregate-feed-read
-    slice-aggregate-feed-read-2
-    slice-aggregate-feed-read-3
-    array-share-prefix-input
-    slice-aggregate-feed-read-4
-    slice-aggregate-feed-read-5
-    feed-read-requires
-    returns
-    loop-less
-    loop-again
-    slice-aggregate-finish
-    slice-aggregate-finish-2
-    slice-aggregate-finish-3
-    slice-aggregate-finish-4
-    finish-requires
-    array-share-prefix-out
-    slice-aggregate-written
-    written-requires
-    returns-2)
+    slice-aggregate-first-table
+    first-table-requires
+    array-share-prefix-room
+    slice-aggregate-play-sheet
+    play-sheet-requires
+    returns)

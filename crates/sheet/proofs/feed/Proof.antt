@@ -13,10 +13,10 @@ use Rattle.sheet.proofs.feed.Statement.{statement}
 use Rattle.sheet.proofs.feed.Tie as tie
 
 abbrev Inv-loop : tie.InvT-loop
-Inv-loop words₀ room₀ kept₀ lines₀ count₀ input out₀ used₀ made₀ words room kept lines count out used made = (length kept ≡ KEPT) × (length words ≡ length words₀) × (length room ≡ length room₀) × (length out ≡ length out₀) × (length kept₀ ≡ KEPT) × Going (sheetState lines₀ (take count₀ kept₀) (state words₀ room₀)) input used (sheetState lines (take count kept) (state words room)) out₀ out made
+Inv-loop words₀ room₀ table kept₀ lines₀ count₀ input out₀ used₀ made₀ words room kept lines count out used made = (length kept ≡ KEPT) × (length words ≡ length words₀) × (length room ≡ length room₀) × (length out ≡ length out₀) × (length kept₀ ≡ KEPT) × Going table (sheetState lines₀ (take count₀ kept₀) (state words₀ room₀)) input used (sheetState lines (take count kept) (state words room)) out₀ out made
 
 abbrev μ-loop : tie.MeasureT-loop
-μ-loop words₀ room₀ kept₀ lines₀ count₀ input out₀ used₀ made₀ words room kept lines count out used made = length input - used
+μ-loop words₀ room₀ table kept₀ lines₀ count₀ input out₀ used₀ made₀ words room kept lines count out used made = length input - used
 
 feed-result-requires : tie.Need-feed-result-requires Inv-loop μ-loop
 feed-result-requires c κs = search needs
@@ -26,7 +26,7 @@ returns : tie.Need-returns Inv-loop μ-loop
 returns c = rw (c .feed-result .ensures) (record { right = λ e. absurd (c .before .if1 .taken e); wrong = λ ne. (refl, refl, refl, refl) })
 
 loop-holds : tie.Need-loop-holds Inv-loop μ-loop
-loop-holds c = (c .if1 .left, refl, refl, refl, c .if1 .left, begins _ _ _)
+loop-holds c = (c .if1 .left, refl, refl, refl, c .if1 .left, begins _ _ _ _)
 
 shared-slice-read-b : tie.Need-shared-slice-read-b Inv-loop μ-loop
 shared-slice-read-b c = c .before .loop-test .taken
@@ -42,7 +42,7 @@ loop-less c = omega (arith, c .before .before .before .before .before .before .l
 
 loop-again : tie.Need-loop-again Inv-loop μ-loop
 loop-again c = let k = c .before .before .before .before .before .before .before .loop in
-    (c .before .before .keep .kept .0 ∙ k .inv .0, k .inv .1, k .inv .2, k .inv .3, k .inv .4, joins _ _ (k .used) (k .lines) (take (k .count) (k .kept)) (state (k .words) (k .room)) _ (k .out) (k .made) (k .inv .5) (c .before .before .before .before .before .before .loop-test .taken) (c .before .before .before .before .if2 .taken) _ (c .before .before .keep .ensures))
+    (c .before .before .keep .kept .0 ∙ k .inv .0, k .inv .1, k .inv .2, k .inv .3, k .inv .4, joins _ _ _ (k .used) (k .lines) (take (k .count) (k .kept)) (state (k .words) (k .room)) _ (k .out) (k .made) (k .inv .5) (c .before .before .before .before .before .before .loop-test .taken) (c .before .before .before .before .if2 .taken) _ (c .before .before .keep .ensures))
 
 fits-requires : tie.Need-fits-requires Inv-loop μ-loop
 fits-requires c κs = search needs
@@ -75,7 +75,7 @@ loop-again-2 c = let k = c .before .before .before .before .before .before .befo
   k .inv .2,
   c .before .before .print-unread .kept .0 ∙ k .inv .3,
   k .inv .4,
-  ends-unread _ _ (k .used) (k .lines) (take (k .count) (k .kept)) (state (k .words) (k .room)) _ (k .out) (k .made) (k .inv .5) (c .before .before .before .before .before .before .before .before .before .before .before .before .before .before .loop-test .taken) (c .before .before .before .before .before .before .before .before .before .before .before .before .if2 .left) room (k .inv .3) _ _ _ (c .before .before .before .before .before .before .before .before .wrapping-add-u64 .ensures) (sym (c .before .before .before .before .before .before .line-in .ensures) ∙ c .before .before .before .before .enum-told .given .1) (c .before .before .print-unread .ensures .put room),
+  ends-unread _ _ _ (k .used) (k .lines) (take (k .count) (k .kept)) (state (k .words) (k .room)) _ (k .out) (k .made) (k .inv .5) (c .before .before .before .before .before .before .before .before .before .before .before .before .before .before .loop-test .taken) (c .before .before .before .before .before .before .before .before .before .before .before .before .if2 .left) room (k .inv .3) _ _ _ (c .before .before .before .before .before .before .before .before .wrapping-add-u64 .ensures) (sym (c .before .before .before .before .before .before .line-in .ensures) ∙ c .before .before .before .before .enum-told .given .1) (c .before .before .print-unread .ensures .put room),
 )
 
 play-requires : tie.Need-play-requires Inv-loop μ-loop
@@ -94,7 +94,7 @@ loop-again-3 c = let k = c .before .before .before .before .before .before .befo
   c .before .before .before .before .before .before .before .play .kept .1 .0 ∙ k .inv .2,
   c .before .before .print-reply .kept .0 ∙ k .inv .3,
   k .inv .4,
-  ends-read _ _ (k .used) (k .lines) (take (k .count) (k .kept)) (state (k .words) (k .room)) _ (k .out) (k .made) (k .inv .5) (c .before .before .before .before .before .before .before .before .before .before .before .before .before .before .before .before .before .before .before .before .before .loop-test .taken) (c .before .before .before .before .before .before .before .before .before .before .before .before .before .before .before .before .before .before .before .if2 .left) room (k .inv .3) _ _ _ (c .before .before .before .before .before .before .before .before .before .before .before .before .before .before .before .wrapping-add-u64 .ensures) _ (sym (c .before .before .before .before .before .before .before .before .before .before .before .before .before .line-in .ensures) ∙ c .before .before .before .before .before .before .before .before .before .before .before .command .given .1) _ _ (c .before .before .before .before .before .before .before .play .ensures) (c .before .before .print-reply .ensures .put room),
+  ends-read _ _ _ (k .used) (k .lines) (take (k .count) (k .kept)) (state (k .words) (k .room)) _ (k .out) (k .made) (k .inv .5) (c .before .before .before .before .before .before .before .before .before .before .before .before .before .before .before .before .before .before .before .before .before .loop-test .taken) (c .before .before .before .before .before .before .before .before .before .before .before .before .before .before .before .before .before .before .before .if2 .left) room (k .inv .3) _ _ _ (c .before .before .before .before .before .before .before .before .before .before .before .before .before .before .before .wrapping-add-u64 .ensures) _ (sym (c .before .before .before .before .before .before .before .before .before .before .before .before .before .line-in .ensures) ∙ c .before .before .before .before .before .before .before .before .before .before .before .command .given .1) _ _ (c .before .before .before .before .before .before .before .play .ensures) (c .before .before .print-reply .ensures .put room),
 )
 
 feed-result-requires-2 : tie.Need-feed-result-requires-2 Inv-loop μ-loop

@@ -12,7 +12,7 @@ feed-result-requires c κs = search needs
 
 -- no byte is kept
 returns : tie.Need-returns
-returns c = rw (c .feed-result .ensures) (record { right = λ e. at-the-end (begins _ _ _) (omega (arith, ap length (ending-none (c .before .before .before .before .before .args .kept .now) (c .before .before .before .before .before .args .count) (c .before .if1 .taken)))); wrong = λ ne. (refl, refl, refl, refl) })
+returns c = rw (c .feed-result .ensures) (record { right = λ e. at-the-end (begins _ _ _ _) (omega (arith, ap length (ending-none (c .before .before .before .before .before .args .kept .now) (c .before .before .before .before .before .args .count) (c .before .if1 .taken)))); wrong = λ ne. (refl, refl, refl, refl) })
 
 slice-aggregate-feed : tie.Need-slice-aggregate-feed
 slice-aggregate-feed c = search needs

@@ -36,7 +36,7 @@ enum-known-command-2 c = search needs
 
 -- 1 damaged: the number of words
 returns : tie.Need-returns
-returns c = played-length (c .before .before .before .before .before .args .words .now) (c .before .before .before .before .before .args .room .now) (c .before .before .command2 .given .0 .0) (c .if1 .taken) ∙ ap (λ (command : Command). played (state (c .before .before .before .before .before .args .words .now) (c .before .before .before .before .before .args .room .now)) command) (sym (c .before .before .command2 .given .1))
+returns c = played-length (c .before .before .before .before .before .args .table .now) (c .before .before .before .before .before .args .words .now) (c .before .before .before .before .before .args .room .now) (c .before .before .command2 .given .0 .0) (c .if1 .taken) ∙ ap (λ (command : Command). played (c .before .before .before .before .before .args .table .now) (state (c .before .before .before .before .before .args .words .now) (c .before .before .before .before .before .args .room .now)) command) (sym (c .before .before .command2 .given .1))
 
 slots-of-requires : tie.Need-slots-of-requires
 slots-of-requires c κs = search needs
@@ -62,9 +62,9 @@ same-length-2 c = search needs
 -- what make replies
 returns-2 : tie.Need-returns-2
 returns-2 c = let g = c .before .before .before .before .before .before .before .before .command .given .0 in
-    lent-is (c .before .before .before .before .before .before .before .before .before .before .before .args .room .now) (c .before .before .before .before .before .before .part .result) (g .1 .1 .1 .0 * TABLE) (c .before .before .before .before .before .before .part .ensures .1) (anyMaking (g .0) (given (g .1 .0) (g .1 .1 .0) (g .1 .1 .1 .0) (g .1 .1 .1 .1 .0))) (c .before .before .before .before .before .before .before .before .before .before .before .args .words .now) (c .before .before .before .make .last .0) (c .before .before .before .make .result) (c .before .before .before .make .last .1 .0) (c .before .before .before .make .ensures)
-    ∙ played-make (c .before .before .before .before .before .before .before .before .before .before .before .args .words .now) (c .before .before .before .before .before .before .before .before .before .before .before .args .room .now) (g .0) (g .1 .0) (g .1 .1 .0) (g .1 .1 .1 .0) (g .1 .1 .1 .1 .0)
-    ∙ ap (λ (command : Command). played (state (c .before .before .before .before .before .before .before .before .before .before .before .args .words .now) (c .before .before .before .before .before .before .before .before .before .before .before .args .room .now)) command) (sym (c .before .before .before .before .before .before .before .before .command .given .1))
+    lent-is (c .before .before .before .before .before .before .before .before .before .before .before .args .room .now) (c .before .before .before .before .before .before .part .result) (g .1 .1 .1 .0 * TABLE) (c .before .before .before .before .before .before .part .ensures .1) (anyMaking (g .0) (given (g .1 .0) (g .1 .1 .0) (g .1 .1 .1 .0) (g .1 .1 .1 .1 .0) (c .before .before .before .before .before .before .before .before .before .before .before .args .table .now))) (c .before .before .before .before .before .before .before .before .before .before .before .args .words .now) (c .before .before .before .make .last .0) (c .before .before .before .make .result) (c .before .before .before .make .last .1 .0) (c .before .before .before .make .ensures)
+    ∙ played-make (c .before .before .before .before .before .before .before .before .before .before .before .args .table .now) (c .before .before .before .before .before .before .before .before .before .before .before .args .words .now) (c .before .before .before .before .before .before .before .before .before .before .before .args .room .now) (g .0) (g .1 .0) (g .1 .1 .0) (g .1 .1 .1 .0) (g .1 .1 .1 .1 .0)
+    ∙ ap (λ (command : Command). played (c .before .before .before .before .before .before .before .before .before .before .before .args .table .now) (state (c .before .before .before .before .before .before .before .before .before .before .before .args .words .now) (c .before .before .before .before .before .before .before .before .before .before .before .args .room .now)) command) (sym (c .before .before .before .before .before .before .before .before .command .given .1))
 
 same-length-3 : tie.Need-same-length-3
 same-length-3 c = search needs
@@ -76,8 +76,8 @@ same-length-4 c = search needs
 returns-3 : tie.Need-returns-3
 returns-3 c = let w = c .before .before .before .before .before .before .before .before .before .before .before .before .before .before .args .words .now in
     lent-is (c .before .before .before .before .before .before .before .before .before .before .before .before .before .before .args .room .now) (c .before .before .before .before .before .before .part2 .result) (slots w * TABLE) (rw (c .before .before .before .before .before .before .before .slots-of .ensures) at (c .before .before .before .before .before .before .part2 .ensures .1)) (λ (t : State). anyStep t (c .before .before .before .before .before .before .before .before .before .before .before .command2 .given .0 .0)) w (c .before .before .before .run .last .0) (c .before .before .before .run .result) (c .before .before .before .run .last .1 .0) (c .before .before .before .run .ensures)
-    ∙ played-run w (c .before .before .before .before .before .before .before .before .before .before .before .before .before .before .args .room .now) (c .before .before .before .before .before .before .before .before .before .before .before .command2 .given .0 .0)
-    ∙ ap (λ (command : Command). played (state w (c .before .before .before .before .before .before .before .before .before .before .before .before .before .before .args .room .now)) command) (sym (c .before .before .before .before .before .before .before .before .before .before .before .command2 .given .1))
+    ∙ played-run (c .before .before .before .before .before .before .before .before .before .before .before .before .before .before .args .table .now) w (c .before .before .before .before .before .before .before .before .before .before .before .before .before .before .args .room .now) (c .before .before .before .before .before .before .before .before .before .before .before .command2 .given .0 .0)
+    ∙ ap (λ (command : Command). played (c .before .before .before .before .before .before .before .before .before .before .before .before .before .before .args .table .now) (state w (c .before .before .before .before .before .before .before .before .before .before .before .before .before .before .args .room .now)) command) (sym (c .before .before .before .before .before .before .before .before .before .before .before .command2 .given .1))
 
 pub play-spec : {M : Type 1} → statement M
 play-spec =
