@@ -4,6 +4,7 @@ use crate::both::{Both, Stop};
 use crate::first_tables::{borders, Border};
 use crate::guarded::Guarded;
 use crate::seen::Seen;
+use crate::slices::Side;
 use second::call::{Call, Numbers, Reply};
 use second::demand3::Demand3;
 use second::layout::WORDS;
@@ -55,6 +56,27 @@ fn cells_outside_the_lent_slice_are_guarded() {
     assert_eq!(one.first_unlike(&other), Some((Some(1), 4, 2)));
     one.set_null();
     assert!(one.pointer().is_null() && one.lent().is_empty());
+}
+
+/// A table that a call changed is no longer like the other side's.
+#[test]
+fn the_first_table_is_compared() {
+    let (mut one, mut other) = (Side::with_room(9, 9), Side::with_room(9, 9));
+    for side in [&mut one, &mut other] {
+        side.table.set(&FIRST);
+    }
+    assert!(one.alike(&other));
+    let lent = one.lent();
+    assert_eq!(lent.table_length, TABLE);
+    // The cells belong to the side, which alone knows of them.
+    unsafe { *lent.table.cast_mut().add(31) = 0 };
+    assert!(!one.alike(&other));
+    assert_eq!(
+        one.table.first_unlike(&other.table),
+        Some((Some(31), 0, 1200))
+    );
+    other.table.set_null();
+    assert!(other.lent().table.is_null() && other.lent().table_length == 0);
 }
 
 #[test]
