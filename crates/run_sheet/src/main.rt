@@ -10,7 +10,7 @@ ghost use Rattle.statement.specs.Machine.{state};
 ghost use Rattle.sheet_law.specs.Printing.{PRINTED-MAX};
 ghost use Rattle.sheet_law.specs.Sheet.{sheetState};
 ghost use Rattle.sheet_law.specs.Reads.{KEPT};
-ghost use Rattle.card_law.specs.Card.{CARD-KEPT, CARD-READ, cardOf};
+ghost use Rattle.card_law.specs.Card.{CARD-KEPT, cardOf};
 ghost use Rattle.run_sheet.specs.CardLent.{CardLent};
 ghost use Rattle.run_sheet.specs.ReadFed.{ReadFed};
 use calls::Pitch;
