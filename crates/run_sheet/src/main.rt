@@ -24,6 +24,9 @@ use libc::STDOUT_FILENO;
 use sheet::KEPT;
 use sheet::ROOM;
 
+// A card that cannot be opened or read counts as no entries.
+const NO_ENTRIES: usize = 0;
+
 // Whether the card ends behind the bytes that were read; a message where it does not.
 fn card_ends(fd: i32) -> bool {
     let mut more = [0u8; 1];
@@ -90,7 +93,7 @@ fn read_opened_card(fd: i32, room: &mut [Pitch]) -> usize
     let mut bytes = io::buffer();
     let n = io::read_full(fd, &mut bytes);
     if n < CARD_READ && !card_ends(fd) {
-        return 0;
+        return NO_ENTRIES;
     }
     card_entries(&bytes[..n], room)
 }
@@ -103,7 +106,7 @@ fn open_card(room: &mut [Pitch]) -> usize
     let fd = os::open_read(b"card");
     if fd < 0 {
         os::fail(b"run_sheet: card, looked for in the folder where run_sheet was started");
-        return 0;
+        return NO_ENTRIES;
     }
     let count = read_opened_card(fd, room);
     libc::close(fd);
