@@ -10,7 +10,7 @@ ghost use Rattle.statement.specs.Machine.{state};
 ghost use Rattle.sheet_law.specs.Printing.{PRINTED-MAX};
 ghost use Rattle.sheet_law.specs.Sheet.{sheetState};
 ghost use Rattle.sheet_law.specs.Reads.{KEPT};
-ghost use Rattle.card_law.specs.Card.{CARD-KEPT, CARD-READ, cardOf};
+ghost use Rattle.card_law.specs.Card.{CARD-KEPT, cardOf};
 ghost use Rattle.run_sheet.specs.CardLent.{CardLent};
 ghost use Rattle.run_sheet.specs.ReadFed.{ReadFed};
 use calls::Pitch;
@@ -52,7 +52,8 @@ fn say_number(before: &[u8], n: usize, after: &[u8]) {
     io::write_all(STDERR_FILENO, after);
 }
 
-// Why a card of so many bytes, so many entries and this bad line has not the 32 lines of a first table; nothing where it has.
+// Why a card of so many bytes, so many entries and this bad line has not the 32 lines of a first table;
+// nothing where it has.
 fn say_why(size: usize, count: usize, bad: usize) {
     if size >= CARD_READ {
         io::write_all(
@@ -75,10 +76,11 @@ fn say_why(size: usize, count: usize, bad: usize) {
     }
 }
 
-// The entries of a card's bytes.
+// The entries of a card's bytes, as many as there is room for.
 fn card_entries(bytes: &[u8], room: &mut [Pitch]) -> usize
     requires { ⌜ length (now room) ≡ CARD-KEPT ⌝ }
-    ensures { λ n. ⌜ (n ≤ length (now (room .exit))) × (take n (now (room .exit)) ≡ take CARD-KEPT (cardOf (now (bytes .entry)))) ⌝ }
+    ensures { λ n. ⌜ (n ≤ length (now (room .exit)))
+        × (take n (now (room .exit)) ≡ take CARD-KEPT (cardOf (now (bytes .entry)))) ⌝ }
 {
     let read = card::read_card(bytes, room);
     say_why(bytes.len(), read.count, read.bad);
