@@ -2,9 +2,6 @@
 #include "baseline.h"
 #include "store.h"
 
-#include <stdbool.h>
-#include <string.h>
-
 #include "grace_version.h"
 #include "two_phase.h"
 
@@ -20,14 +17,15 @@
         return refused(1); \
     } while (0)
 
-struct rahuvyte_reply c_make(uint64_t *words, size_t words_len, rahuvyte_pitch *entries, size_t entries_len, uint16_t kind, uint16_t readers, uint16_t publishers, uint16_t slots, uint64_t version)
+/* The first table does not overlap the entries, so the compiler may read it once for all slots. */
+struct rahuvyte_reply c_make(uint64_t *words, size_t words_len, rahuvyte_pitch *restrict entries, size_t entries_len, const rahuvyte_pitch *restrict table, size_t table_len, uint16_t kind, uint16_t readers, uint16_t publishers, uint16_t slots, uint64_t version)
 {
     if (words_len != WORDS)
         return refused(1);
     if (kind == RAHUVYTE_KIND_NEW)
-        return new_make(words, words_len, entries, entries_len, readers, publishers, slots, version);
+        return new_make(words, words_len, entries, entries_len, table, table_len, readers, publishers, slots, version);
     if (kind == RAHUVYTE_KIND_OLD)
-        return old_make(words, words_len, entries, entries_len, readers, publishers, slots, version);
+        return old_make(words, words_len, entries, entries_len, table, table_len, readers, publishers, slots, version);
     return refused(1);
 }
 

@@ -5,7 +5,7 @@
 
 #include "../include/rahuvyte.h"
 
-struct rahuvyte_reply c_make(uint64_t *words, size_t words_len, rahuvyte_pitch *entries, size_t entries_len, uint16_t kind, uint16_t readers, uint16_t publishers, uint16_t slots, uint64_t version);
+struct rahuvyte_reply c_make(uint64_t *words, size_t words_len, rahuvyte_pitch *entries, size_t entries_len, const rahuvyte_pitch *table, size_t table_len, uint16_t kind, uint16_t readers, uint16_t publishers, uint16_t slots, uint64_t version);
 struct rahuvyte_reply c_enter(uint64_t *words, size_t words_len, const rahuvyte_pitch *entries, size_t entries_len, uint16_t r);
 struct rahuvyte_reply c_look(const uint64_t *words, size_t words_len, const rahuvyte_pitch *entries, size_t entries_len, uint16_t r, uint16_t k);
 struct rahuvyte_reply c_leave(uint64_t *words, size_t words_len, const rahuvyte_pitch *entries, size_t entries_len, uint16_t r);

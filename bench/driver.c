@@ -1,5 +1,6 @@
 /* Plays one list of calls, drawn from a seed and mostly in turn, through the archive's entry points and through the baseline's by hand, side by side,
-   and compares every reply, the words and the entries. run counts the instructions of each call under callgrind. */
+   and compares every reply, the words and the entries. run counts the instructions of each call under callgrind.
+   Makings whose first table is refused are a list of their own, which is compared and not counted. */
 #include "baseline.h"
 
 #include <stdio.h>
@@ -14,6 +15,8 @@ enum { FIRST_READER = 9, READER_WORDS = 5, FIRST_PUBLISHER = 329, PUBLISHER_WORD
 static uint64_t words[2][WORDS];
 static rahuvyte_pitch entries[2][ENTRIES_MAX];
 static size_t entries_len;
+/* The first table, with room for one entry too many. */
+static rahuvyte_pitch table[TABLE + 1];
 static uint64_t state;
 
 static uint64_t below(uint64_t n)
@@ -86,20 +89,68 @@ static void publisher_goes_on(uint16_t p, uint16_t slots)
     }
 }
 
-/* driver new|old READERS PUBLISHERS SLOTS CALLS SEED */
+/* A good first table, whose neighbours differ by anything that is allowed. */
+static void draw_table(void)
+{
+    int v = (int)below(RAHUVYTE_PITCH_HIGH - RAHUVYTE_PITCH_LOW + 1) + RAHUVYTE_PITCH_LOW;
+    for (int k = 0; k < TABLE; k++) {
+        const int next = v + (int)below(2 * RAHUVYTE_STEP_MAX + 1) - RAHUVYTE_STEP_MAX;
+        if (next >= RAHUVYTE_PITCH_LOW && next <= RAHUVYTE_PITCH_HIGH)
+            v = next;
+        table[k] = (rahuvyte_pitch)v;
+    }
+}
+
+/* A first table with one step, behind entry k. */
+static void draw_step(int k, int step)
+{
+    for (int i = 0; i < TABLE; i++)
+        table[i] = (rahuvyte_pitch)(i <= k ? RAHUVYTE_STEP_MAX + 1 : RAHUVYTE_STEP_MAX + 1 + step);
+}
+
+#define BOTH_MAKE(kind, table_len) BOTH(make, table, table_len, kind, 1, 1, 2, 0)
+
+/* Every length up to one too many; an entry that is just out of range or any number, at each index; a step that is just too far or just not, at each pair. */
+static void compare_refused(uint16_t kind)
+{
+    static const int out[] = { RAHUVYTE_PITCH_LOW - 1, RAHUVYTE_PITCH_HIGH + 1, INT16_MIN, INT16_MAX };
+    static const int steps[] = { RAHUVYTE_STEP_MAX, RAHUVYTE_STEP_MAX + 1, -RAHUVYTE_STEP_MAX, -RAHUVYTE_STEP_MAX - 1 };
+    entries_len = 2 * TABLE;
+    for (size_t len = 0; len <= TABLE + 1; len++)
+        BOTH_MAKE(kind, len);
+    for (int k = 0; k < TABLE; k++)
+        for (int i = 0; i < 4; i++) {
+            draw_table();
+            table[k] = (rahuvyte_pitch)out[i];
+            BOTH_MAKE(kind, TABLE);
+            draw_step(k, steps[i]);
+            BOTH_MAKE(kind, TABLE);
+            table[below(TABLE)] = (rahuvyte_pitch)below(UINT16_MAX + 1);
+            BOTH_MAKE(kind, TABLE);
+        }
+}
+
+/* driver new|old READERS PUBLISHERS SLOTS CALLS SEED, or driver new|old for the refused makings */
 int main(int argc, char **argv)
 {
-    if (argc != 7) {
-        fprintf(stderr, "driver new|old READERS PUBLISHERS SLOTS CALLS SEED\n");
+    if (argc != 7 && argc != 2) {
+        fprintf(stderr, "driver new|old [READERS PUBLISHERS SLOTS CALLS SEED]\n");
         return 2;
     }
     const uint16_t kind = strcmp(argv[1], "old") == 0 ? RAHUVYTE_KIND_OLD : RAHUVYTE_KIND_NEW;
+    state = 1;
+    if (argc == 2) {
+        compare_refused(kind);
+        return 0;
+    }
     const uint16_t readers = (uint16_t)atoi(argv[2]), publishers = (uint16_t)atoi(argv[3]), slots = (uint16_t)atoi(argv[4]);
     const long calls = atol(argv[5]);
-    state = strtoull(argv[6], NULL, 10) * 2 + 1;
     entries_len = (size_t)slots * TABLE;
-    for (uint64_t version = 0; version < 20; version++)
-        BOTH(make, kind, readers, publishers, slots, version);
+    for (uint64_t version = 0; version < 20; version++) {
+        draw_table();
+        BOTH(make, table, TABLE, kind, readers, publishers, slots, version);
+    }
+    state = strtoull(argv[6], NULL, 10) * 2 + 1;
     for (long i = 0; i < calls; i++) {
         if (below(2) == 0)
             reader_goes_on((uint16_t)below(readers));

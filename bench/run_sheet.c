@@ -1,7 +1,8 @@
-/* The run sheet by hand in C: reads the lines of standard input with fgets, plays them on a store by hand and prints one line each with printf.
-   run-sheet measures the proved program beside it. */
+/* The run sheet by hand in C: reads the first table from the file card, then the lines of standard input with fgets, plays them on a store by hand
+   and prints one line each with printf. run-sheet measures the proved program beside it. */
 #include "baseline.h"
 
+#include <errno.h>
 #include <inttypes.h>
 #include <stdbool.h>
 #include <stdio.h>
@@ -10,6 +11,9 @@
 /* A line of 80 bytes, its newline and the NUL that fgets puts behind it. */
 enum { LINE_BYTES = 80, LINE_SIZE = LINE_BYTES + 2 };
 
+/* So much of the card is read: a longer one has no 32 pitches. */
+enum { CARD_READ = 4096 };
+
 /* Calls with one argument stand before LOOK. */
 enum call { ENTER, LEAVE, SWAP, SYNC, RAISE, RELEASE, LOOK, CLAIM, WALK, WRITE };
 
@@ -17,6 +21,8 @@ static uint64_t words[RAHUVYTE_WORDS];
 /* Room for any number of slots that can be written on a sheet: making refuses what is too many. */
 static rahuvyte_pitch entries[RAHUVYTE_ENTRIES(UINT16_MAX)];
 static size_t entries_len;
+static rahuvyte_pitch table[RAHUVYTE_TABLE];
+static size_t table_len;
 
 #define STORE words, RAHUVYTE_WORDS, entries, entries_len
 
@@ -66,6 +72,62 @@ static inline bool pitch_of(const char **at, int32_t *v)
         return false;
     *v = negative ? -(int32_t)n : (int32_t)n;
     return true;
+}
+
+/* Reads one pitch a line into the table; how many lines there are, or 0 if one is no pitch: *bad is then its number. The text ends with a NUL. */
+static size_t read_lines(const char *text, size_t size, size_t *bad)
+{
+    const char *at = text, *const end = text + size;
+    size_t lines = 0;
+    int32_t v;
+    while (at != end) {
+        lines++;
+        if (!pitch_of(&at, &v) || (at != end && *at++ != '\n')) {
+            *bad = lines;
+            return 0;
+        }
+        if (lines <= RAHUVYTE_TABLE)
+            table[lines - 1] = (rahuvyte_pitch)v;
+    }
+    return lines;
+}
+
+/* Says on standard error why there is no first table. */
+#define SAY(...) \
+    do { \
+        fprintf(stderr, "run_sheet: card" __VA_ARGS__); \
+        fputs("\nrun_sheet: without a first table each store line is refused with 40, or with a number that is tested before it\n", stderr); \
+    } while (0)
+
+/* Reads the first table from the open card, if it has one. */
+static void read_card(FILE *card)
+{
+    static char text[CARD_READ + 1];
+    size_t bad = 0;
+    const size_t size = fread(text, 1, CARD_READ, card), lines = read_lines(text, size, &bad);
+    if (ferror(card))
+        SAY(" cannot be read: %s", strerror(errno));
+    else if (size == CARD_READ)
+        SAY(" is too long: a first table is 32 lines");
+    else if (bad != 0)
+        SAY(": line %zu is no pitch", bad);
+    else if (lines > RAHUVYTE_TABLE)
+        SAY(" has more than 32 lines, and a first table is 32");
+    else if (lines < RAHUVYTE_TABLE)
+        SAY(" has %zu lines, and a first table is 32", lines);
+    else
+        table_len = RAHUVYTE_TABLE;
+}
+
+static void load_card(void)
+{
+    FILE *card = fopen("card", "r");
+    if (card == NULL) {
+        SAY(", looked for in the folder where run_sheet was started: %s", strerror(errno));
+        return;
+    }
+    read_card(card);
+    fclose(card);
 }
 
 /* Whether the line ends here with its bracket. The last line may lack its newline: then the NUL of fgets comes next, and behind it the newlines that were
@@ -144,8 +206,8 @@ static bool made(const char *at, struct rahuvyte_reply *reply)
     if (!version_of(&at, &version) || !closed(at))
         return false;
     const size_t lent = RAHUVYTE_ENTRIES(sizes[2]);
-    *reply = c_make(words, RAHUVYTE_WORDS, entries, lent, is_new ? RAHUVYTE_KIND_NEW : RAHUVYTE_KIND_OLD,
-                    (uint16_t)sizes[0], (uint16_t)sizes[1], (uint16_t)sizes[2], version);
+    *reply = c_make(words, RAHUVYTE_WORDS, entries, lent, table, table_len, is_new ? RAHUVYTE_KIND_NEW : RAHUVYTE_KIND_OLD, (uint16_t)sizes[0],
+                    (uint16_t)sizes[1], (uint16_t)sizes[2], version);
     if (reply->code == RAHUVYTE_MADE)
         entries_len = lent;
     return true;
@@ -218,6 +280,7 @@ int main(void)
 {
     char line[LINE_SIZE];
     struct rahuvyte_reply reply;
+    load_card();
     for (uint64_t n = 1; next_line(line); n++) {
         if (played(line, &reply))
             print(n, &reply);

@@ -1,4 +1,35 @@
-/* LOOK, WRITE, SWAP, SYNC and RELEASE, which the two kinds by hand share: included by each after its NAMED, its LAST and its damage test. */
+/* Making, LOOK, WRITE, SWAP, SYNC and RELEASE, which the two kinds by hand share: included by each after its NAMED, its KIND, its LAST and its damage test. */
+static struct rahuvyte_reply NAMED(make)(uint64_t *words, size_t words_len, rahuvyte_pitch *entries, size_t entries_len, const rahuvyte_pitch *table, size_t table_len, uint16_t readers, uint16_t publishers, uint16_t slots, uint64_t version)
+{
+    struct store *s = (struct store *)words;
+    if (words_len != WORDS)
+        return refused(1);
+    if (readers < 1 || readers > READERS_MAX)
+        return refused(2);
+    if (publishers < 1 || publishers > PUBLISHERS_MAX)
+        return refused(3);
+    if (slots < 2 || slots > SLOTS_MAX)
+        return refused(4);
+    if (entries_len != (size_t)slots * TABLE)
+        return refused(5);
+    if (version > LAST)
+        return refused(6);
+    const uint64_t refusal = table_refusal(table, table_len);
+    if (refusal != 0)
+        return refused(refusal);
+    memset(s, 0, sizeof *s);
+    s->kind = KIND;
+    s->readers = readers;
+    s->publishers = publishers;
+    s->slots = slots;
+    s->version = version;
+    for (int r = 0; r < READERS_MAX; r++)
+        s->reader[r].published = NOT_READING;
+    for (rahuvyte_pitch *slot = entries, *end = entries + entries_len; slot != end; slot += TABLE)
+        memcpy(slot, table, TABLE * sizeof *table);
+    return accepted(100, 0, 0);
+}
+
 static struct rahuvyte_reply NAMED(look)(const uint64_t *words, size_t words_len, const rahuvyte_pitch *entries, size_t entries_len, uint16_t r, uint16_t k)
 {
     const struct store *s = (const struct store *)words;

@@ -12,6 +12,8 @@ enum { FIRST_READER = 9, READER_WORDS = 5, FIRST_PUBLISHER = 329, PUBLISHER_WORD
 static uint64_t words[RAHUVYTE_WORDS];
 static rahuvyte_pitch entries[RAHUVYTE_ENTRIES(RAHUVYTE_SLOTS_MAX)];
 static size_t entries_len;
+/* Its first table, all 0: nothing that is written depends on a pitch looked up. */
+static const rahuvyte_pitch table[RAHUVYTE_TABLE];
 static uint16_t readers, publishers, slots;
 static uint64_t state;
 
@@ -145,7 +147,7 @@ int main(int argc, char **argv)
     slots = (uint16_t)atoi(argv[4]);
     state = strtoull(argv[6], NULL, 10) * 2 + 1;
     entries_len = RAHUVYTE_ENTRIES(slots);
-    if (c_make(words, RAHUVYTE_WORDS, entries, entries_len, kind, readers, publishers, slots, 0).code != RAHUVYTE_MADE) {
+    if (c_make(words, RAHUVYTE_WORDS, entries, entries_len, table, RAHUVYTE_TABLE, kind, readers, publishers, slots, 0).code != RAHUVYTE_MADE) {
         fprintf(stderr, "sheet_lines: there is no such store\n");
         return 2;
     }

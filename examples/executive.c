@@ -56,7 +56,7 @@ struct cabinet {
     uint64_t random;
 };
 
-/* What every call is lent. */
+/* What every call is lent; making is lent the first table too. */
 #define LENT(c) (c)->store, RAHUVYTE_WORDS, (c)->entries, RAHUVYTE_ENTRIES(SLOTS)
 
 static void stop(const char *who, const char *what, struct rahuvyte_reply reply)
@@ -251,15 +251,24 @@ static void publisher_turn(struct cabinet *c, uint16_t p)
 
 /* ---- The executive ---- */
 
-/* A fresh store, every task at its beginning, the shelf's table feathered. */
+/* The table that the store starts with: here feathered blades. A site has its blade maker's pitches here. */
+static void fill_first_table(rahuvyte_pitch first_table[RAHUVYTE_TABLE])
+{
+    for (int k = 0; k < RAHUVYTE_TABLE; k++)
+        first_table[k] = RAHUVYTE_FEATHERED;
+}
+
+/* A fresh store, every task at its beginning, the first table on the shelf. Making reads the first table and keeps nothing of it. */
 static void make_cabinet(struct cabinet *c, uint16_t kind, uint64_t seed)
 {
+    rahuvyte_pitch first_table[RAHUVYTE_TABLE];
+    fill_first_table(first_table);
     memset(c, 0, sizeof *c);
     c->kind = kind;
     c->random = 2 * seed + 1;
     for (int k = 0; k < RAHUVYTE_TABLE; k++)
-        c->shelf.table[k] = RAHUVYTE_FEATHERED;
-    const struct rahuvyte_reply reply = rahuvyte_make(LENT(c), kind, BLADES, PUBLISHERS, SLOTS, 0);
+        c->shelf.table[k] = first_table[k];
+    const struct rahuvyte_reply reply = rahuvyte_make(LENT(c), first_table, RAHUVYTE_TABLE, kind, BLADES, PUBLISHERS, SLOTS, 0);
     if (reply.code != RAHUVYTE_MADE)
         stop("executive", "make", reply);
 }

@@ -6,6 +6,7 @@
    You lend the store two arrays and keep them for as long as you use it:
      uint64_t store[RAHUVYTE_WORDS]                          its numbers; no need to look inside
      rahuvyte_pitch entries[RAHUVYTE_ENTRIES(slots)]         its tables, one for each slot
+   Making is lent a third array for its own time, the first table: 32 pitches with which every slot starts.
    The library keeps nothing of its own: no allocation, no global data. Stores in different arrays know nothing of each other.
 
    A reader, again and again:    ENTER until the reply is AT with RAHUVYTE_PLACE_PICKED .. LOOK, as often as it likes .. LEAVE
@@ -18,7 +19,10 @@
 
    One core: calls run one after another. They must not overlap on one store (no second thread, no call from an
    interrupt that came in the middle of another call). Every pointer must be good for the length given with it,
-   store and entries must not overlap, and a null pointer is allowed only with length 0.
+   no two of the lent arrays may overlap, and a null pointer is allowed only with length 0.
+
+   Recompile what was compiled with the header of 0.1.0, whose rahuvyte_make had no first table. An object from then still links,
+   but its arguments arrive shifted: the kind as the table's address, the readers as its length, the publishers as the kind.
 
    In the project's folder docs/C-INTERFACE.md has an example, tables and questions, and docs/LAYOUT.md the words of a store one by one.
 
@@ -30,9 +34,9 @@
 #include <stdint.h>
 
 #define RAHUVYTE_VERSION_MAJOR 0
-#define RAHUVYTE_VERSION_MINOR 1
+#define RAHUVYTE_VERSION_MINOR 2
 #define RAHUVYTE_VERSION_PATCH 0
-#define RAHUVYTE_VERSION "0.1.0"
+#define RAHUVYTE_VERSION "0.2.0"
 
 #ifdef __cplusplus
 extern "C" {
@@ -45,8 +49,10 @@ typedef int16_t rahuvyte_pitch;
 
 #define RAHUVYTE_PITCH_LOW (-500)
 #define RAHUVYTE_PITCH_HIGH 9500
-/* Every entry of a fresh store: blades feathered. */
+/* The pitch of a feathered blade. No store starts with it by itself: a first table may have it. */
 #define RAHUVYTE_FEATHERED 9000
+/* Two neighbours of a first table may differ by so much. */
+#define RAHUVYTE_STEP_MAX 1500
 
 /* Words of a store, of either kind and any size. */
 #define RAHUVYTE_WORDS 425
@@ -141,7 +147,10 @@ enum {
     RAHUVYTE_SLOT_IN_USE = 30,       /* CLAIM: the slot is current, or a publisher holds it */
     RAHUVYTE_BUSY = 31,              /* CLAIM, old store: another publisher is publishing */
     RAHUVYTE_VERSION_IS_LAST = 32,   /* SYNC: no version is left */
-    RAHUVYTE_TOO_MANY_LOOKS = 33     /* WALK: looks + b would pass 2^64 - 1 */
+    RAHUVYTE_TOO_MANY_LOOKS = 33,    /* WALK: looks + b would pass 2^64 - 1 */
+    RAHUVYTE_BAD_TABLE_LENGTH = 40,  /* making: the first table has not 32 entries */
+    RAHUVYTE_BAD_TABLE_PITCH = 41,   /* making: an entry of the first table is not -500 to 9500 */
+    RAHUVYTE_BAD_TABLE_STEP = 42     /* making: two neighbours of the first table differ by more than 1500 */
 };
 
 /* 1 if the call was accepted, 0 if it was refused. */
@@ -178,6 +187,9 @@ static inline const char *rahuvyte_meaning(uint64_t code)
     case RAHUVYTE_BUSY: return "another publisher is busy";
     case RAHUVYTE_VERSION_IS_LAST: return "version is the last";
     case RAHUVYTE_TOO_MANY_LOOKS: return "too many looks";
+    case RAHUVYTE_BAD_TABLE_LENGTH: return "wrong number of entries in the first table";
+    case RAHUVYTE_BAD_TABLE_PITCH: return "entry of the first table out of range";
+    case RAHUVYTE_BAD_TABLE_STEP: return "neighbours in the first table too far apart";
     case RAHUVYTE_MADE: return "made";
     case RAHUVYTE_AT: return "at a place";
     case RAHUVYTE_PITCH: return "pitch";
@@ -199,13 +211,19 @@ static inline const char *rahuvyte_meaning(uint64_t code)
 
 /* ---- Making ---- */
 
-/* Makes a fresh store in the lent arrays, whatever they held: every entry 9000, slot 0 current, everyone out.
+/* Makes a fresh store in the lent arrays, whatever they held: every slot has the first table, slot 0 is current, everyone is out.
+   table is the first table, such as the blade maker's card: table_len is RAHUVYTE_TABLE, each pitch -500 to 9500, and neighbours, entries k
+   and k + 1, differ by at most RAHUVYTE_STEP_MAX. It is read during this call alone and not kept; afterwards you may change it or let it go.
+   It must not overlap store or entries: lending entries itself as the table is the likely mistake.
    kind is RAHUVYTE_KIND_NEW or RAHUVYTE_KIND_OLD; version is the first version, 0 unless you have a reason.
    For publishers that publish side by side take slots >= publishers + 1, so that there is always one to claim.
    Reply: MADE. Refused, tested in this order: DAMAGED (store_len is not RAHUVYTE_WORDS, or no such kind), BAD_READERS,
-   BAD_PUBLISHERS, BAD_SLOTS, BAD_ENTRIES (entries_len is not slots x 32), BAD_VERSION.
+   BAD_PUBLISHERS, BAD_SLOTS, BAD_ENTRIES (entries_len is not slots x 32), BAD_VERSION, BAD_TABLE_LENGTH (table_len is not 32; so a null
+   table with length 0), BAD_TABLE_PITCH (of all entries, before any neighbours are compared), BAD_TABLE_STEP.
+   A refused making leaves store, entries and table as lent.
    It does not ask whether a store was there before: tables and sections of that one are gone. */
 struct rahuvyte_reply rahuvyte_make(uint64_t *store, size_t store_len, rahuvyte_pitch *entries, size_t entries_len,
+                                    const rahuvyte_pitch *table, size_t table_len,
                                     uint16_t kind, uint16_t readers, uint16_t publishers, uint16_t slots, uint64_t version);
 
 /* All calls below take the store and entries as the call before left them, with the lengths that the store was made with.

@@ -1,4 +1,4 @@
-/* What the C tests share: lent arrays that end where memory ends, and the ten calls by number. */
+/* What the C tests share: lent arrays that begin or end where memory does, the ten calls by number, and a first table. */
 #ifndef CALLS_H
 #define CALLS_H
 
@@ -14,33 +14,62 @@ enum word { ENTER, LOOK, LEAVE, CLAIM, WRITE, SWAP, SYNC, RAISE, WALK, RELEASE, 
 
 static const char *const names[TEN_CALLS] = { "enter", "look", "leave", "claim", "write", "swap", "sync", "raise", "walk", "release" };
 
-/* The arrays lent to a call, with their lengths. */
+/* The arrays lent to a call, with their lengths. The first table is lent to making alone. */
 struct lent {
     uint64_t *store;
     size_t store_len;
     rahuvyte_pitch *entries;
     size_t entries_len;
+    rahuvyte_pitch *table;
+    size_t table_len;
 };
 
 #define LENT(l) (l).store, (l).store_len, (l).entries, (l).entries_len
+#define LENT_TO_MAKING(l) LENT(l), (l).table, (l).table_len
 
-/* size bytes right before a page that cannot be touched: one byte too far ends the program. Null for none. */
-static void *lend_bytes(size_t size)
+/* Where lent bytes touch memory that cannot be touched. */
+enum edge { AT_BEGIN, AT_END };
+
+/* size bytes between two pages that cannot be touched, right behind the first or right before the second: one byte too far there ends the program. Null for none. */
+static void *lend_bytes(size_t size, enum edge edge)
 {
     if (size == 0)
         return NULL;
     const size_t page = (size_t)sysconf(_SC_PAGESIZE), room = (size + page - 1) / page * page;
-    unsigned char *start = (unsigned char *)mmap(NULL, room + page, PROT_READ | PROT_WRITE, MAP_PRIVATE | MAP_ANONYMOUS, -1, 0);
-    if (start == MAP_FAILED || mprotect(start + room, page, PROT_NONE) != 0)
+    unsigned char *start = (unsigned char *)mmap(NULL, room + 2 * page, PROT_READ | PROT_WRITE, MAP_PRIVATE | MAP_ANONYMOUS, -1, 0);
+    if (start == MAP_FAILED || mprotect(start, page, PROT_NONE) != 0 || mprotect(start + page + room, page, PROT_NONE) != 0)
         abort();
-    return start + room - size;
+    return edge == AT_BEGIN ? start + page : start + page + room - size;
 }
 
+/* Entry k of a good first table. All entries differ, and the last and the first by far more than neighbours may. */
+#define FIRST_PITCH(k) (8500 - 290 * (k))
+
+/* So many entries of that table, also beyond the 32nd; in range up to the 32nd. */
+static rahuvyte_pitch *lend_table(size_t len, enum edge edge)
+{
+    rahuvyte_pitch *table = (rahuvyte_pitch *)lend_bytes(len * sizeof(rahuvyte_pitch), edge);
+    for (size_t k = 0; k < len; k++)
+        table[k] = (rahuvyte_pitch)FIRST_PITCH((int)k);
+    return table;
+}
+
+/* Arrays of these lengths, and a good first table. */
 static struct lent lend_arrays(size_t store_len, size_t entries_len)
 {
-    const struct lent l = { (uint64_t *)lend_bytes(store_len * sizeof(uint64_t)), store_len,
-                            (rahuvyte_pitch *)lend_bytes(entries_len * sizeof(rahuvyte_pitch)), entries_len };
+    const struct lent l = { (uint64_t *)lend_bytes(store_len * sizeof(uint64_t), AT_END), store_len,
+                            (rahuvyte_pitch *)lend_bytes(entries_len * sizeof(rahuvyte_pitch), AT_END), entries_len,
+                            lend_table(RAHUVYTE_TABLE, AT_END), RAHUVYTE_TABLE };
     return l;
+}
+
+/* Whether every slot has the first table. */
+static int has_first_table(struct lent l)
+{
+    for (size_t i = 0; i < l.entries_len; i++)
+        if (l.entries[i] != l.table[i % RAHUVYTE_TABLE])
+            return 0;
+    return 1;
 }
 
 /* One of the ten calls; second is the entry, slot, pitch or b, if it has one. */
@@ -77,6 +106,7 @@ static void report_failure(const char *test, const char *call, struct rahuvyte_r
 struct copies {
     uint64_t store[2 * RAHUVYTE_WORDS];
     rahuvyte_pitch entries[RAHUVYTE_SLOTS_MAX * RAHUVYTE_TABLE + 1];
+    rahuvyte_pitch table[2 * RAHUVYTE_TABLE];
 };
 
 static void copy_lent(struct copies *to, struct lent l)
@@ -85,12 +115,19 @@ static void copy_lent(struct copies *to, struct lent l)
         memcpy(to->store, l.store, l.store_len * sizeof(uint64_t));
     if (l.entries_len > 0)
         memcpy(to->entries, l.entries, l.entries_len * sizeof(rahuvyte_pitch));
+    if (l.table_len > 0)
+        memcpy(to->table, l.table, l.table_len * sizeof(rahuvyte_pitch));
+}
+
+static int unchanged_table(const struct copies *before, struct lent l)
+{
+    return l.table_len == 0 || memcmp(before->table, l.table, l.table_len * sizeof(rahuvyte_pitch)) == 0;
 }
 
 static int unchanged(const struct copies *before, struct lent l)
 {
     return (l.store_len == 0 || memcmp(before->store, l.store, l.store_len * sizeof(uint64_t)) == 0)
-        && (l.entries_len == 0 || memcmp(before->entries, l.entries, l.entries_len * sizeof(rahuvyte_pitch)) == 0);
+        && (l.entries_len == 0 || memcmp(before->entries, l.entries, l.entries_len * sizeof(rahuvyte_pitch)) == 0) && unchanged_table(before, l);
 }
 
 #endif

@@ -48,21 +48,24 @@ static const struct constant constants[] = {
     /* 28 */ NUMBER(BUSY),
     /* 29 */ NUMBER(VERSION_IS_LAST),
     /* 30 */ NUMBER(TOO_MANY_LOOKS),
-    /* 31 */ NUMBER(MADE),
-    /* 32 */ NUMBER(AT),
-    /* 33 */ NUMBER(PITCH),
-    /* 34 */ NUMBER(LEFT),
-    /* 35 */ NUMBER(CLAIMED),
-    /* 36 */ NUMBER(WRITTEN),
-    /* 37 */ NUMBER(SWAPPED),
-    /* 38 */ NUMBER(SYNCED),
-    /* 39 */ NUMBER(RAISED),
-    /* 40 */ NUMBER(SHARED),
-    /* 41 */ NUMBER(WAITING),
-    /* 42 */ NUMBER(SPENT),
-    /* 43 */ NUMBER(QUIET),
-    /* 44 */ NUMBER(RETURNED),
-    /* 45 */ NUMBER(FREED),
+    /* 31 */ NUMBER(BAD_TABLE_LENGTH),
+    /* 32 */ NUMBER(BAD_TABLE_PITCH),
+    /* 33 */ NUMBER(BAD_TABLE_STEP),
+    /* 34 */ NUMBER(MADE),
+    /* 35 */ NUMBER(AT),
+    /* 36 */ NUMBER(PITCH),
+    /* 37 */ NUMBER(LEFT),
+    /* 38 */ NUMBER(CLAIMED),
+    /* 39 */ NUMBER(WRITTEN),
+    /* 40 */ NUMBER(SWAPPED),
+    /* 41 */ NUMBER(SYNCED),
+    /* 42 */ NUMBER(RAISED),
+    /* 43 */ NUMBER(SHARED),
+    /* 44 */ NUMBER(WAITING),
+    /* 45 */ NUMBER(SPENT),
+    /* 46 */ NUMBER(QUIET),
+    /* 47 */ NUMBER(RETURNED),
+    /* 48 */ NUMBER(FREED),
 };
 
 enum { COUNT = sizeof constants / sizeof constants[0] };
@@ -79,6 +82,8 @@ static int agrees(uint16_t which, const char *name, uint64_t value)
 
 static uint64_t store[RAHUVYTE_WORDS];
 static rahuvyte_pitch entries[RAHUVYTE_ENTRIES(2)];
+/* A first table, all 0. */
+static const rahuvyte_pitch table[RAHUVYTE_TABLE];
 
 #define LENT store, RAHUVYTE_WORDS, entries, RAHUVYTE_ENTRIES(2)
 
@@ -100,7 +105,7 @@ static int arrives(struct rahuvyte_reply reply, int word, const char *name, uint
 
 static int check_reader_places(uint16_t kind)
 {
-    int good = READER(rahuvyte_make(LENT, kind, 1, 1, 2, 0), PLACE_OUT);
+    int good = READER(rahuvyte_make(LENT, table, RAHUVYTE_TABLE, kind, 1, 1, 2, 0), PLACE_OUT);
     good &= READER(rahuvyte_enter(LENT, 0), PLACE_LOADED);
     if (kind == RAHUVYTE_KIND_NEW) {
         good &= READER(rahuvyte_enter(LENT, 0), PLACE_PUBLISHED);
@@ -113,7 +118,7 @@ static int check_reader_places(uint16_t kind)
 
 static int check_publisher_places(uint16_t kind)
 {
-    int good = PUBLISHER(rahuvyte_make(LENT, kind, 1, 1, 2, 0), PLACE_IDLE);
+    int good = PUBLISHER(rahuvyte_make(LENT, table, RAHUVYTE_TABLE, kind, 1, 1, 2, 0), PLACE_IDLE);
     good &= PUBLISHER(rahuvyte_claim(LENT, 0, 1), PLACE_CLAIMED);
     for (int written = 1; written < RAHUVYTE_TABLE; written++)
         good &= PUBLISHER(rahuvyte_write(LENT, 0, 0), PLACE_CLAIMED + written);

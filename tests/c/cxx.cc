@@ -8,7 +8,9 @@ static bool look_up(uint16_t kind)
 {
     std::vector<uint64_t> store(RAHUVYTE_WORDS);
     std::vector<rahuvyte_pitch> entries(RAHUVYTE_ENTRIES(2));
-    rahuvyte_reply reply = rahuvyte_make(store.data(), store.size(), entries.data(), entries.size(), kind, 1, 1, 2, 0);
+    const std::vector<rahuvyte_pitch> table(RAHUVYTE_TABLE, RAHUVYTE_FEATHERED);
+    rahuvyte_reply reply =
+        rahuvyte_make(store.data(), store.size(), entries.data(), entries.size(), table.data(), table.size(), kind, 1, 1, 2, 0);
     if (reply.code != RAHUVYTE_MADE)
         return false;
     do

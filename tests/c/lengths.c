@@ -1,10 +1,11 @@
-/* Wrong lengths and unknown kinds: 1 before all else (5 for the entries at making), nothing changed, and no byte touched beyond what is lent. */
+/* Wrong lengths and unknown kinds: 1 before all else (at making 5 for the entries, 40 for the first table). First tables with a bad entry or a bad step: 41, 42.
+   Nothing changed, and no byte touched beyond what is lent. */
 #define _DEFAULT_SOURCE
 
 #include "calls.h"
 
 static struct copies before;
-static unsigned tried;
+static unsigned tried, made;
 
 static void expect_refused(const char *call, struct rahuvyte_reply reply, uint64_t code, struct lent l)
 {
@@ -29,16 +30,28 @@ static void expect_ten_damaged(struct lent l)
 static void expect_making_refused(struct lent l, uint16_t kind, uint64_t code)
 {
     copy_lent(&before, l);
-    expect_refused("make", rahuvyte_make(LENT(l), kind, 2, 2, 3, 0), code, l);
+    expect_refused("make", rahuvyte_make(LENT_TO_MAKING(l), kind, 2, 2, 3, 0), code, l);
     if (code == RAHUVYTE_DAMAGED)
-        expect_refused("make", rahuvyte_make(LENT(l), kind, 0, 0, 0, UINT64_MAX), code, l);
+        expect_refused("make", rahuvyte_make(LENT_TO_MAKING(l), kind, 0, 0, 0, UINT64_MAX), code, l);
+}
+
+/* The making is accepted: every slot has the first table, which is as it was. */
+static void expect_made(struct lent l, uint16_t kind)
+{
+    copy_lent(&before, l);
+    const struct rahuvyte_reply reply = rahuvyte_make(LENT_TO_MAKING(l), kind, 2, 2, 3, 0);
+    if (!same_reply(reply, RAHUVYTE_MADE, 0, 0))
+        report_failure("lengths", "make", reply, RAHUVYTE_MADE, "");
+    if (!has_first_table(l) || !unchanged_table(&before, l))
+        report_failure("lengths", "make", reply, RAHUVYTE_MADE, ", the first table in every slot and unchanged");
+    made++;
 }
 
 /* A good store in its first words, of a kind with 2 readers, 2 publishers and 3 slots; lent with another length. */
 static struct lent make_lent_store(uint16_t kind, size_t store_len, size_t entries_len)
 {
     struct lent good = lend_arrays(RAHUVYTE_WORDS, RAHUVYTE_ENTRIES(3)), l = lend_arrays(store_len, entries_len);
-    if (rahuvyte_make(LENT(good), kind, 2, 2, 3, 0).code != RAHUVYTE_MADE)
+    if (rahuvyte_make(LENT_TO_MAKING(good), kind, 2, 2, 3, 0).code != RAHUVYTE_MADE)
         abort();
     if (store_len > 0)
         memcpy(l.store, good.store, (store_len < RAHUVYTE_WORDS ? store_len : RAHUVYTE_WORDS) * sizeof(uint64_t));
@@ -97,6 +110,78 @@ static void try_damaged_words(uint16_t kind)
     }
 }
 
+/* A first table of so many entries, at an edge of memory. */
+static struct lent lend_first(struct lent l, size_t len, enum edge edge)
+{
+    l.table = lend_table(len, edge);
+    l.table_len = len;
+    return l;
+}
+
+static void try_table_lengths(uint16_t kind)
+{
+    static const size_t lengths[] = { 0, 1, 31, 33, 64 };
+    const struct lent l = make_lent_store(kind, RAHUVYTE_WORDS, RAHUVYTE_ENTRIES(3));
+    for (size_t i = 0; i < sizeof lengths / sizeof lengths[0]; i++) {
+        expect_making_refused(lend_first(l, lengths[i], AT_BEGIN), kind, RAHUVYTE_BAD_TABLE_LENGTH);
+        expect_making_refused(lend_first(l, lengths[i], AT_END), kind, RAHUVYTE_BAD_TABLE_LENGTH);
+    }
+    /* No entries, at an address that cannot be read. */
+    struct lent unreadable = lend_first(l, RAHUVYTE_TABLE, AT_END);
+    unreadable.table += RAHUVYTE_TABLE;
+    unreadable.table_len = 0;
+    expect_making_refused(unreadable, kind, RAHUVYTE_BAD_TABLE_LENGTH);
+    expect_made(lend_first(l, RAHUVYTE_TABLE, AT_BEGIN), kind);
+    expect_made(lend_first(l, RAHUVYTE_TABLE, AT_END), kind);
+}
+
+/* The first table is one pitch up to entry k, and another behind it. */
+static void put_step(struct lent l, int k, int v, int behind)
+{
+    for (int i = 0; i < RAHUVYTE_TABLE; i++)
+        l.table[i] = (rahuvyte_pitch)(i <= k ? v : behind);
+}
+
+/* One entry out of range, in a table that is flat but for it, and in one whose other neighbours are too far apart. */
+static void try_table_pitches(uint16_t kind)
+{
+    static const int out[] = { RAHUVYTE_PITCH_LOW - 1, RAHUVYTE_PITCH_HIGH + 1, INT16_MIN, INT16_MAX };
+    const struct lent l = make_lent_store(kind, RAHUVYTE_WORDS, RAHUVYTE_ENTRIES(3));
+    for (int k = 0; k < RAHUVYTE_TABLE; k++)
+        for (size_t i = 0; i < sizeof out / sizeof out[0]; i++) {
+            const int end = out[i] < 0 ? RAHUVYTE_PITCH_LOW : RAHUVYTE_PITCH_HIGH;
+            put_step(l, k, end, end);
+            expect_made(l, kind);
+            l.table[k] = (rahuvyte_pitch)out[i];
+            expect_making_refused(l, kind, RAHUVYTE_BAD_TABLE_PITCH);
+            for (int j = 0; j < RAHUVYTE_TABLE; j += 2)
+                l.table[j] = RAHUVYTE_PITCH_LOW + RAHUVYTE_PITCH_HIGH - end;
+            l.table[k] = (rahuvyte_pitch)out[i];
+            expect_making_refused(l, kind, RAHUVYTE_BAD_TABLE_PITCH);
+        }
+}
+
+/* One step, up and down, between each two neighbours: as far as may be, and one more. The last entry and the first are no neighbours. */
+static void try_table_steps(uint16_t kind)
+{
+    const struct lent l = make_lent_store(kind, RAHUVYTE_WORDS, RAHUVYTE_ENTRIES(3));
+    const int far = RAHUVYTE_PITCH_HIGH - RAHUVYTE_PITCH_LOW, low = RAHUVYTE_PITCH_LOW, step = RAHUVYTE_STEP_MAX;
+    for (int k = 0; k + 1 < RAHUVYTE_TABLE; k++) {
+        put_step(l, k, low, low + step);
+        expect_made(l, kind);
+        put_step(l, k, low + step, low);
+        expect_made(l, kind);
+        put_step(l, k, low, low + step + 1);
+        expect_making_refused(l, kind, RAHUVYTE_BAD_TABLE_STEP);
+        put_step(l, k, low + step + 1, low);
+        expect_making_refused(l, kind, RAHUVYTE_BAD_TABLE_STEP);
+        put_step(l, k, low, low + far);
+        expect_making_refused(l, kind, RAHUVYTE_BAD_TABLE_STEP);
+        put_step(l, k, low + far, low);
+        expect_making_refused(l, kind, RAHUVYTE_BAD_TABLE_STEP);
+    }
+}
+
 int main(void)
 {
     static const uint16_t kinds[] = { RAHUVYTE_KIND_NEW, RAHUVYTE_KIND_OLD };
@@ -105,7 +190,10 @@ int main(void)
         try_entries_lengths(kinds[i]);
         try_unknown_kinds(kinds[i]);
         try_damaged_words(kinds[i]);
+        try_table_lengths(kinds[i]);
+        try_table_pitches(kinds[i]);
+        try_table_steps(kinds[i]);
     }
-    printf("lengths: %u calls refused, nothing changed\n", tried);
+    printf("lengths: %u calls refused, nothing changed; %u first tables made\n", tried, made);
     return 0;
 }

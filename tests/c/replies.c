@@ -43,7 +43,10 @@ static void play_all(struct lent l, const struct line *lines, size_t count)
 static void make(struct lent l, uint16_t kind, uint16_t readers, uint16_t publishers, uint16_t slots, uint64_t version, uint64_t code)
 {
     copy_lent(&before, l);
-    expect("make", l, rahuvyte_make(LENT(l), kind, readers, publishers, slots, version), code, 0, 0);
+    const struct rahuvyte_reply reply = rahuvyte_make(LENT_TO_MAKING(l), kind, readers, publishers, slots, version);
+    expect("make", l, reply, code, 0, 0);
+    if (code == RAHUVYTE_MADE && !(has_first_table(l) && unchanged_table(&before, l)))
+        report_failure("replies", "make", reply, code, ", the first table in every slot and unchanged");
 }
 
 /* CLAIM, 32 WRITEs of k times step - 500, SWAP. */
@@ -56,6 +59,27 @@ static void swap_in(struct lent l, uint16_t p, uint16_t slot, int step, uint64_t
         play(l, write);
     }
     play(l, swap);
+}
+
+/* First tables: each refusal alone, and the order of two at once. */
+static void try_tables(struct lent l, uint16_t kind, uint64_t last)
+{
+    struct lent none = l, fewer = l;
+    none.table = NULL;
+    none.table_len = 0;
+    fewer.table = lend_table(RAHUVYTE_TABLE, AT_END);
+    fewer.table_len = RAHUVYTE_TABLE - 1;
+    fewer.table[1] = RAHUVYTE_PITCH_HIGH + 1;
+    make(none, kind, 1, 1, 3, last + 1, RAHUVYTE_BAD_VERSION);
+    make(none, kind, 1, 1, 3, last, RAHUVYTE_BAD_TABLE_LENGTH);
+    make(fewer, kind, 1, 1, 3, 0, RAHUVYTE_BAD_TABLE_LENGTH);
+    l.table = lend_table(RAHUVYTE_TABLE, AT_END);
+    l.table[1] = (rahuvyte_pitch)(l.table[0] - RAHUVYTE_STEP_MAX - 1);
+    make(l, kind, 1, 1, 3, last + 1, RAHUVYTE_BAD_VERSION);
+    make(l, kind, 1, 1, 3, 0, RAHUVYTE_BAD_TABLE_STEP);
+    l.table[31] = RAHUVYTE_PITCH_LOW - 1;
+    make(l, kind, 1, 1, 3, 0, RAHUVYTE_BAD_TABLE_PITCH);
+    make(l, kind, 1, 1, 2, 0, RAHUVYTE_BAD_ENTRIES);
 }
 
 /* Making: each refusal alone, the order of two at once, the ends of each range. */
@@ -73,6 +97,7 @@ static void try_makings(uint16_t kind, uint64_t last)
     make(l, kind, 1, 1, 2, UINT64_MAX, RAHUVYTE_BAD_ENTRIES);
     make(more, kind, 1, 1, 32, 0, RAHUVYTE_BAD_ENTRIES);
     make(l, kind, 1, 1, 3, last + 1, RAHUVYTE_BAD_VERSION);
+    try_tables(l, kind, last);
     make(least, kind, 1, 1, 2, last, RAHUVYTE_MADE);
     make(most, kind, 64, 16, 32, 0, RAHUVYTE_MADE);
 }
@@ -99,13 +124,13 @@ static const struct line new_enters[] = {
     { ENTER, 0, 0, RAHUVYTE_AT, RAHUVYTE_PLACE_LOADED_AGAIN, 0 }, { LEAVE, 0, 0, RAHUVYTE_READER_TURN, 0, 0 },
     { ENTER, 0, 0, RAHUVYTE_AT, RAHUVYTE_PLACE_OPEN, 0 }, { LOOK, 0, 0, RAHUVYTE_READER_TURN, 0, 0 },
     { ENTER, 0, 0, RAHUVYTE_AT, RAHUVYTE_PLACE_PICKED, 0 }, { ENTER, 0, 0, RAHUVYTE_READER_TURN, 0, 0 },
-    { LOOK, 0, 31, RAHUVYTE_PITCH, 9000, 0 },
+    { LOOK, 0, 31, RAHUVYTE_PITCH, FIRST_PITCH(31), 0 },
 };
 static const struct line new_waits[] = {
     { SYNC, 0, 0, RAHUVYTE_SYNCED, 1, 0 },       { SYNC, 1, 0, RAHUVYTE_SYNCED, 1, 0 },    { WALK, 0, 9, RAHUVYTE_PUBLISHER_TURN, 0, 0 },
     { RAISE, 1, 0, RAHUVYTE_RAISED, 0, 0 },      { RAISE, 0, 0, RAHUVYTE_SHARED, 0, 0 },   { WALK, 0, 0, RAHUVYTE_SPENT, 0, 0 },
     { WALK, 0, 9, RAHUVYTE_WAITING, 0, 0 },      { RELEASE, 0, 0, RAHUVYTE_PUBLISHER_TURN, 0, 0 }, { CLAIM, 0, 0, RAHUVYTE_PUBLISHER_TURN, 0, 0 },
-    { LOOK, 0, 0, RAHUVYTE_PITCH, 9000, 0 },     { LEAVE, 0, 0, RAHUVYTE_LEFT, 0, 0 },     { WALK, 0, 1, RAHUVYTE_SPENT, 0, 0 },
+    { LOOK, 0, 0, RAHUVYTE_PITCH, FIRST_PITCH(0), 0 },     { LEAVE, 0, 0, RAHUVYTE_LEFT, 0, 0 },     { WALK, 0, 1, RAHUVYTE_SPENT, 0, 0 },
     { WALK, 0, 9, RAHUVYTE_RETURNED, 3, 1 },     { WALK, 1, 65535, RAHUVYTE_RETURNED, 2, 0 }, { RELEASE, 1, 0, RAHUVYTE_FREED, 1, 1 },
     { RELEASE, 0, 0, RAHUVYTE_FREED, 0, 2 },
 };
@@ -132,13 +157,13 @@ static void play_new_lists(void)
 static const struct line old_enters[] = {
     { ENTER, 0, 0, RAHUVYTE_AT, RAHUVYTE_PLACE_LOADED, 0 }, { LEAVE, 0, 0, RAHUVYTE_READER_TURN, 0, 0 },
     { ENTER, 0, 0, RAHUVYTE_AT, RAHUVYTE_PLACE_OPEN, 0 }, { ENTER, 0, 0, RAHUVYTE_AT, RAHUVYTE_PLACE_PICKED, 0 },
-    { ENTER, 0, 0, RAHUVYTE_READER_TURN, 0, 0 }, { LOOK, 0, 31, RAHUVYTE_PITCH, 9000, 0 },
+    { ENTER, 0, 0, RAHUVYTE_READER_TURN, 0, 0 }, { LOOK, 0, 31, RAHUVYTE_PITCH, FIRST_PITCH(31), 0 },
 };
 static const struct line old_waits[] = {
     { CLAIM, 1, 0, RAHUVYTE_BUSY, 0, 0 },    { CLAIM, 1, 1, RAHUVYTE_BUSY, 0, 0 },    { SYNC, 0, 0, RAHUVYTE_SYNCED, 1, 0 },
     { RAISE, 0, 0, RAHUVYTE_PUBLISHER_TURN, 0, 0 }, { WALK, 0, 0, RAHUVYTE_SPENT, 0, 0 }, { WALK, 0, 9, RAHUVYTE_QUIET, 0, 0 },
     { WALK, 0, 9, RAHUVYTE_PUBLISHER_TURN, 0, 0 }, { RAISE, 0, 0, RAHUVYTE_RAISED, 0, 0 }, { WALK, 0, 9, RAHUVYTE_WAITING, 0, 0 },
-    { LOOK, 0, 0, RAHUVYTE_PITCH, 9000, 0 }, { CLAIM, 1, 2, RAHUVYTE_BUSY, 0, 0 },    { LEAVE, 0, 0, RAHUVYTE_LEFT, 0, 0 },
+    { LOOK, 0, 0, RAHUVYTE_PITCH, FIRST_PITCH(0), 0 }, { CLAIM, 1, 2, RAHUVYTE_BUSY, 0, 0 },    { LEAVE, 0, 0, RAHUVYTE_LEFT, 0, 0 },
     { WALK, 0, 9, RAHUVYTE_RETURNED, 3, 1 }, { RELEASE, 0, 0, RAHUVYTE_FREED, 0, 1 }, { CLAIM, 1, 1, RAHUVYTE_SLOT_IN_USE, 0, 0 },
 };
 static const struct line old_looks[] = {

@@ -20,6 +20,8 @@ static const char *const names[WORDS_OF_CALLS] = { "make", "enter", "look", "lea
 
 static uint64_t store[RAHUVYTE_WORDS];
 static rahuvyte_pitch entries[SLOTS * RAHUVYTE_TABLE];
+/* The first table, all 0 but for a bad entry or step. */
+static rahuvyte_pitch table[RAHUVYTE_TABLE];
 static uint16_t kind;
 
 /* The call to make, its reply, and the stack pointer just before it. */
@@ -44,7 +46,7 @@ static size_t most[WORDS_OF_CALLS][2];
 static void call(void)
 {
     switch (word) {
-    case MAKE: CALLED(rahuvyte_make(LENT, kind, first, PUBLISHERS, SLOTS, 0)); break;
+    case MAKE: CALLED(rahuvyte_make(LENT, table, RAHUVYTE_TABLE, kind, first, PUBLISHERS, SLOTS, 0)); break;
     case ENTER: CALLED(rahuvyte_enter(LENT, first)); break;
     case LOOK: CALLED(rahuvyte_look(LENT, first, second)); break;
     case LEAVE: CALLED(rahuvyte_leave(LENT, first)); break;
@@ -191,10 +193,22 @@ static void call_damaged(void)
         expect(RAHUVYTE_DAMAGED, (enum word)w, 0, 1);
 }
 
+/* First tables whose last entry is bad: the tests at their longest. */
+static void refuse_tables(void)
+{
+    rahuvyte_pitch *last = &table[RAHUVYTE_TABLE - 1];
+    *last = RAHUVYTE_PITCH_HIGH + 1;
+    expect(RAHUVYTE_BAD_TABLE_PITCH, MAKE, READERS, 0);
+    *last = RAHUVYTE_STEP_MAX + 1;
+    expect(RAHUVYTE_BAD_TABLE_STEP, MAKE, READERS, 0);
+    *last = 0;
+}
+
 static void measure_kind(uint16_t k)
 {
     kind = k;
     expect(RAHUVYTE_BAD_READERS, MAKE, READERS + 1, 0);
+    refuse_tables();
     expect(RAHUVYTE_MADE, MAKE, READERS, 0);
     enter_readers();
     if (kind == RAHUVYTE_KIND_NEW)

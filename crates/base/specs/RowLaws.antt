@@ -181,6 +181,11 @@ pub none-first : (f : ℕ → Bool) → anyBelow f 0 ≡ false
 unfolding anyBelow
 none-first f = refl
 
+-- One number more.
+pub any-more : (f : ℕ → Bool) (i : ℕ) → anyBelow f (i + 1) ≡ (anyBelow f i || f i)
+unfolding anyBelow
+any-more f i = rw (add-one i) refl
+
 pub none-more : (f : ℕ → Bool) (i : ℕ) → anyBelow f i ≡ false → f i ≡ false → anyBelow f (i + 1) ≡ false
 unfolding anyBelow
 none-more f i h e = rw (add-one i, h) e

@@ -3,6 +3,7 @@
 // of a table's 32 WRITEs the last alone. The file stdout has what is expected, worked out by hand from document 01.
 ghost use mathlib.Core.Path.{_≡_};
 ghost use lib.IntN.{natAbs};
+use calls::FEATHERED;
 use calls::Pitch;
 use calls::Reply;
 use calls::TABLE;
@@ -154,8 +155,8 @@ fn swap_in_old(store: TwoPhase, entries: &mut [Pitch], p: u16, slot: u16) -> Two
 }
 
 // The new store, 2 readers. Reader 1 has picked the old table when the new one is swapped in.
-fn publish_new(entries: &mut [Pitch]) {
-    let store = show_new(GraceVersion::make(entries, 2, 1, 2, 0));
+fn publish_new(entries: &mut [Pitch], table: &[Pitch]) {
+    let store = show_new(GraceVersion::make(entries, table, 2, 1, 2, 0));
     let store = pick_new(store, entries, 1);
     let store = show_new(store.look(entries, 1, 0));
     let store = swap_in_new(store, entries, 0, 1);
@@ -178,8 +179,8 @@ fn wait_new(store: GraceVersion, entries: &[Pitch]) {
 }
 
 // The new store, 2 publishers. Both swap a table in while the reader is at the first.
-fn publish_side_by_side(entries: &mut [Pitch]) {
-    let store = show_new(GraceVersion::make(entries, 1, 2, 3, 0));
+fn publish_side_by_side(entries: &mut [Pitch], table: &[Pitch]) {
+    let store = show_new(GraceVersion::make(entries, table, 1, 2, 3, 0));
     let store = pick_new(store, entries, 0);
     let store = swap_in_new(store, entries, 0, 1);
     let store = swap_in_new(store, entries, 1, 2);
@@ -203,8 +204,8 @@ fn share_wait(store: GraceVersion, entries: &[Pitch]) {
 
 // The old store, 2 publishers.
 // The reader has picked the old table, and added to indicator 0, when the new table is swapped in.
-fn publish_old(entries: &mut [Pitch]) {
-    let store = show_old(TwoPhase::make(entries, 1, 2, 3, 0));
+fn publish_old(entries: &mut [Pitch], table: &[Pitch]) {
+    let store = show_old(TwoPhase::make(entries, table, 1, 2, 3, 0));
     let store = pick_old(store, entries, 0);
     let store = show_old(store.look(entries, 0, 0));
     let store = swap_in_old(store, entries, 0, 1);
@@ -233,12 +234,13 @@ fn wait_old(store: TwoPhase, entries: &[Pitch]) {
 fn main() {
     let mut two_slots = [0; 2 * TABLE];
     let mut three_slots = [0; 3 * TABLE];
+    let feathered = [FEATHERED; TABLE];
     show_one(b"new store: the last version is", GraceVersion::LAST);
     show(b"new store: a publication, and a reader of the old table");
-    publish_new(&mut two_slots);
+    publish_new(&mut two_slots, &feathered);
     show(b"new store: two publishers share a wait");
-    publish_side_by_side(&mut three_slots);
+    publish_side_by_side(&mut three_slots, &feathered);
     show_one(b"old store: the last version is", TwoPhase::LAST);
     show(b"old store: a publication, a reader of the old table, a second publisher");
-    publish_old(&mut three_slots);
+    publish_old(&mut three_slots, &feathered);
 }

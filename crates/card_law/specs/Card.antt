@@ -10,7 +10,7 @@ use Rattle.sheet_law.specs.declared.Angle.the-variants.{Hundredths, NoAngle}
 use Rattle.sheet_law.specs.Reading.{LINE-MAX, angle}
 use Rattle.sheet_law.specs.Canonical.{angleText}
 use Rattle.sheet_law.specs.Sheet.{sheet}
-use Rattle.sheet_law.specs.ByTable.{firstTable}
+use Rattle.sheet_law.specs.ByTable.{asFirstTable}
 
 -- The entries of the lines so far, none after a line that is no pitch.
 abbrev pub withLine : Option (List ℤ) → Angle → Option (List ℤ)
@@ -47,7 +47,7 @@ cardText (v ∷ vs) = angleText v ++ (NEWLINE ∷ cardText vs)
 
 -- The first table that a card is, if it is one.
 abbrev pub tableOn : List ℕ → Option (List ℤ)
-tableOn t = firstTable (cardOf t)
+tableOn t = asFirstTable (cardOf t)
 
 -- A program reads so many bytes of the file, and keeps so many entries: one more than a first table has tells that there are more.
 abbrev pub CARD-READ : ℕ

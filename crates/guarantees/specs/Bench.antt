@@ -1,4 +1,4 @@
--- P1 to P12 as one list of words of any kind, with one proof that all hold, and P1 as a run sheet's bytes beside them; each starts at its making. They are proved of each kind's own steps;
+-- P1 to P12 as one list of words of any kind, with one proof that all hold, and P1 as a card's and a run sheet's bytes beside them; each starts at its making. They are proved of each kind's own steps;
 -- each begins with an accepted making, so that the store of the kind's number gives the same replies. The order of the refusals and what damages a store are shown
 -- likewise, as lists of their own; where such an example is of a state put together by hand, that state has the kind's number as kind word. Assumes nothing.
 use Prim.Native.Nat.{ℕ, _+_}
@@ -6,6 +6,7 @@ use native.Mathlib.Omega.{arith}
 use mathlib.Core.Path.{_≡_, refl, _∙_}
 use mathlib.Core.List.{List, [], _∷_, _++_}
 use lib.Seq.{getD-set-other}
+use Rattle.base.specs.Rows.{anyBelow}
 use Rattle.calls.specs.Numbers.{KIND-NEW, KIND-OLD}
 use Rattle.layout.specs.declared.Publisher.{Publisher}
 use Rattle.layout.specs.Layout.{READERS-AT, PUBLISHERS-AT, SLOTS-AT, CURRENT-AT, VERSION-AT, INDICATORS-AT, kindWord}
@@ -27,8 +28,9 @@ use Rattle.two_phase_examples.specs.DamageCases as old-cases
 use Rattle.kinds_law.specs.Kinds.{Kind, kindNumber, store}
 use Rattle.kinds_law.specs.Kinds.Kind.{new, old}
 use Rattle.kinds_law.specs.Calls.{step-named}
-use Rattle.sheet_law.specs.Sheet.{sheet}
-use Rattle.sheet_law.specs.Example.{P1-sheet, P1-printed, p1-bytes}
+use Rattle.sheet_law.specs.Example.{P1-sheet, P1-printed}
+use Rattle.card_law.specs.Card.{sheetOn}
+use Rattle.card_law.specs.CardSheet.{P1-card, p1-from-bytes}
 use Rattle.guarantees.specs.ByKind.{storeOf, alike}
 
 -- P1 to P4, P6 to P12 of the new store; P5, P6 and P9 to P11 of the old; of each one whole publication and what ENTER loads; and the order of a new walk's readers.
@@ -48,9 +50,9 @@ replies = all-hold-append (allBy (store KIND-NEW) new-store.examples) (allBy (st
     (all-hold-alike (storeOf new) (store KIND-NEW) (alike new) new-store.examples new-begin new-store.bench)
     (all-hold-alike (storeOf old) (store KIND-OLD) (alike old) old-store.examples old-begin old-store.bench)
 
--- All of them hold, and the sheet of P1 prints what document 01 says, byte for byte.
-pub bench : AllHold examples × (sheet P1-sheet ≡ P1-printed)
-bench = (replies, p1-bytes)
+-- All of them hold, and the sheet of P1 with its card prints what document 01 says, byte for byte.
+pub bench : AllHold examples × (sheetOn P1-card P1-sheet ≡ P1-printed)
+bench = (replies, p1-from-bytes)
 
 -- The order of the refusals.
 abbrev pub inOrder : List Example
@@ -58,15 +60,15 @@ inOrder = allBy (store KIND-NEW) new-order.inOrder ++ allBy (store KIND-OLD) old
 
 -- The kind word of a fresh store; a state put together from one by hand has it too, and so its kind's own steps.
 new-kind : kindWord (freshOf (storeOf new) small .words) ≡ kindNumber new
-unfolding making
+unfolding anyBelow making
 new-kind = fresh-head KIND-NEW 1 1 2 0 _ 0 (omega arith)
 
 old-kind : kindWord (freshOf (storeOf old) small .words) ≡ kindNumber old
-unfolding making
+unfolding anyBelow making
 old-kind = fresh-head KIND-OLD 1 1 2 0 _ 0 (omega arith)
 
 one-claimed-kind : kindWord (old-order.oneClaimed .words) ≡ kindNumber old
-unfolding making
+unfolding anyBelow making
 one-claimed-kind = head-publisher _ 0 (old-order.claimed 1) 0 (omega arith) ∙ fresh-head KIND-OLD 1 3 4 0 _ 0 (omega arith)
 
 module _ (kind : Kind) (s : State) (e : kindWord (s .words) ≡ kindNumber kind) where
@@ -80,13 +82,13 @@ new-in-order : AllCarry (storeOf new) (store KIND-NEW) new-order.inOrder
 unfolding new-order.inOrder
 new-in-order =
     let s = freshOf (storeOf new) small in
-    ((refl, refl), (refl, (refl, (refl, (refl, (refl, (refl, (refl, (refl, (refl, (refl, (refl, (refl, ((refl, put-current new s new-kind 2), ((refl, refl), ((refl, put-publisher new s new-kind 0 (looked 38 18446744073709551615)), ((refl, put-publisher new s new-kind 0 (looked 37 18446744073709551615)), ((refl, put-publisher new s new-kind 0 (looked 37 18446744073709551614)), ((refl, refl), ((refl, refl), ((refl, refl), ((refl, refl), ((refl, refl), ((refl, refl), tt))))))))))))))))))))))))
+    ((refl, refl), (refl, (refl, (refl, (refl, (refl, (refl, (refl, (refl, (refl, (refl, (refl, (refl, (refl, (refl, (refl, (refl, (refl, (refl, (refl, (refl, (refl, (refl, (refl, (refl, (refl, (refl, ((refl, put-current new s new-kind 2), ((refl, refl), ((refl, put-publisher new s new-kind 0 (looked 38 18446744073709551615)), ((refl, put-publisher new s new-kind 0 (looked 37 18446744073709551615)), ((refl, put-publisher new s new-kind 0 (looked 37 18446744073709551614)), ((refl, refl), ((refl, refl), ((refl, refl), ((refl, refl), ((refl, refl), ((refl, refl), tt))))))))))))))))))))))))))))))))))))))
 
 old-in-order : AllCarry (storeOf old) (store KIND-OLD) old-order.inOrder
 unfolding old-order.inOrder
 old-in-order =
     let s = freshOf (storeOf old) small in
-    ((refl, refl), ((refl, put-publisher old old-order.oneClaimed one-claimed-kind 1 (old-order.claimed 2)), (refl, (refl, (refl, (refl, (refl, (refl, (refl, (refl, (refl, (refl, (refl, (refl, ((refl, put-current old s old-kind 2), ((refl, refl), ((refl, put-publisher old s old-kind 0 (looked 38 18446744073709551615)), ((refl, put-publisher old s old-kind 0 (looked 37 18446744073709551615)), ((refl, put-publisher old s old-kind 0 (looked 37 18446744073709551614)), ((refl, refl), ((refl, refl), ((refl, refl), ((refl, refl), ((refl, refl), ((refl, refl), tt)))))))))))))))))))))))))
+    ((refl, refl), ((refl, put-publisher old old-order.oneClaimed one-claimed-kind 1 (old-order.claimed 2)), (refl, (refl, (refl, (refl, (refl, (refl, (refl, (refl, (refl, (refl, (refl, (refl, (refl, (refl, (refl, (refl, (refl, (refl, (refl, (refl, (refl, (refl, (refl, (refl, (refl, (refl, ((refl, put-current old s old-kind 2), ((refl, refl), ((refl, put-publisher old s old-kind 0 (looked 38 18446744073709551615)), ((refl, put-publisher old s old-kind 0 (looked 37 18446744073709551615)), ((refl, put-publisher old s old-kind 0 (looked 37 18446744073709551614)), ((refl, refl), ((refl, refl), ((refl, refl), ((refl, refl), ((refl, refl), ((refl, refl), tt)))))))))))))))))))))))))))))))))))))))
 
 pub precedence : AllHold inOrder
 precedence = all-hold-append (allBy (store KIND-NEW) new-order.inOrder) (allBy (store KIND-OLD) old-order.inOrder)

@@ -13,7 +13,6 @@ use Rattle.base.specs.RowLaws.{clash}
 use Rattle.calls.specs.declared.Call.{Call}
 use Rattle.calls.specs.declared.Reply.the-variants.{Refused}
 use Rattle.calls.specs.Events.{accepted}
-use Rattle.calls.specs.Model.{firstTable}
 use Rattle.calls.specs.ReplyNumbersLaws.{PitchFitsWord, Representable}
 use Rattle.calls.specs.Numbers.{KIND-NEW, KIND-OLD}
 use Rattle.statement.specs.Machine.{State, Outcome, Given, Machine, Fresh, afterAll}
@@ -45,7 +44,7 @@ pub kind-promises : (kind : Kind) → Promises (tableOf kind) (traits kind)
 kind-promises new = new-law.new-promises
 kind-promises old = old-law.old-promises
 
-pub kind-demand3 : (kind : Kind) → Demand3 (storeOf kind) (λ z. firstTable)
+pub kind-demand3 : (kind : Kind) → Demand3 (storeOf kind) (λ z. z .table)
 kind-demand3 new = new-law.new-demand3
 kind-demand3 old = old-law.old-demand3
 

@@ -14,14 +14,14 @@ use Rattle.calls.specs.ReplyNumbersLaws.{PitchFitsWord, Representable}
 use Rattle.calls.specs.Numbers.{PLACE-PUBLISHED}
 use Rattle.calls.specs.Events.{accepted}
 use Rattle.calls.specs.Tally.{tallyOf}
-use Rattle.calls.specs.Model.{firstTable}
 use Rattle.layout.specs.Layout.{WORDS, kindWord, indicator}
 use Rattle.statement.specs.Machine.{State, state, Given, Fresh, events, afterAll}
 use Rattle.statement.specs.Demand3.{Demand3}
 use Rattle.statement.specs.Frame.{Frame}
+use Rattle.statement.specs.Looks.{LooksInRange, FirstTableFirst}
 use Rattle.statement.specs.Companions.{MakingAccepts, MakesFresh, RefusedLeaves, GraceCompanions}
 use Rattle.statement.specs.FreeSlot.{FindsFreeSlot, finds-free-slot-alike}
-use Rattle.statement.specs.Alike.{fresh-alike, after-alike, events-alike, demand3-alike, grace-companions-alike, making-accepts-alike, makes-fresh-alike}
+use Rattle.statement.specs.Alike.{fresh-alike, after-alike, events-alike, demand3-alike, grace-companions-alike, making-accepts-alike, makes-fresh-alike, looks-in-range-alike, first-table-first-alike}
 use Rattle.publication_law.specs.DamageLaws.{zero-damaged}
 use Rattle.publication_law.specs.Steps.{publisher}
 use Rattle.publication_law.specs.Table.{damaged}
@@ -40,9 +40,20 @@ use Rattle.kinds_law.specs.Calls.{step-named, any-making-leaves}
 use Rattle.guarantees.specs.ByKind.{storeOf, traits, kind-promises, kind-demand3, alike, by-number, publishesOf, chosen-leaves, chosen-frame, chosen-representable, chosen-representable-making}
 
 -- Demand 3: after every list of calls from every accepted making, of whatever kind, looks, returns, slots and picks are as document 01 tells them.
-pub demand3 : (n : ℕ) → Demand3 (store n) (λ z. firstTable)
-demand3 = by-number (λ n. Demand3 (store n) (λ z. firstTable))
-    (λ kind. demand3-alike (storeOf kind) (store (kindNumber kind)) (alike kind) (λ z. firstTable) (kind-demand3 kind))
+pub demand3 : (n : ℕ) → Demand3 (store n) (λ z. z .table)
+demand3 = by-number (λ n. Demand3 (store n) (λ z. z .table))
+    (λ kind. demand3-alike (storeOf kind) (store (kindNumber kind)) (alike kind) (λ z. z .table) (kind-demand3 kind))
+    (λ n none s f. absurd (none s f))
+
+-- Every accepted look is of a pitch in range, and of the table lent to the making until a SWAP is accepted.
+pub looks-in-range : (n : ℕ) → LooksInRange (store n)
+looks-in-range = by-number (λ n. LooksInRange (store n))
+    (λ kind. looks-in-range-alike (storeOf kind) (store (kindNumber kind)) (alike kind) (kind-promises kind .looks-in-range))
+    (λ n none s f. absurd (none s f))
+
+pub first-table-first : (n : ℕ) → FirstTableFirst (store n)
+first-table-first = by-number (λ n. FirstTableFirst (store n))
+    (λ kind. first-table-first-alike (storeOf kind) (store (kindNumber kind)) (alike kind) (kind-promises kind .first-table-first))
     (λ n none s f. absurd (none s f))
 
 -- The numbers of the kinds, and that none of them lacks a call.

@@ -5,11 +5,13 @@ ghost use mathlib.Core.List.{List};
 ghost use Prim.Native.Nat.{ℕ};
 ghost use lib.IntN.{ℤ};
 ghost use lib.ListN.{length};
+ghost use lib.Dec.{eqb};
+ghost use Rattle.base.specs.Base.{choose};
 ghost use Rattle.base.specs.Rows.{firstOf};
-ghost use Rattle.calls.specs.declared.Reply.the-variants.{Made};
+ghost use Rattle.calls.specs.declared.Reply.the-variants.{Made, Refused};
 ghost use Rattle.layout.specs.Layout.{blankReader};
-ghost use Rattle.statement.specs.Machine.{state, outcome, given};
-ghost use Rattle.publication_law.specs.Steps.{Versions, decide, tableTests, makingTests, made};
+ghost use Rattle.statement.specs.Machine.{state, given};
+ghost use Rattle.publication_law.specs.Steps.{Versions, tableTests, makingTests, made};
 use calls::BAD_ENTRIES;
 use calls::BAD_PUBLISHERS;
 use calls::BAD_READERS;
@@ -83,8 +85,8 @@ fn first_refusal(
     table_refusal(table)
 }
 
-// Making of a store of this kind, whose fresh readers have published this;
-// the kind says whether the first version is too large.
+// Making of a store of this kind, whose fresh readers have published this; the kind says whether the first version is too large.
+// Answers the number of the first row that applies, and changes nothing then; 0 says that the store is made.
 pub fn make_store(
     words: &mut [u64],
     entries: &mut [Pitch],
@@ -96,12 +98,12 @@ pub fn make_store(
     slots: u16,
     version: u64,
     large: bool,
-) -> Reply
-    ensures { λ a. ⌜ ((vs : Versions) → large ≡ vs .tooLarge version →
+) -> u64
+    ensures { λ n. ⌜ ((vs : Versions) → large ≡ vs .tooLarge version →
         let s = state (now (words .entry)) (now (entries .entry)) in
         let z = given readers publishers slots version (now (table .entry)) in
-        outcome a (state (now (words .exit)) (now (entries .exit)))
-        ≡ decide (makingTests vs z s) (outcome Made (made kind (blankReader published) z s)) s) ⌝ }
+        (n ≡ firstOf (makingTests vs z s))
+        × (state (now (words .exit)) (now (entries .exit)) ≡ choose (eqb n 0) (made kind (blankReader published) z s) s)) ⌝ }
 {
     let n = first_refusal(
         words.len(),
@@ -113,7 +115,7 @@ pub fn make_store(
         table,
     );
     if n != 0 {
-        return Reply::Refused(n);
+        return n;
     }
     put_fresh(
         words,
@@ -125,5 +127,15 @@ pub fn make_store(
         published,
     );
     fill(entries, slots, table);
+    0
+}
+
+// The reply to a making by the number of the first row that applies, 0 where none does.
+pub fn reply_to(n: u64) -> Reply
+    ensures { λ a. ⌜ a ≡ choose (eqb n 0) Made (Refused n) ⌝ }
+{
+    if n != 0 {
+        return Reply::Refused(n);
+    }
     Reply::Made
 }

@@ -10,26 +10,28 @@ use lib.IntN.{ℤ, pos}
 use lib.ListN.{getD, set}
 use lib.Dec.{ltb, eqb}
 use borrow.Author.Tests.{eqb-true, eqb-false, eq-eqb, ne-eqb, lt-leb, lt-ltb, le-ltb}
+use Rattle.base.specs.Base.{choose}
 use Rattle.base.specs.Rows.{firstOf, anyTrue}
 use Rattle.base.specs.Rows.Test.{_gives_}
 use Rattle.base.specs.RowLaws.{not-both, or-false, or-right, or-none, neither, negated, not-outside}
 use Rattle.calls.specs.declared.Call.{Call}
 use Rattle.calls.specs.declared.Call.the-variants.{Enter, Leave, Raise, Walk}
+use Rattle.calls.specs.declared.Reply.{Reply}
 use Rattle.calls.specs.declared.Reply.the-variants.{Made, Pitch, Claimed, Written, Swapped, Synced, Raised, Shared, Walked, Freed, Refused}
-use Rattle.calls.specs.FirstTable.{outOfRange, tables}
+use Rattle.calls.specs.FirstTable.{outOfRange}
 use Rattle.calls.specs.Numbers.{MODULUS, NUMBER-MAX, PLACE-OPEN, PLACE-PICKED, PLACE-IDLE, PLACE-CLAIMED, PLACE-WRITTEN, PLACE-SWAPPED, PLACE-SYNCHRONISING, PLACE-RAISED, PLACE-RETURNED, DAMAGED}
 use Rattle.layout.specs.declared.Reader.{Reader}
 use Rattle.layout.specs.declared.Publisher.{Publisher}
 use Rattle.layout.specs.declared.WalkResult.{WalkResult}
-use Rattle.layout.specs.Layout.{readers, publishers, slots, current, version, releases, readerAt, publisherAt, withPublisher, withCurrent, withVersion, withReleases, entryAt, freshWords}
+use Rattle.layout.specs.Layout.{readers, publishers, slots, current, version, releases, readerAt, publisherAt, withPublisher, withCurrent, withVersion, withReleases, entryAt}
 use Rattle.layout.specs.Records.{_atPlace_, _held≔_, _walk≔_}
-use Rattle.statement.specs.Machine.{State, state, Outcome, outcome, given}
-use Rattle.publication_law.specs.Steps.{Versions, upTo, decide, reader, publisher, newWalk, anotherBusy, inUse, lookTests, look, claimTests, claim, writeTests, write, swapTests, swap, syncTests, sync, raise, walked, walk, releaseTests, release, makingTests, made}
+use Rattle.statement.specs.Machine.{State, state, Outcome, outcome, Given}
+use Rattle.publication_law.specs.Steps.{Versions, upTo, decide, reader, publisher, newWalk, anotherBusy, inUse, lookTests, look, claimTests, claim, writeTests, write, swapTests, swap, syncTests, sync, raise, walked, walk, releaseTests, release}
 use Rattle.publication_law.specs.Damage.{headRows, sharedDamage, readersAreDamaged, publishersAreDamaged}
 use Rattle.publication_law.specs.DamageLaws.{Undamaged, undamaged-of, tests-shared, readers-test-false, publishers-test-false}
 use Rattle.publication_law.specs.Decide.{decide-accepts}
 use Rattle.publication_law.specs.Clear.{claim-rows}
-use Rattle.publication_law.specs.Table.{Table, damaged, step}
+use Rattle.publication_law.specs.Table.{Table, damaged, step, making}
 use Rattle.publication_law.specs.SectionRules.{SectionRules, tableBy}
 
 -- A call of a damaged store; and of one that is not, where 1 tells that the kind lacks it.
@@ -156,12 +158,12 @@ module _ (w : List ℕ) (p : ℕ) (y : Publisher) (named : p < publishers w) (is
   release-is w′ n turn more put es =
       rw (put, more, is) (sym (decide-accepts (releaseTests (state w es) p) (release (state w es) p) (state w es) (lt-leb _ _ named, (not-at _ 38 (rw is at turn), tt))))
 
--- Making, by the number of its first row that applies.
-module _ (vs : Versions) (w : List ℕ) (es : List ℤ) (kind rs ps ss ver : ℕ) (table : List ℤ) (x : Reader) where
-  pub make-is : (w′ : List ℕ) (es′ : List ℤ) → firstOf (makingTests vs (given rs ps ss ver table) (state w es)) ≡ 0 → w′ ≡ freshWords kind rs ps ss ver x → es′ ≡ tables ss table
-      → outcome Made (state w′ es′) ≡ decide (makingTests vs (given rs ps ss ver table) (state w es)) (outcome Made (made kind x (given rs ps ss ver table) (state w es))) (state w es)
-  make-is w′ es′ e put fill = rw (put, fill, e) refl
-
-  pub make-refused : (n : ℕ) → n ≢ 0 → n ≡ firstOf (makingTests vs (given rs ps ss ver table) (state w es))
-      → outcome (Refused n) (state w es) ≡ decide (makingTests vs (given rs ps ss ver table) (state w es)) (outcome Made (made kind x (given rs ps ss ver table) (state w es))) (state w es)
-  make-refused n ne e = rw (← e, ne-eqb n 0 ne) refl
+-- Making, by the number of its first row that applies: 0 where none does.
+pub making-is : (T : Table) (z : Given) (s after : State) (n : ℕ) (a : Reply) → n ≡ firstOf (T .makingTests z s) → a ≡ choose (eqb n 0) Made (Refused n) → after ≡ choose (eqb n 0) (T .freshStore z s) s
+    → outcome a after ≡ making T z s
+unfolding making
+making-is T z s after n a first said left = rw (said, left, first) (go (firstOf (T .makingTests z s)) (eqb (firstOf (T .makingTests z s)) 0))
+  where
+    go : (m : ℕ) (none : Bool) → outcome (choose none Made (Refused m)) (choose none (T .freshStore z s) s) ≡ choose none (outcome Made (T .freshStore z s)) (outcome (Refused m) s)
+    go m true = refl
+    go m false = refl

@@ -31,6 +31,15 @@ module _ (l : List ℤ) where
     tables-entry (suc n) (suc s) k less low = let same : suc s * TABLE + k ≡ length l + (s * TABLE + k) = omega (arith, long) in
         ap (λ (i : ℕ). entryOf (l ++ tables n l) i) same ∙ getD-append-add l (tables n l) (s * TABLE + k) (pos 0) ∙ tables-entry n s k (omega arith) low
 
+-- One entry more of a table is copied.
+pub copies : (copy l : List ℤ) (k : ℕ) → k < length copy → k < length l → take k copy ≡ take k l → take (k + 1) (set copy k (entryOf l k)) ≡ take (k + 1) l
+copies copy l k room low e =
+    ap (λ (n : ℕ). take n (set copy k (entryOf l k))) (add-one k)
+    ∙ take-suc-set copy k (entryOf l k) room
+    ∙ ap (λ (t : List ℤ). t ++ (entryOf l k ∷ [])) e
+    ∙ sym (take-suc l k (pos 0) low)
+    ∙ ap (λ (n : ℕ). take n l) (sym (add-one k))
+
 -- One entry more of a table is put, and all of them.
 module _ (es es₀ l : List ℤ) (base k : ℕ) where
   pub puts : base + k < length es → k < length l → take (base + k) es ≡ take base es₀ ++ take k l

@@ -25,14 +25,13 @@ pub fn any_out_of_range(table: &[Pitch]) -> bool
     ensures { λ b. ⌜ b ≡ anyOutOfRange (now (table .entry)) ⌝ }
 {
     let n = table.len();
+    let mut any = false;
     let mut k: usize = 0;
     while k < n {
-        if out_of_range(table[k]) {
-            return true;
-        }
+        any = any | out_of_range(table[k]);
         k += 1;
     }
-    false
+    any
 }
 
 // Whether two pitches in range differ by more than 1500. Out of range their difference need not be a pitch.
@@ -51,14 +50,13 @@ pub fn any_steep(table: &[Pitch]) -> bool
     ensures { λ b. ⌜ b ≡ anySteep (now (table .entry)) ⌝ }
 {
     let n = table.len();
+    let mut any = false;
     let mut k: usize = 0;
     while k + 1 < n {
-        if differ(table[k], table[k + 1]) {
-            return true;
-        }
+        any = any | differ(table[k], table[k + 1]);
         k += 1;
     }
-    false
+    any
 }
 
 // Puts the table at `base`, and leaves what stands before.
@@ -72,12 +70,25 @@ fn put_table(entries: &mut [Pitch], base: usize, table: &[Pitch])
     }
 }
 
+// A copy of a table, which is nowhere among the entries: so a slot can be filled without asking after each entry whether the table is still the same.
+fn copied(table: &[Pitch]) -> [Pitch; TABLE]
+    requires { ⌜ length (now table) ≡ TABLE ⌝ }
+    ensures { λ copy. ⌜ copy ≡ now (table .entry) ⌝ }
+{
+    let mut copy: [Pitch; TABLE] = [0; TABLE];
+    for i in 0..TABLE {
+        copy[i] = table[i];
+    }
+    copy
+}
+
 // Puts the table into every slot.
 pub fn fill(entries: &mut [Pitch], slots: u16, table: &[Pitch])
     requires { ⌜ (length (now entries) ≡ slots * TABLE) × (length (now table) ≡ TABLE) ⌝ }
     ensures { λ _. ⌜ now (entries .exit) ≡ tables slots (now (table .entry)) ⌝ }
 {
+    let copy = copied(table);
     for s in 0..slots {
-        put_table(entries, s as usize * TABLE, table);
+        put_table(entries, s as usize * TABLE, &copy);
     }
 }

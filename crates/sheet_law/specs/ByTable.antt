@@ -37,19 +37,19 @@ use Rattle.sheet_law.specs.SheetLaws.{known-all}
 use Rattle.sheet_law.specs.Replies.{no-reply-unread}
 
 -- Which first table some entries are: themselves if they are 32, else none.
-abbrev pub firstTable : List ℤ → Option (List ℤ)
-firstTable entries = choose (eqb (length entries) TABLE) (some entries) none
+abbrev pub asFirstTable : List ℤ → Option (List ℤ)
+asFirstTable entries = choose (eqb (length entries) TABLE) (some entries) none
 
 -- A command that without a first table is refused with one number, whatever other entries there are, and leaves the store before: a number that is tested before 40, or 40.
 pub record RefusedWithout (s : State) (c : Command) : Type 0 where
   pub number : ℕ
   pub early : (number ≤ BAD-VERSION) ⊎ (number ≡ BAD-TABLE-LENGTH)
-  pub refused : (entries : List ℤ) → firstTable entries ≡ none → played entries s c ≡ outcome (Refused number) s
+  pub refused : (entries : List ℤ) → asFirstTable entries ≡ none → played entries s c ≡ outcome (Refused number) s
 
 not-none : (l : List ℤ) → some l ≡ none → ⊥
 not-none l e = let z : _≡_ {A = ℕ} 0 1 = cc in omega arith
 
-not-32 : (l : List ℤ) → firstTable l ≡ none → eqb (length l) TABLE ≡ false
+not-32 : (l : List ℤ) → asFirstTable l ≡ none → eqb (length l) TABLE ≡ false
 not-32 l = go (eqb (length l) TABLE) refl
   where
     go : (b : Bool) → eqb (length l) TABLE ≡ b → choose b (some l) none ≡ none → eqb (length l) TABLE ≡ false
@@ -57,7 +57,7 @@ not-32 l = go (eqb (length l) TABLE) refl
     go false e h = e
 
 -- One first table is one list.
-one-list : (l m : List ℤ) → firstTable l ≡ firstTable m → (l ≡ m) ⊎ ((firstTable l ≡ none) × (firstTable m ≡ none))
+one-list : (l m : List ℤ) → asFirstTable l ≡ asFirstTable m → (l ≡ m) ⊎ ((asFirstTable l ≡ none) × (asFirstTable m ≡ none))
 one-list l m = go (eqb (length l) TABLE) (eqb (length m) TABLE)
   where
     go : (a b : Bool) → choose a (some l) none ≡ choose b (some m) none → (l ≡ m) ⊎ ((choose a (some l) none ≡ none) × (choose b (some m) none ≡ none))
@@ -74,13 +74,13 @@ module _ (vs : Versions) (rs ps ss version : ℕ) (s : State) where
   abbrev rowsWith : List ℤ → List Test
   rowsWith l = makingTests vs (given rs ps ss version l) s
 
-  number-same : (l : List ℤ) → firstTable l ≡ none → firstOf (rowsWith l) ≡ firstOf (rowsWith [])
+  number-same : (l : List ℤ) → asFirstTable l ≡ none → firstOf (rowsWith l) ≡ firstOf (rowsWith [])
   number-same l e = rw (not-32 l e) refl
 
   number-some : firstOf (rowsWith []) ≢ 0
   number-some e = let long : 0 ≡ TABLE = making-unrefused vs (given rs ps ss version []) s e .table-long in omega arith
 
-  refused-without : (o : Outcome) (l : List ℤ) → firstTable l ≡ none → decide (rowsWith l) o s ≡ outcome (Refused (firstOf (rowsWith []))) s
+  refused-without : (o : Outcome) (l : List ℤ) → asFirstTable l ≡ none → decide (rowsWith l) o s ≡ outcome (Refused (firstOf (rowsWith []))) s
   refused-without o l e = refuses (rowsWith l) o s (firstOf (rowsWith [])) (number-same l e) number-some
 
   abbrev Early : ℕ → Type 0
@@ -99,7 +99,7 @@ module _ (rs ps ss version : ℕ) (s : State) where
   abbrev numberOf : Kind → ℕ
   numberOf kind = firstOf (rowsWith (tableOf kind .damage .versions) rs ps ss version s [])
 
-  making-without : (kind : Kind) (l : List ℤ) → firstTable l ≡ none → making (tableOf kind) (given rs ps ss version l) s ≡ outcome (Refused (numberOf kind)) s
+  making-without : (kind : Kind) (l : List ℤ) → asFirstTable l ≡ none → making (tableOf kind) (given rs ps ss version l) s ≡ outcome (Refused (numberOf kind)) s
   unfolding making
   making-without new l e = refused-without (tableOf new .damage .versions) rs ps ss version s (outcome Made (tableOf new .freshStore (given rs ps ss version l) s)) l e
   making-without old l e = refused-without (tableOf old .damage .versions) rs ps ss version s (outcome Made (tableOf old .freshStore (given rs ps ss version l) s)) l e
@@ -125,17 +125,17 @@ store-without s number rs ps ss version = go (kindOfNumber number) refl
     }
 
 -- A command does the same with each of them.
-same-played : (l m : List ℤ) → firstTable l ≡ firstTable m → (s : State) (c : Command) → played l s c ≡ played m s c
+same-played : (l m : List ℤ) → asFirstTable l ≡ asFirstTable m → (s : State) (c : Command) → played l s c ≡ played m s c
 unfolding played
 same-played l m e s (Run c) = refl
 same-played l m e s (Make kind rs ps ss version) = go (one-list l m e)
   where
-    go : (l ≡ m) ⊎ ((firstTable l ≡ none) × (firstTable m ≡ none)) → played l s (Make kind rs ps ss version) ≡ played m s (Make kind rs ps ss version)
+    go : (l ≡ m) ⊎ ((asFirstTable l ≡ none) × (asFirstTable m ≡ none)) → played l s (Make kind rs ps ss version) ≡ played m s (Make kind rs ps ss version)
     go (inl same) = ap (λ (table : List ℤ). played table s (Make kind rs ps ss version)) same
     go (inr (a, b)) = let q = store-without s kind rs ps ss version in q .refused l a ∙ sym (q .refused m b)
 
 -- So does a whole sheet.
-module _ (l m : List ℤ) (e : firstTable l ≡ firstTable m) where
+module _ (l m : List ℤ) (e : asFirstTable l ≡ asFirstTable m) where
   same-said : (s : State) (x : Line) → saidTo l s x ≡ saidTo m s x
   same-said s Unread = refl
   same-said s (Read c) = ap (λ (o : Outcome). replyText (o .reply)) (same-played l m e s c)
@@ -156,14 +156,14 @@ module _ (l m : List ℤ) (e : firstTable l ≡ firstTable m) where
   same-sheet t = same-printed (linesPlayed 0 unmade) (linesOf t)
 
 -- 33 entries tell whether there are 32.
-pub first-33 : (l : List ℤ) → firstTable (take (suc TABLE) l) ≡ firstTable l
+pub first-33 : (l : List ℤ) → asFirstTable (take (suc TABLE) l) ≡ asFirstTable l
 first-33 l = go (ltb (suc TABLE) (length l)) refl
   where
-    go : (b : Bool) → ltb (suc TABLE) (length l) ≡ b → firstTable (take (suc TABLE) l) ≡ firstTable l
+    go : (b : Bool) → ltb (suc TABLE) (length l) ≡ b → asFirstTable (take (suc TABLE) l) ≡ asFirstTable l
     go true e =
         let long = ltb-true (suc TABLE) (length l) e in
         rw (ne-eqb (length (take (suc TABLE) l)) TABLE (λ z. omega (arith, z, length-take (suc TABLE) l)), ne-eqb (length l) TABLE (λ z. omega arith)) refl
-    go false e = ap firstTable (take-all (suc TABLE) l (omega (arith, ltb-false (suc TABLE) (length l) e)))
+    go false e = ap asFirstTable (take-all (suc TABLE) l (omega (arith, ltb-false (suc TABLE) (length l) e)))
 
 -- Whether a line is unread is told by its bytes alone.
 pub unread-by-bytes : (table : List ℤ) (s : State) (l : List ℕ) → (saidTo table s (lineFor s l) ≡ text "unread") ↔ (lineOf l ≡ Unread)

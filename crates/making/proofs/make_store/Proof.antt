@@ -1,12 +1,11 @@
--- `make_store` meets its contract: a refusal is the first row that applies; an accepted making is `make-is`. Assumes nothing.
+-- `make_store` meets its contract: it answers what `first_refusal` gives, and if that is 0 the words are fresh and the slots filled. Assumes nothing.
 use borrow.Author.Needs.{needs}
 use mathlib.Core.Path.{refl, sym, _∙_}
 use mathlib.Core.Bool.{Bool}
-use Rattle.layout.specs.Layout.{blankReader}
+use borrow.Author.Tests.{ne-eqb}
 use Rattle.statement.specs.Machine.{state, given}
 use Rattle.publication_law.specs.Steps.{Versions}
 use Rattle.publication_law.specs.Clear.{MakingClear, making-unrefused}
-use Rattle.publication_law.specs.Calls.{make-is, make-refused}
 use Rattle.making.proofs.make_store.Statement.{statement}
 use Rattle.making.proofs.make_store.Tie as tie
 use Rattle.making.proofs.make_store.Reads as reads
@@ -26,10 +25,10 @@ fits c = making-unrefused _ _ _ (sym (c .before .first-refusal .ensures (some (c
 first-refusal-requires : tie.Need-first-refusal-requires
 first-refusal-requires c κs = search needs
 
--- refused with what first_refusal gives
+-- the number of the first row that applies
 returns : tie.Need-returns
-returns c = λ vs e. make-refused vs (c .before .before .before .args .words .now) (c .before .before .before .args .entries .now) (c .before .before .before .args .kind) (c .before .before .before .args .readers) (c .before .before .before .args .publishers) (c .before .before .before .args .slots) (c .before .before .before .args .version) (c .before .before .before .args .table .now) (blankReader (c .before .before .before .args .published)) _ (c .if1 .taken)
-    (c .before .first-refusal .ensures vs (c .before .before .before .args .words .now) (c .before .before .before .args .entries .now) (c .before .before .before .args .version) refl refl e)
+returns c = λ vs e. let a = c .before .before .before .args in
+    (c .before .first-refusal .ensures vs (a .words .now) (a .entries .now) (a .version) refl refl e, rw (ne-eqb _ 0 (c .if1 .taken)) refl)
 
 put-fresh-requires : tie.Need-put-fresh-requires
 put-fresh-requires c κs = fits (c .before) .long
@@ -43,10 +42,10 @@ same-length c = search needs
 same-length-2 : tie.Need-same-length-2
 same-length-2 c = search needs
 
--- made
+-- 0: made
 returns-2 : tie.Need-returns-2
-returns-2 c = λ vs e. make-is vs (c .before .before .before .before .before .before .before .before .before .before .args .words .now) (c .before .before .before .before .before .before .before .before .before .before .args .entries .now) (c .before .before .before .before .before .before .before .before .before .before .args .kind) (c .before .before .before .before .before .before .before .before .before .before .args .readers) (c .before .before .before .before .before .before .before .before .before .before .args .publishers) (c .before .before .before .before .before .before .before .before .before .before .args .slots) (c .before .before .before .before .before .before .before .before .before .before .args .version) (c .before .before .before .before .before .before .before .before .before .before .args .table .now) (blankReader (c .before .before .before .before .before .before .before .before .before .before .args .published)) _ _
-    (sym (c .before .before .before .before .before .before .before .before .first-refusal .ensures vs (c .before .before .before .before .before .before .before .before .before .before .args .words .now) (c .before .before .before .before .before .before .before .before .before .before .args .entries .now) (c .before .before .before .before .before .before .before .before .before .before .args .version) refl refl e) ∙ c .before .before .before .before .before .before .before .if1 .left) (c .before .before .before .before .before .put-fresh .ensures) (c .before .fill .ensures)
+returns-2 c = λ vs e. let a = c .before .before .before .before .before .before .before .before .before .before .args in
+    (sym (sym (c .before .before .before .before .before .before .before .before .first-refusal .ensures vs (a .words .now) (a .entries .now) (a .version) refl refl e) ∙ c .before .before .before .before .before .before .before .if1 .left), rw (c .before .before .before .before .before .put-fresh .ensures, c .before .fill .ensures) refl)
 
 pub make-store-spec : {M : Type 1} → statement M
 make-store-spec =

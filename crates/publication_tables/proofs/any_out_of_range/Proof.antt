@@ -1,13 +1,13 @@
--- Before entry k none is out of range. Assumes nothing.
+-- `any` says whether one before entry k is out of range. Assumes nothing.
 use borrow.Author.Needs.{needs}
 use native.Mathlib.Omega.{arith}
 use lib.ListN.{length}
 use Prim.Native.Nat.{_-_, _≤_}
-use mathlib.Core.Path.{_≡_, sym, _∙_}
-use mathlib.Core.Bool.{false}
+use mathlib.Core.Path.{_≡_, sym, ap, _∙_}
+use mathlib.Core.Bool.{Bool, _||_}
 use Rattle.calls.specs.PitchLaws.{pitch-back}
 use Rattle.base.specs.Rows.{anyBelow}
-use Rattle.base.specs.RowLaws.{some-below, none-first, none-more}
+use Rattle.base.specs.RowLaws.{none-first, any-more}
 use Rattle.calls.specs.FirstTable.{outOfRange, entryOf}
 use Rattle.publication_tables.proofs.any_out_of_range.Statement.{statement}
 use Rattle.publication_tables.proofs.any_out_of_range.Tie as tie
@@ -16,13 +16,13 @@ use Rattle.publication_tables.proofs.any_out_of_range.Lts as lts
 use Rattle.publication_tables.proofs.out_of_range.Reads as out-of-range-reads
 
 abbrev Inv-loop : tie.InvT-loop
-Inv-loop table n k₀ k = (k ≤ n) × (anyBelow (λ k. outOfRange (entryOf table k)) k ≡ false)
+Inv-loop table n any₀ k₀ any k = (k ≤ n) × (any ≡ anyBelow (λ k. outOfRange (entryOf table k)) k)
 
 abbrev μ-loop : tie.MeasureT-loop
-μ-loop table n k₀ k = n - k
+μ-loop table n any₀ k₀ any k = n - k
 
 loop-holds : tie.Need-loop-holds Inv-loop μ-loop
-loop-holds c = (search needs, none-first _)
+loop-holds c = (search needs, sym (none-first _))
 
 mul-out-of-range : tie.Need-mul-out-of-range Inv-loop μ-loop
 mul-out-of-range c = search needs
@@ -33,10 +33,6 @@ shared-slice-copy-out-out-of-range c = search needs
 out-of-range-requires : tie.Need-out-of-range-requires Inv-loop μ-loop
 out-of-range-requires c κs = search needs
 
--- true: entry k
-returns : tie.Need-returns Inv-loop μ-loop
-returns c = sym (some-below _ _ _ (c .before .before .before .loop-test .taken) (sym (simp (pitch-back (entryOf (c .before .before .before .before .before .args .table .now) (c .before .before .before .before .loop .k)) (c .before .before .out-of-range-arg .given)) at (c .before .out-of-range .ensures)) ∙ c .if1 .taken))
-
 add-k : tie.Need-add-k Inv-loop μ-loop
 add-k c = search needs
 
@@ -44,11 +40,13 @@ loop-less : tie.Need-loop-less Inv-loop μ-loop
 loop-less c = search needs
 
 loop-again : tie.Need-loop-again Inv-loop μ-loop
-loop-again c = (search needs, none-more _ _ (c .before .before .before .before .loop .inv .1) (sym (simp (pitch-back (entryOf (c .before .before .before .before .before .args .table .now) (c .before .before .before .before .loop .k)) (c .before .before .out-of-range-arg .given)) at (c .before .out-of-range .ensures)) ∙ c .if1 .left))
+loop-again c = let k = c .before .before .before .loop in
+    let said = simp (pitch-back (entryOf (c .before .before .before .before .args .table .now) (k .k)) (c .before .out-of-range-arg .given)) at (c .out-of-range .ensures) in
+    (search needs, rw (k .inv .1, said) (sym (any-more _ (k .k))))
 
--- false: none is
-returns-2 : tie.Need-returns-2 Inv-loop μ-loop
-returns-2 c = let e : c .before .loop .k ≡ length (c .before .before .args .table .now) = omega (arith, c .before .loop .inv .0, c .loop-test .left) in sym (rw e at (c .before .loop .inv .1))
+-- whether one of all entries is
+returns : tie.Need-returns Inv-loop μ-loop
+returns c = let e : c .before .loop .k ≡ length (c .before .before .args .table .now) = omega (arith, c .before .loop .inv .0, c .loop-test .left) in rw e at (c .before .loop .inv .1)
 
 pub any-out-of-range-spec : {M : Type 1} → statement M
 any-out-of-range-spec =
@@ -60,8 +58,7 @@ any-out-of-range-spec =
     mul-out-of-range
     shared-slice-copy-out-out-of-range
     out-of-range-requires
-    returns
     add-k
     loop-less
     loop-again
-    returns-2)
+    returns)
