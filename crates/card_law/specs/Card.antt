@@ -56,6 +56,6 @@ CARD-READ = 4096
 abbrev pub CARD-KEPT : ℕ
 CARD-KEPT = TABLE + 1
 
--- The whole program: a card's bytes and a sheet's bytes to the bytes that are printed. A missing card is an empty one.
+-- The whole program: a card's bytes and a sheet's bytes to the bytes that are printed. A missing card counts as an empty one.
 unfoldable pub sheetOn : List ℕ → List ℕ → List ℕ
 sheetOn card t = sheet (cardOf card) t

@@ -1,14 +1,14 @@
 -- Laws of the entries by slot and number. Assumes nothing.
-use Prim.Native.Nat.{ℕ, _<_, _≤_}
+use Prim.Native.Nat.{ℕ, _<_}
 use native.Mathlib.Omega.{arith}
 use mathlib.Core.Path.{_≡_, refl, fun-ext}
 use mathlib.Core.Bool.{Bool, true, false}
 use mathlib.Core.List.{List}
-use lib.IntN.{ℤ, pos}
-use lib.ListN.{set, length, replicate, getD-replicate}
+use lib.IntN.{ℤ}
+use lib.ListN.{set, length}
 use lib.Seq.{getD-set-same, getD-set-other}
 use lib.Dec.{ltb, eqb}
-use borrow.Author.Tests.{eqb-true, eqb-false, ltb-true, ltb-false, lt-ltb}
+use borrow.Author.Tests.{eqb-true, eqb-false, ltb-true, ltb-false}
 use Rattle.base.specs.Base.{upd}
 use Rattle.calls.specs.Numbers.{TABLE}
 use Rattle.layout.specs.Layout.{entryAt, slotEntry}
@@ -30,7 +30,3 @@ set-entry es slot k v k32 lt = fun-ext (λ slot′. fun-ext (λ k′. go slot′
     go slot′ k′ false d true e true f = absurd (omega (arith, ltb-false k′ TABLE d, eqb-true k′ k f))
     go slot′ k′ false d true e false f = rw (e, f, d) refl
     go slot′ k′ false d false e c f = rw (e, d) refl
-
--- Slot 0 where every entry is v.
-pub slot-same : (n k : ℕ) (v : ℤ) → k < TABLE → TABLE ≤ n → slotEntry (replicate n v) 0 k ≡ v
-slot-same n k v l le = rw (lt-ltb k TABLE l) (getD-replicate n (entryAt 0 k) v (pos 0) (omega arith))

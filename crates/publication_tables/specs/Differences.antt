@@ -1,13 +1,13 @@
--- A pitch in range, and the difference of two, is a number of their type. Assumes nothing.
-use Prim.Native.Nat.{ℕ, zero, suc, _+_, _-_, _<_, _≤_}
+-- The difference of two pitches in range is a number of their type. Assumes nothing.
+use Prim.Native.Nat.{ℕ, zero, suc, _-_, _<_, _≤_}
 use native.Mathlib.Omega.{arith}
-use mathlib.Core.Path.{_≡_, refl}
+use mathlib.Core.Path.{_≡_}
 use mathlib.Core.Bool.{Bool, true, false, cond}
 use lib.IntN.{ℤ, pos, negsuc, subℕ, _-ℤ_}
 use lib.Dec.{ltb}
 use lib.Signed.{mag}
 use borrow.Author.Tests.{ltb-false}
-use Rattle.base.specs.RowLaws.{or-false, clash}
+use Rattle.base.specs.RowLaws.{or-false}
 use Rattle.calls.specs.Numbers.{PITCH-HALF}
 use Rattle.calls.specs.FirstTable.{outOfRange}
 
@@ -34,13 +34,6 @@ low-difference (pos a) (negsuc b) la lb = omega arith
 low-difference (negsuc a) (pos zero) la lb = sub-low 0 (suc a) (omega arith) (omega arith)
 low-difference (negsuc a) (pos (suc b)) la lb = omega arith
 low-difference (negsuc a) (negsuc b) la lb = sub-low (suc b) (suc a) (omega arith) (omega arith)
-
-low-fits : (v : ℤ) → Low v → mag v < PITCH-HALF
-low-fits (pos n) l = omega arith
-low-fits (negsuc n) l = omega arith
-
-pub range-fits : (v : ℤ) → outOfRange v ≡ false → mag v < PITCH-HALF
-range-fits v e = low-fits v (in-range v e)
 
 pub difference-fits : (v w : ℤ) → outOfRange v ≡ false → outOfRange w ≡ false → mag (v -ℤ w) < PITCH-HALF
 difference-fits v w e f = low-difference v w (in-range v e) (in-range w f)

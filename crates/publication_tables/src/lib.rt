@@ -1,6 +1,6 @@
 // The table that a store starts with: whether it may be one, and every slot filled with it.
 // The contracts cite FirstTable of calls.
-ghost use Prim.Native.Nat.{ℕ, _+_, _*_, _<_, _≤_};
+ghost use Prim.Native.Nat.{_+_, _*_, _<_, _≤_};
 ghost use mathlib.Core.Path.{_≡_};
 ghost use mathlib.Core.Bool.{false};
 ghost use mathlib.Core.List.{_++_};

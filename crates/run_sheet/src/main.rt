@@ -10,7 +10,7 @@ ghost use Rattle.statement.specs.Machine.{state};
 ghost use Rattle.sheet_law.specs.Printing.{PRINTED-MAX};
 ghost use Rattle.sheet_law.specs.Sheet.{sheetState};
 ghost use Rattle.sheet_law.specs.Reads.{KEPT};
-ghost use Rattle.card_law.specs.Card.{CARD-KEPT, CARD-READ, cardOf};
+ghost use Rattle.card_law.specs.Card.{CARD-KEPT, cardOf};
 ghost use Rattle.run_sheet.specs.CardLent.{CardLent};
 ghost use Rattle.run_sheet.specs.ReadFed.{ReadFed};
 use calls::Pitch;
@@ -23,6 +23,9 @@ use libc::STDIN_FILENO;
 use libc::STDOUT_FILENO;
 use sheet::KEPT;
 use sheet::ROOM;
+
+// A card that cannot be opened or read counts as no entries.
+const NO_ENTRIES: usize = 0;
 
 // Whether the card ends behind the bytes that were read; a message where it does not.
 fn card_ends(fd: i32) -> bool {
@@ -49,7 +52,8 @@ fn say_number(before: &[u8], n: usize, after: &[u8]) {
     io::write_all(STDERR_FILENO, after);
 }
 
-// Why a card of so many bytes, so many entries and this bad line has not the 32 lines of a first table; nothing where it has.
+// Why a card of so many bytes, so many entries and this bad line has not the 32 lines of a first table;
+// nothing where it has.
 fn say_why(size: usize, count: usize, bad: usize) {
     if size >= CARD_READ {
         io::write_all(
@@ -72,10 +76,11 @@ fn say_why(size: usize, count: usize, bad: usize) {
     }
 }
 
-// The entries of a card's bytes.
+// The entries of a card's bytes, as many as there is room for.
 fn card_entries(bytes: &[u8], room: &mut [Pitch]) -> usize
     requires { ⌜ length (now room) ≡ CARD-KEPT ⌝ }
-    ensures { λ n. ⌜ (n ≤ length (now (room .exit))) × (take n (now (room .exit)) ≡ take CARD-KEPT (cardOf (now (bytes .entry)))) ⌝ }
+    ensures { λ n. ⌜ (n ≤ length (now (room .exit)))
+        × (take n (now (room .exit)) ≡ take CARD-KEPT (cardOf (now (bytes .entry)))) ⌝ }
 {
     let read = card::read_card(bytes, room);
     say_why(bytes.len(), read.count, read.bad);
@@ -90,7 +95,7 @@ fn read_opened_card(fd: i32, room: &mut [Pitch]) -> usize
     let mut bytes = io::buffer();
     let n = io::read_full(fd, &mut bytes);
     if n < CARD_READ && !card_ends(fd) {
-        return 0;
+        return NO_ENTRIES;
     }
     card_entries(&bytes[..n], room)
 }
@@ -103,7 +108,7 @@ fn open_card(room: &mut [Pitch]) -> usize
     let fd = os::open_read(b"card");
     if fd < 0 {
         os::fail(b"run_sheet: card, looked for in the folder where run_sheet was started");
-        return 0;
+        return NO_ENTRIES;
     }
     let count = read_opened_card(fd, room);
     libc::close(fd);

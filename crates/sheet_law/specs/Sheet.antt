@@ -1,8 +1,8 @@
 -- The whole sheet, a first table and bytes in to bytes out, as a reader of lines.
 use Prim.Native.Nat.{ℕ, _+_, _*_, _%_}
-use mathlib.Core.List.{List, [], _∷_, _++_}
+use mathlib.Core.List.{List, [], _++_}
 use lib.IntN.{ℤ, pos}
-use lib.ListN.{length, take, drop, replicate}
+use lib.ListN.{take, drop, replicate}
 use Rattle.base.specs.Base.{choose}
 use Rattle.calls.specs.Numbers.{MODULUS, TABLE, SLOTS-MAX}
 use Rattle.layout.specs.Layout.{WORDS, kindWord, slots}

@@ -1,5 +1,5 @@
-// One command of a run sheet, played on the lent words of the store and the lent room for its entries, with the lent first table,
-// by the definition of sheet_law.
+// One command of a run sheet, played on the lent words of the store and the lent room for its entries,
+// with the lent first table, by the definition of sheet_law.
 ghost use Prim.Native.Nat.{_*_, _≤_};
 ghost use mathlib.Core.Path.{_≡_};
 ghost use mathlib.Core.Logic.{_⊎_};

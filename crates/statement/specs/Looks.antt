@@ -1,8 +1,8 @@
 -- What is promised of looks beside demand 3, by the first table: every accepted one is of a pitch in range, and until a SWAP is accepted it is the first table's.
 -- Each follows from demand 3: what holds of the entries of the first table and of every WRITE holds of the entries of the shelf's table, notes and drafts. Assumes nothing.
 use Prim.Native.Nat.{ℕ}
-use mathlib.Core.Path.{_≡_, refl, sym, ap, _∙_, subst}
-use mathlib.Core.Bool.{Bool, true, false}
+use mathlib.Core.Path.{_≡_, refl, sym, ap, _∙_}
+use mathlib.Core.Bool.{true, false}
 use mathlib.Core.List.{List, [], _∷_, _++_}
 use mathlib.Core.Option.{some}
 use lib.IntN.{ℤ}
@@ -18,7 +18,7 @@ use Rattle.calls.specs.Events.{Event, accepted, placeOf, movedBy, foldEvents}
 use Rattle.calls.specs.Events.Event.{_⇒_}
 use Rattle.calls.specs.Model.{Model, model₀, modelStep, entry, withNote}
 use Rattle.calls.specs.ModelLaws.{entry-is, none-some, appended-entries}
-use Rattle.statement.specs.Machine.{State, Given, Machine, Fresh, events}
+use Rattle.statement.specs.Machine.{State, Machine, Fresh, events}
 use Rattle.statement.specs.Demand3.{Demand3}
 use Rattle.statement.specs.Companions.{MakesFresh}
 

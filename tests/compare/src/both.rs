@@ -1,9 +1,9 @@
 //! One call on both sides, the library and the second implementation, and
 //! the comparison after it.
 
-use crate::guarded::Guarded;
 use crate::library;
 use crate::seen::{Seen, Unusual};
+use crate::slices::Side;
 use crate::watch;
 use second::call::{Call, Numbers, Reply};
 use second::demand3::Demand3;
@@ -15,20 +15,6 @@ use std::fmt;
 
 pub const MOST_WORDS: usize = 2048;
 pub const MOST_ENTRIES: usize = 4096;
-
-struct Side {
-    words: Guarded<u64>,
-    entries: Guarded<Pitch>,
-}
-
-impl Side {
-    fn new() -> Side {
-        Side {
-            words: Guarded::with_room(MOST_WORDS, 0xa5a5_a5a5_a5a5_a5a5),
-            entries: Guarded::with_room(MOST_ENTRIES, 0x5a5a),
-        }
-    }
-}
 
 /// Why a run stops.
 pub enum Stop {
@@ -59,8 +45,8 @@ pub struct Both {
 impl Both {
     pub fn new(rules: Rules, seed: u64, limit: u64) -> Both {
         Both {
-            library: Side::new(),
-            second: Side::new(),
+            library: Side::with_room(MOST_WORDS, MOST_ENTRIES),
+            second: Side::with_room(MOST_WORDS, MOST_ENTRIES),
             rules,
             seed,
             calls: 0,
@@ -92,6 +78,12 @@ impl Both {
         self.second.entries.set(entries);
     }
 
+    /// Lends this first table on both sides.
+    pub fn set_table(&mut self, table: &[Pitch]) {
+        self.library.table.set(table);
+        self.second.table.set(table);
+    }
+
     pub fn set_null_words(&mut self) {
         self.library.words.set_null();
         self.second.words.set_null();
@@ -100,6 +92,15 @@ impl Both {
     pub fn set_null_entries(&mut self) {
         self.library.entries.set_null();
         self.second.entries.set_null();
+    }
+
+    pub fn set_null_table(&mut self) {
+        self.library.table.set_null();
+        self.second.table.set_null();
+    }
+
+    pub fn rules(&self) -> Rules {
+        self.rules
     }
 
     /// The library's words, if they are as many as a store has.
@@ -125,15 +126,16 @@ impl Both {
             println!("{}: {numbers}", self.calls);
         }
         let side = &mut self.second;
-        let words = side.words.lent_mut();
-        let reply = lent::call(words, side.entries.lent_mut(), call, self.rules);
-        let alike = numbers == reply.numbers()
-            && self.library.words.whole() == self.second.words.whole()
-            && self.library.entries.whole() == self.second.entries.whole();
-        if !alike {
+        let (words, entries) = (side.words.lent_mut(), side.entries.lent_mut());
+        let reply = lent::call(words, entries, side.table.lent(), call, self.rules);
+        if numbers != reply.numbers() || !self.library.alike(&self.second) {
             return Err(self.difference(call, kind, numbers, reply).into());
         }
         self.seen.note(kind, call, &numbers, place);
+        if let (Call::Make { .. }, Some(kind)) = (call, kind) {
+            self.seen
+                .note_table(kind, self.second.table.lent(), numbers.code);
+        }
         self.note_unusual(call, kind);
         Ok(reply)
     }
@@ -155,18 +157,8 @@ impl Both {
     }
 
     fn call_library(&mut self, call: &Call) -> Numbers {
-        let Side { words, entries } = &mut self.library;
-        let (words_length, entries_length) = (words.lent().len(), entries.lent().len());
         // The guarded cells are lent for the time of the call.
-        unsafe {
-            library::call(
-                words.pointer(),
-                words_length,
-                entries.pointer(),
-                entries_length,
-                call,
-            )
-        }
+        unsafe { library::call(self.library.lent(), call) }
     }
 
     /// The kind given to a making, or the kind in word 0.
@@ -190,6 +182,9 @@ impl Both {
     }
 
     fn note_unusual(&mut self, call: &Call, kind: Option<Kind>) {
+        if let (Call::Make { .. }, true) = (call, self.library.table.is_null()) {
+            self.seen.note_unusual(Unusual::NullTable, call);
+        }
         let words = &self.library.words;
         if words.is_null() {
             self.seen.note_unusual(Unusual::NullStore, call);
@@ -217,10 +212,15 @@ impl Both {
             call: *call,
             store_length: self.library.words.lent().len(),
             entries_length: self.library.entries.lent().len(),
+            table: match call {
+                Call::Make { .. } => Some(self.second.table.lent().to_vec()),
+                _ => None,
+            },
             library,
             second: second.numbers(),
             word: self.library.words.first_unlike(&self.second.words),
             entry: self.library.entries.first_unlike(&self.second.entries),
+            table_entry: self.library.table.first_unlike(&self.second.table),
             fault: None,
         }
     }
@@ -235,10 +235,13 @@ pub struct Difference {
     call: Call,
     store_length: usize,
     entries_length: usize,
+    /// The first table lent to a making.
+    table: Option<Vec<Pitch>>,
     library: Numbers,
     second: Numbers,
     word: Option<(Option<usize>, u64, u64)>,
     entry: Option<(Option<usize>, Pitch, Pitch)>,
+    table_entry: Option<(Option<usize>, Pitch, Pitch)>,
     fault: Option<String>,
 }
 
@@ -259,8 +262,22 @@ impl fmt::Display for Difference {
             "call:     {}, {words} words and {entries} entries lent",
             self.call
         )?;
+        if let Some(table) = &self.table {
+            writeln!(f, "table:    {table:?}")?;
+        }
         writeln!(f, "library:  {}", self.library)?;
         writeln!(f, "second:   {}", self.second)?;
+        self.write_cells(f)?;
+        match &self.fault {
+            Some(fault) => writeln!(f, "demand 3: {fault}"),
+            None => Ok(()),
+        }
+    }
+}
+
+impl Difference {
+    /// The first word and the first entries that differ.
+    fn write_cells(&self, f: &mut fmt::Formatter<'_>) -> fmt::Result {
         if let Some((number, library, second)) = self.word {
             match number {
                 Some(n) => write!(f, "word {n}, {}:", layout::name(n))?,
@@ -275,8 +292,12 @@ impl fmt::Display for Difference {
             }
             writeln!(f, " library {library}, second {second}")?;
         }
-        if let Some(fault) = &self.fault {
-            writeln!(f, "demand 3: {fault}")?;
+        if let Some((number, library, lent)) = self.table_entry {
+            match number {
+                Some(n) => write!(f, "entry {n} of the first table:")?,
+                None => write!(f, "an entry outside the first table:")?,
+            }
+            writeln!(f, " library left {library}, lent {lent}")?;
         }
         Ok(())
     }

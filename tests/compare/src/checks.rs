@@ -1,13 +1,16 @@
 //! Tests of the comparison itself: that it can find what it is for.
 
 use crate::both::{Both, Stop};
+use crate::first_tables::{borders, Border};
 use crate::guarded::Guarded;
 use crate::seen::Seen;
+use crate::slices::Side;
 use second::call::{Call, Numbers, Reply};
 use second::demand3::Demand3;
 use second::layout::WORDS;
+use second::making::Making;
 use second::rules::{Alteration, Rules};
-use second::store::Kind;
+use second::store::{Kind, Pitch, STEP_MOST, TABLE};
 
 const MAKE: Call = Call::Make {
     kind: Kind::New.number() as u16,
@@ -17,11 +20,14 @@ const MAKE: Call = Call::Make {
     version: 0,
 };
 
+const FIRST: [Pitch; TABLE] = [1200; TABLE];
+
 fn lent(rules: Rules) -> Both {
     let mut both = Both::new(rules, 4, 100);
     both.part = "a test";
     both.set_words(&[9; WORDS]);
     both.set_entries(&[7; 96]);
+    both.set_table(&FIRST);
     both
 }
 
@@ -52,6 +58,27 @@ fn cells_outside_the_lent_slice_are_guarded() {
     assert!(one.pointer().is_null() && one.lent().is_empty());
 }
 
+/// A table that a call changed is no longer like the other side's.
+#[test]
+fn the_first_table_is_compared() {
+    let (mut one, mut other) = (Side::with_room(9, 9), Side::with_room(9, 9));
+    for side in [&mut one, &mut other] {
+        side.table.set(&FIRST);
+    }
+    assert!(one.alike(&other));
+    let lent = one.lent();
+    assert_eq!(lent.table_length, TABLE);
+    // The cells belong to the side, which alone knows of them.
+    unsafe { *lent.table.cast_mut().add(31) = 0 };
+    assert!(!one.alike(&other));
+    assert_eq!(
+        one.table.first_unlike(&other.table),
+        Some((Some(31), 0, 1200))
+    );
+    other.table.set_null();
+    assert!(other.lent().table.is_null() && other.lent().table_length == 0);
+}
+
 #[test]
 fn a_run_that_saw_nothing_lacks_every_number() {
     let missing = Seen::new().missing();
@@ -67,6 +94,9 @@ fn a_run_that_saw_nothing_lacks_every_number() {
     assert!(lacks("old claim: refusal 31") && !lacks("new claim: refusal 31"));
     assert!(lacks("old walk: reply 112") && !lacks("new walk: reply 112"));
     assert!(lacks("new store: refusal 6") && lacks("old store: reply 100"));
+    assert!(lacks("new store: refusal 40") && lacks("old store: refusal 42"));
+    assert!(lacks("old store: a first table with -501 in entry 31"));
+    assert!(lacks("store with NullTable") && !lacks("enter with NullTable"));
     assert!(lacks("old write: from place 36") && !lacks("new write: from place 36"));
 }
 
@@ -86,6 +116,29 @@ fn what_was_seen_is_not_missing() {
     assert!(missing.iter().any(|line| line == "old claim: refusal 30"));
 }
 
+/// A table shows the borders that it is at, and no refusal shows those of
+/// another.
+#[test]
+fn first_tables_show_their_borders() {
+    let shows = |table: &[Pitch], code, border| Border::shown_by(table, code).contains(&border);
+    let with = |k: usize, entry| {
+        let mut table = FIRST;
+        table[k] = entry;
+        table
+    };
+    assert!(shows(&[], 40, Border::Length(0)));
+    assert!(shows(&with(31, -501), 41, Border::Entry(31, -501)));
+    assert!(!shows(&with(31, -501), 100, Border::Entry(31, -501)));
+    assert!(shows(&with(0, -301), 42, Border::Step(0, STEP_MOST + 1)));
+    assert!(shows(&with(31, 2700), 100, Border::Step(30, STEP_MOST)));
+    assert!(!shows(&with(7, 9000), 42, Border::Step(7, -7800)));
+    let (mut steep, mut short) = (with(2, -501), with(2, -501)[..31].to_vec());
+    (steep[20], short[20]) = (9000, 9000);
+    assert!(shows(&steep, 41, Border::DoublyWrong));
+    assert!(shows(&short, 40, Border::TriplyWrong));
+    assert_eq!(borders().count(), 6 + 6 * 32 + 4 * 31 + 3);
+}
+
 #[test]
 fn a_difference_is_told_by_name() {
     let mut both = lent(Rules::altered(Alteration::FreshEntriesZero));
@@ -94,7 +147,7 @@ fn a_difference_is_told_by_name() {
     assert!(text.contains("seed:     4, call number 1"), "{text}");
     assert!(text.contains("(store new 2 2 3 0)"), "{text}");
     assert!(
-        text.contains("entry 0, slot 0 entry 0: library 9000, second 0"),
+        text.contains("entry 0, slot 0 entry 0: library 1200, second 0"),
         "{text}"
     );
 
@@ -116,7 +169,8 @@ fn a_difference_is_told_by_name() {
 fn a_list_is_held_against_demand_3() {
     let mut both = lent(Rules::AS_WRITTEN);
     assert_eq!(report(both.call(&MAKE)), "alike");
-    let mut demand3 = Demand3::fresh(Kind::New, 2, 2, 3);
+    let making = Making::of(&MAKE).expect("a known kind");
+    let mut demand3 = Demand3::fresh(&making, &FIRST, Rules::AS_WRITTEN);
     let enter = Call::Enter { r: 0 };
     assert_eq!(report(both.listed(&enter, &mut demand3)), "alike");
     let untrue = demand3.hear(&Call::Claim { p: 1, s: 2 }, &Reply::Claimed(2));

@@ -6,7 +6,8 @@ use second::call::Call;
 use second::layout::{KIND, SLOTS, WORDS};
 use second::random::Random;
 use second::rules::Rules;
-use second::store::{Kind, Pitch, KINDS};
+use second::store::{Kind, Pitch, FEATHERED, KINDS, TABLE};
+use second::tables;
 use second::turns::{call_by, call_numbered, Scheduler};
 
 const NEW: u64 = Kind::New.number();
@@ -38,6 +39,10 @@ pub fn play(both: &mut Both, random: &mut Random) -> Result<(), Stop> {
                 both.set_null_entries();
             }
         }
+        both.set_table(&tables::any(random));
+        if random.one_in(8) {
+            both.set_null_table();
+        }
         let call = match index {
             0 => making(kind, &words, wrong == 3, random),
             _ if random.one_in(4) => call_numbered(index, &words, random),
@@ -61,11 +66,12 @@ fn lived_in(kind: Kind, random: &mut Random) -> [u64; WORDS] {
         slots,
         version: 0,
     };
-    second::lent::call(&mut words, &mut entries, &make, Rules::AS_WRITTEN);
+    let first = [FEATHERED; TABLE];
+    second::lent::call(&mut words, &mut entries, &first, &make, Rules::AS_WRITTEN);
     let mut scheduler = Scheduler::new(random);
     for _ in 0..random.below(40) {
         let call = scheduler.next(&words, random);
-        second::lent::call(&mut words, &mut entries, &call, Rules::AS_WRITTEN);
+        second::lent::call(&mut words, &mut entries, &first, &call, Rules::AS_WRITTEN);
     }
     words
 }

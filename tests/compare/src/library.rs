@@ -1,5 +1,6 @@
 //! The library under test, by its C names.
 
+use crate::slices::Lent;
 use second::call::{Call, Numbers};
 use second::store::Pitch;
 
@@ -12,6 +13,7 @@ struct CReply {
 
 type Words = *mut u64;
 type Entries = *mut Pitch;
+type Table = *const Pitch;
 
 extern "C" {
     fn rahuvyte_make(
@@ -19,6 +21,8 @@ extern "C" {
         store_len: usize,
         entries: Entries,
         entries_len: usize,
+        table: Table,
+        table_len: usize,
         kind: u16,
         readers: u16,
         publishers: u16,
@@ -65,11 +69,14 @@ extern "C" {
     fn rahuvyte_release(store: Words, sl: usize, entries: Entries, el: usize, p: u16) -> CReply;
 }
 
-/// Calls the library with these slices. A null pointer has length 0.
+/// Calls the library with these slices.
 ///
 /// # Safety
 /// Each pointer is null with length 0, or lends that many cells.
-pub unsafe fn call(w: Words, wl: usize, e: Entries, el: usize, call: &Call) -> Numbers {
+pub unsafe fn call(lent: Lent, call: &Call) -> Numbers {
+    let (w, wl) = (lent.words, lent.words_length);
+    let (e, el) = (lent.entries, lent.entries_length);
+    let (t, tl) = (lent.table, lent.table_length);
     let reply = match *call {
         Call::Make {
             kind,
@@ -77,7 +84,9 @@ pub unsafe fn call(w: Words, wl: usize, e: Entries, el: usize, call: &Call) -> N
             publishers,
             slots,
             version,
-        } => rahuvyte_make(w, wl, e, el, kind, readers, publishers, slots, version),
+        } => rahuvyte_make(
+            w, wl, e, el, t, tl, kind, readers, publishers, slots, version,
+        ),
         Call::Enter { r } => rahuvyte_enter(w, wl, e, el, r),
         Call::Look { r, k } => rahuvyte_look(w, wl, e, el, r, k),
         Call::Leave { r } => rahuvyte_leave(w, wl, e, el, r),

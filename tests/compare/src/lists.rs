@@ -4,15 +4,30 @@
 use crate::both::{Both, Stop};
 use second::call::{Call, Reply};
 use second::demand3::Demand3;
-use second::layout::{KIND, WORDS};
+use second::layout::{KIND, PUBLISHERS, READERS, SLOTS, WORDS};
+use second::making::Making;
 use second::random::Random;
 use second::store::{Kind, Pitch, KINDS};
+use second::tables;
 use second::turns::Scheduler;
 
-struct Sizes {
-    readers: u16,
-    publishers: u16,
-    slots: u16,
+pub struct Sizes {
+    pub readers: u16,
+    pub publishers: u16,
+    pub slots: u16,
+}
+
+impl Sizes {
+    /// A making with these sizes.
+    pub fn making(&self, kind: Kind, version: u64) -> Call {
+        Call::Make {
+            kind: kind.number() as u16,
+            readers: self.readers,
+            publishers: self.publishers,
+            slots: self.slots,
+            version,
+        }
+    }
 }
 
 /// One list: some refused makings, an accepted one, and calls.
@@ -44,6 +59,7 @@ fn lend_anything(both: &mut Both, random: &mut Random) {
     entries.fill_with(|| random.word() as Pitch);
     let slots = random.below(33) as usize;
     both.set_entries(&entries[..slots * 32]);
+    both.set_table(&tables::any(random));
 }
 
 /// The number of a kind, or one that no kind has.
@@ -81,6 +97,7 @@ fn one_wrong(both: &mut Both, random: &mut Random) -> Call {
         _ => version = kind.last() + random.below(2),
     }
     both.set_entries(&vec![random.word() as Pitch; length]);
+    both.set_table(&tables::good(random));
     Call::Make {
         kind: kind.number() as u16,
         readers,
@@ -90,9 +107,10 @@ fn one_wrong(both: &mut Both, random: &mut Random) -> Call {
     }
 }
 
-/// A making with wrong arguments in any mixture. The entries lent are mostly
-/// of a wrong length too.
+/// A making with wrong arguments and a wrong first table in any mixture. The
+/// entries lent are mostly of a wrong length too.
 fn any_wrong(both: &mut Both, random: &mut Random) -> Call {
+    both.set_table(&tables::any(random));
     let kind = random.pick(&KINDS);
     let last = kind.last();
     let slots = size(2, 32, random);
@@ -148,7 +166,7 @@ fn size(least: u16, most: u16, random: &mut Random) -> u16 {
     }
 }
 
-fn some_sizes(random: &mut Random) -> Sizes {
+pub fn some_sizes(random: &mut Random) -> Sizes {
     match random.below(12) {
         0 => {
             return Sizes {
@@ -176,7 +194,7 @@ fn some_sizes(random: &mut Random) -> Sizes {
     }
 }
 
-fn first_version(kind: Kind, random: &mut Random) -> u64 {
+pub fn first_version(kind: Kind, random: &mut Random) -> u64 {
     let last = kind.last();
     match random.below(12) {
         0 => last,
@@ -197,24 +215,34 @@ fn make(
     version: u64,
     random: &mut Random,
 ) -> Result<Demand3, Stop> {
-    let Sizes {
-        readers,
-        publishers,
-        slots,
-    } = *sizes;
     let lent = random.word() as Pitch;
-    both.set_entries(&[lent; 1024][..usize::from(slots) * 32]);
-    let number = kind.number() as u16;
-    let making = Call::Make {
-        kind: number,
-        readers,
-        publishers,
-        slots,
-        version,
+    both.set_entries(&[lent; 1024][..usize::from(sizes.slots) * 32]);
+    let first = tables::good(random);
+    both.set_table(&first);
+    let call = sizes.making(kind, version);
+    both.call(&call)?;
+    both.seen.note_making(kind, &call);
+    let making = Making::of(&call).expect("a known kind");
+    Ok(Demand3::fresh(&making, &first, both.rules()))
+}
+
+/// A making with the sizes of the store that is lent, refused for its first
+/// table alone.
+fn refused_table(both: &mut Both, random: &mut Random) -> Option<Call> {
+    let words = both.words()?;
+    let sizes = Sizes {
+        readers: words[READERS] as u16,
+        publishers: words[PUBLISHERS] as u16,
+        slots: words[SLOTS] as u16,
     };
-    both.call(&making)?;
-    both.seen.note_making(kind, &making);
-    Ok(Demand3::fresh(kind, readers, publishers, slots))
+    let kind = Kind::from_number(words[KIND])?;
+    let table = match random.below(3) {
+        0 => tables::of_length(random.pick(&[0, 31, 33]), random),
+        1 => tables::with_entry(random.below(32) as usize, -501, random),
+        _ => tables::with_step(random.below(31) as usize, -1501, random),
+    };
+    both.set_table(&table);
+    Some(sizes.making(kind, random.below(100)))
 }
 
 fn play_calls(both: &mut Both, demand3: &mut Demand3, random: &mut Random) -> Result<(), Stop> {
@@ -225,7 +253,11 @@ fn play_calls(both: &mut Both, demand3: &mut Demand3, random: &mut Random) -> Re
         let Some(words) = both.words() else { break };
         let call = scheduler.next(words, random);
         if random.one_in(200) {
-            both.call(&refused_making(random))?;
+            let refused = match random.one_in(2) {
+                true => refused_table(both, random),
+                false => Some(refused_making(random)),
+            };
+            refused.map_or(Ok(()), |making| both.call(&making).map(|_| ()))?;
         }
         let reply = both.listed(&call, demand3)?;
         if reply == Reply::Refused(32) {

@@ -9,23 +9,26 @@ mod borders;
 mod both;
 #[cfg(test)]
 mod checks;
+mod first_tables;
 mod guarded;
 mod lengths;
 mod library;
 mod lists;
 mod seen;
+mod slices;
 mod states;
 mod undamaged;
 mod watch;
 
 use both::{Both, Difference, Stop};
+use first_tables::FirstTables;
 use second::random::Random;
 use second::rules::{Alteration, Rules};
 use states::States;
 use std::process::ExitCode;
 
 /// How many calls in a hundred go to each part.
-const SHARES: [u64; 3] = [60, 32, 8];
+const SHARES: [u64; 4] = [60, 30, 3, 7];
 
 /// How many of the last calls are shown.
 const SHOWN: u64 = 20;
@@ -36,6 +39,7 @@ fn run(rules: Rules, seed: u64, calls: u64, shown: u64) -> (Both, Option<Box<Dif
     let mut both = Both::new(rules, seed, calls);
     both.show_last(shown);
     let mut states = States::new(&mut random);
+    let mut first_tables = FirstTables::default();
     let mut made = [0; SHARES.len()];
     loop {
         let before = both.calls();
@@ -43,6 +47,7 @@ fn run(rules: Rules, seed: u64, calls: u64, shown: u64) -> (Both, Option<Box<Dif
         let played = match part {
             0 => lists::play(&mut both, &mut random),
             1 => states.play(&mut both, &mut random),
+            2 => first_tables.play(&mut both, &mut random),
             _ => lengths::play(&mut both, &mut random),
         };
         made[part] += both.calls() - before;

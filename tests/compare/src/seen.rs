@@ -1,9 +1,11 @@
 //! What a run has seen, and what it still lacks.
 
 use crate::borders::{never_alone, TRIALS};
+use crate::first_tables::{borders, Border};
 use second::call::{Call, Numbers, CALL_NAMES};
 use second::damage::{Clause, CLAUSES};
-use second::store::{Kind, KINDS};
+use second::store::{Kind, Pitch, KINDS};
+use std::collections::BTreeSet;
 
 const CALLS: usize = 11;
 
@@ -17,13 +19,16 @@ pub enum Unusual {
     NullStore,
     NullEntries,
     UnknownKind,
+    /// Lent to makings alone.
+    NullTable,
 }
 
-const UNUSUAL: [Unusual; 4] = [
+const UNUSUAL: [Unusual; 5] = [
     Unusual::StoreLength,
     Unusual::NullStore,
     Unusual::NullEntries,
     Unusual::UnknownKind,
+    Unusual::NullTable,
 ];
 
 pub struct Seen {
@@ -33,6 +38,7 @@ pub struct Seen {
     borders: Box<[[[u64; TRIALS]; CLAUSES.len()]; ROWS]>,
     unusual: [[u64; CALLS]; UNUSUAL.len()],
     makings: [[u64; MAKINGS.len()]; ROWS],
+    tables: BTreeSet<(Kind, Border)>,
     pub lists: u64,
     pub returns: u64,
     pub swaps: u64,
@@ -62,6 +68,7 @@ impl Seen {
             borders: Box::new([[[0; TRIALS]; CLAUSES.len()]; ROWS]),
             unusual: [[0; CALLS]; UNUSUAL.len()],
             makings: [[0; MAKINGS.len()]; ROWS],
+            tables: BTreeSet::new(),
             lists: 0,
             returns: 0,
             swaps: 0,
@@ -85,6 +92,13 @@ impl Seen {
     /// A store at a border of this clause, spoiled by no other.
     pub fn note_border(&mut self, kind: Kind, clause: Clause, trial: usize) {
         self.borders[row(Some(kind))][clause as usize][trial] += 1;
+    }
+
+    /// A making with this first table, and the code that it got.
+    pub fn note_table(&mut self, kind: Kind, table: &[Pitch], code: u64) {
+        for border in Border::shown_by(table, code) {
+            self.tables.insert((kind, border));
+        }
     }
 
     pub fn note_unusual(&mut self, unusual: Unusual, call: &Call) {
@@ -142,6 +156,8 @@ impl Seen {
             self.missing_replies(kind, &mut missing);
             self.missing_places(kind, &mut missing);
             self.missing_alone(kind, &mut missing);
+            let unseen = borders().filter(|&border| !self.tables.contains(&(kind, border)));
+            missing.extend(unseen.map(|border| format!("{kind} store: {border}")));
             for (making, count) in MAKINGS.iter().zip(self.makings[row(Some(kind))]) {
                 if count == 0 {
                     missing.push(format!("{kind} store {making}"));
@@ -149,7 +165,11 @@ impl Seen {
             }
         }
         for unusual in UNUSUAL {
-            for (call, name) in CALL_NAMES.iter().enumerate() {
+            let calls = match unusual {
+                Unusual::NullTable => 1,
+                _ => CALLS,
+            };
+            for (call, name) in CALL_NAMES.iter().enumerate().take(calls) {
                 if self.unusual[unusual as usize][call] == 0 {
                     missing.push(format!("{name} with {unusual:?}"));
                 }
@@ -198,7 +218,7 @@ impl Seen {
 /// The codes that this call can give on a store of this kind.
 fn codes(call: usize, kind: Kind) -> &'static [usize] {
     match (call, kind) {
-        (0, _) => &[2, 3, 4, 5, 6, 100],
+        (0, _) => &[2, 3, 4, 5, 6, 40, 41, 42, 100],
         (1, _) => &[1, 10, 20, 101],
         (2, _) => &[1, 10, 13, 20, 102],
         (3, _) => &[1, 10, 20, 103],

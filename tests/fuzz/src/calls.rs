@@ -2,8 +2,8 @@
 //! the second implementation.
 
 use crate::bytes::Bytes;
-use crate::guarded::Guarded;
 use crate::seen::Cell;
+use crate::slices::{Lent, Side};
 use second::call::{Call, Numbers, Reply, CALL_NAMES};
 use second::damage::{Clause, CLAUSES};
 use second::demand3::Demand3;
@@ -12,33 +12,30 @@ use second::layout::{
     READERS, SLOTS, WORDS,
 };
 use second::lent;
+use second::making::Making;
 use second::rules::Rules;
-use second::store::{Kind, Pitch, KINDS, PITCHES, PITCH_LOW};
+use second::store::{Kind, Pitch, FEATHERED, KINDS, PITCHES, PITCH_HIGH, PITCH_LOW, TABLE};
 use std::fmt;
 
-/// The library: the words and their number, the entries and theirs, a call.
-pub type Library = unsafe fn(*mut u64, usize, *mut Pitch, usize, &Call) -> Numbers;
+/// The library: the lent slices and a call.
+pub type Library = unsafe fn(Lent, &Call) -> Numbers;
+
+/// In an input that begins so, the step `LEND_TABLE` lends a first table.
+/// Without it every making is lent 32 times 9000.
+pub const CARD: &[u8] = b"card";
+const LEND_TABLE: u8 = 255;
 
 const MOST_WORDS: usize = 900;
 const MOST_ENTRIES: usize = 1100;
 /// An input makes no more calls than this.
 const MOST_CALLS: u64 = 3000;
 
-struct Side {
-    words: Guarded<u64>,
-    entries: Guarded<Pitch>,
-}
-
-impl Side {
-    fn new() -> Side {
-        let mut side = Side {
-            words: Guarded::with_room(MOST_WORDS, 0xa5a5_a5a5_a5a5_a5a5),
-            entries: Guarded::with_room(MOST_ENTRIES, 0x5a5a),
-        };
-        side.words.set(&[0; WORDS]);
-        side.entries.set(&[0; 64]);
-        side
-    }
+fn fresh_side() -> Side {
+    let mut side = Side::with_room(MOST_WORDS, MOST_ENTRIES);
+    side.words.set(&[0; WORDS]);
+    side.entries.set(&[0; 64]);
+    side.table.set(&[FEATHERED; TABLE]);
+    side
 }
 
 /// An input while it is played.
@@ -66,10 +63,11 @@ pub fn play(
     rules: Rules,
     seen: &mut dyn FnMut(Cell),
 ) -> Result<u64, Difference> {
+    let after_marker = input.strip_prefix(CARD);
     let mut played = Played {
-        bytes: Bytes::new(input),
-        library: Side::new(),
-        second: Side::new(),
+        bytes: Bytes::new(after_marker.unwrap_or(input)),
+        library: fresh_side(),
+        second: fresh_side(),
         call_library,
         rules,
         words: [0; WORDS],
@@ -78,7 +76,10 @@ pub fn play(
         calls: 0,
     };
     while let Some(step) = played.bytes.next() {
-        played.step(usize::from(step), seen)?;
+        match step {
+            LEND_TABLE if after_marker.is_some() => played.lend_table(),
+            _ => played.step(usize::from(step), seen)?,
+        }
         if played.calls >= MOST_CALLS {
             break;
         }
@@ -351,6 +352,60 @@ impl Played<'_> {
         self.set_entries(&entries);
     }
 
+    /// A first table: another one, the one before with one entry or all from
+    /// one on changed, of another length, or none with a null pointer.
+    fn lend_table(&mut self) {
+        let mut table = self.second.table.lent().to_vec();
+        match self.bytes.byte() % 8 {
+            0 => table = vec![self.bytes.pitch(); TABLE],
+            1 => table = (0..TABLE).map(|_| self.bytes.pitch()).collect(),
+            2 => table = self.stepped(),
+            3 => self.change_entries(&mut table, |_, bytes| bytes.pitch(), 1),
+            4 => self.change_entries(&mut table, moved, 1),
+            5 => self.change_entries(&mut table, moved, usize::MAX),
+            6 => {
+                let last = table.last().copied().unwrap_or(FEATHERED);
+                table.resize(usize::from(self.bytes.byte() % 81), last);
+            }
+            _ => {
+                self.library.table.set_null();
+                self.second.table.set_null();
+                return;
+            }
+        }
+        self.library.table.set(&table);
+        self.second.table.set(&table);
+    }
+
+    /// A table by its first entry and its 31 steps.
+    fn stepped(&mut self) -> Vec<Pitch> {
+        let mut entry = self.bytes.pitch();
+        let mut table = vec![entry];
+        while table.len() < TABLE {
+            let step = Pitch::from(self.bytes.byte() as i8) * 12;
+            entry = entry.saturating_add(step).clamp(PITCH_LOW, PITCH_HIGH);
+            table.push(entry);
+        }
+        table
+    }
+
+    /// Changes the same way at most so many entries from a place on.
+    fn change_entries(
+        &mut self,
+        table: &mut [Pitch],
+        change: fn(Pitch, &mut Bytes) -> Pitch,
+        most: usize,
+    ) {
+        let place = usize::from(self.bytes.byte()) % table.len().max(1);
+        let Some(&entry) = table.get(place) else {
+            return;
+        };
+        let by = change(entry, &mut self.bytes).wrapping_sub(entry);
+        for entry in table.iter_mut().skip(place).take(most) {
+            *entry = entry.wrapping_add(by);
+        }
+    }
+
     /// Lends the words at this length, cut off or followed by zeros.
     fn set_words(&mut self, length: usize) {
         let mut words = self.words.to_vec();
@@ -368,17 +423,12 @@ impl Played<'_> {
     fn call(&mut self, call: &Call, seen: &mut dyn FnMut(Cell)) -> Result<Reply, Difference> {
         self.calls += 1;
         let (kind, place) = (self.kind_called(call), self.place_called(call));
-        let side = &mut self.library;
-        let lengths = (side.words.lent().len(), side.entries.lent().len());
-        let (words, entries) = (side.words.pointer(), side.entries.pointer());
         // The guarded cells are lent for the time of the call.
-        let numbers = unsafe { (self.call_library)(words, lengths.0, entries, lengths.1, call) };
+        let numbers = unsafe { (self.call_library)(self.library.lent(), call) };
         let side = &mut self.second;
-        let entries = side.entries.lent_mut();
-        let reply = lent::call(side.words.lent_mut(), entries, call, self.rules);
-        let alike = numbers == reply.numbers()
-            && self.library.words.whole() == self.second.words.whole()
-            && self.library.entries.whole() == self.second.entries.whole();
+        let (words, entries) = (side.words.lent_mut(), side.entries.lent_mut());
+        let reply = lent::call(words, entries, side.table.lent(), call, self.rules);
+        let alike = numbers == reply.numbers() && self.library.alike(&self.second);
         if !alike {
             return Err(self.difference(call, numbers, reply, None));
         }
@@ -387,10 +437,11 @@ impl Played<'_> {
         }
         let from = match numbers.code {
             1 => self.clause_alone(),
+            40..=42 => table_place(self.second.table.lent(), numbers.code),
             _ => place,
         };
         seen(Cell::new(kind, call.index(), from, numbers.code));
-        let kept = self.keep_list(call, kind, reply);
+        let kept = self.keep_list(call, reply);
         match kept {
             Ok(()) => Ok(reply),
             Err(fault) => Err(self.difference(call, numbers, reply, Some(fault))),
@@ -398,16 +449,11 @@ impl Played<'_> {
     }
 
     /// Demand 3, if this is a list from a fresh store.
-    fn keep_list(&mut self, call: &Call, kind: Option<Kind>, reply: Reply) -> Result<(), String> {
-        if let Call::Make {
-            readers,
-            publishers,
-            slots,
-            ..
-        } = *call
-        {
-            if let (Reply::Made, Some(kind)) = (reply, kind) {
-                self.list = Some(Demand3::fresh(kind, readers, publishers, slots));
+    fn keep_list(&mut self, call: &Call, reply: Reply) -> Result<(), String> {
+        if let Call::Make { .. } = call {
+            if let (Reply::Made, Some(making)) = (reply, Making::of(call)) {
+                let first = self.second.table.lent();
+                self.list = Some(Demand3::fresh(&making, first, self.rules));
             }
             return Ok(());
         }
@@ -463,25 +509,51 @@ impl Played<'_> {
         Difference {
             call_number: self.calls,
             call: *call,
+            table: match call {
+                Call::Make { .. } => Some(self.second.table.lent().to_vec()),
+                _ => None,
+            },
             lengths: (words.lent().len(), entries.lent().len()),
             library,
             second: second.numbers(),
             word: words.first_unlike(&self.second.words),
             entry: entries.first_unlike(&self.second.entries),
+            table_entry: self.library.table.first_unlike(&self.second.table),
             fault,
         }
     }
+}
+
+/// An entry moved by any number.
+fn moved(entry: Pitch, bytes: &mut Bytes) -> Pitch {
+    entry.wrapping_add(bytes.wide() as Pitch)
+}
+
+/// Where a first table is refused with this code: its length, or the first
+/// entry or pair that is refused.
+fn table_place(table: &[Pitch], code: u64) -> Option<u64> {
+    let outside = |entry: &Pitch| !(PITCH_LOW..=PITCH_HIGH).contains(entry);
+    let steep = |pair: &[Pitch]| pair[0].abs_diff(pair[1]) > 1500;
+    let place = match code {
+        40 => Some(table.len()),
+        41 => table.iter().position(outside),
+        _ => table.windows(2).position(steep),
+    };
+    place.map(|place| place as u64)
 }
 
 /// Where the two sides differ: the library's number first.
 pub struct Difference {
     call_number: u64,
     call: Call,
+    /// The first table lent to a making.
+    table: Option<Vec<Pitch>>,
     lengths: (usize, usize),
     library: Numbers,
     second: Numbers,
     word: Option<(Option<usize>, u64, u64)>,
     entry: Option<(Option<usize>, Pitch, Pitch)>,
+    table_entry: Option<(Option<usize>, Pitch, Pitch)>,
     fault: Option<String>,
 }
 
@@ -493,6 +565,9 @@ impl fmt::Display for Difference {
             "call {}: {}, {words} words and {entries} entries lent",
             self.call_number, self.call
         )?;
+        if let Some(table) = &self.table {
+            writeln!(f, "table:    {table:?}")?;
+        }
         writeln!(f, "library:  {}", self.library)?;
         writeln!(f, "second:   {}", self.second)?;
         if let Some((number, library, second)) = self.word {
@@ -502,6 +577,13 @@ impl fmt::Display for Difference {
         if let Some((number, library, second)) = self.entry {
             let name = number.map_or("in a guard".to_string(), |n| n.to_string());
             writeln!(f, "entry, {name}: library {library}, second {second}")?;
+        }
+        if let Some((number, library, lent)) = self.table_entry {
+            let name = number.map_or("in a guard".to_string(), |n| n.to_string());
+            writeln!(
+                f,
+                "first table, {name}: library left {library}, lent {lent}"
+            )?;
         }
         match &self.fault {
             Some(fault) => writeln!(f, "demand 3: {fault}"),

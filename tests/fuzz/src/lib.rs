@@ -5,6 +5,8 @@
 
 pub mod bytes;
 pub mod calls;
+#[path = "../../sheets/src/cards.rs"]
+pub mod cards;
 #[path = "../../compare/src/guarded.rs"]
 pub mod guarded;
 #[path = "../../sheets/src/pieces.rs"]
@@ -13,3 +15,5 @@ pub mod pieces;
 pub mod program;
 pub mod seen;
 pub mod sheet;
+#[path = "../../compare/src/slices.rs"]
+pub mod slices;

@@ -9,16 +9,17 @@
 #[path = "../../compare/src/library.rs"]
 mod library;
 
+use fuzzed::cards::Folder;
 use fuzzed::pieces::{Cut, Way};
 use fuzzed::seen::{missing_of_calls, missing_of_sheets, Answer, Cell};
-use fuzzed::sheet::Given;
-use fuzzed::{calls, program, sheet};
+use fuzzed::sheet::{Given, Wrote};
+use fuzzed::{calls, program, sheet, slices};
 use second::misread;
 use second::rules::{Alteration, Rules};
 use second::sheet::{lines, play, play_by};
 use std::collections::BTreeSet;
 use std::path::Path;
-use std::process::{Command, ExitCode};
+use std::process::ExitCode;
 
 /// An input of a corpus, by the name of its file.
 struct Input {
@@ -93,34 +94,45 @@ fn of_calls(input: &Input) -> Result<Reached, String> {
 /// second implementation stands in for it.
 fn of_sheet(input: &Input, path: Option<&Path>) -> Result<Reached, String> {
     let mut reached = Reached::default();
+    let given = Given::from_input(&input.bytes);
+    let (table, text) = (given.card.entries(), given.text);
     let mut seen = |cell| {
         reached.cells.insert(cell);
     };
-    let mut run = |given: &Given| match path {
-        Some(path) => printed(path, given),
-        None => Ok(play(given.text)),
+    let output = match path {
+        Some(path) => {
+            let mut run = |given: &Given| wrote(path, given);
+            sheet::compare(&input.bytes, &mut run, &mut seen)
+                .map_err(|difference| format!("{}\n{difference}", input.name))?
+        }
+        None => {
+            sheet::note(&table, text, &mut seen);
+            play(&table, text)
+        }
     };
-    let output = sheet::compare(&input.bytes, &mut run, &mut seen)
-        .map_err(|difference| format!("{}\n{difference}", input.name))?;
     reached.compared = lines(&output).count() as u64;
-    let text = Given::from_input(&input.bytes).text;
-    let misread = misread::all().filter(|misreading| misreading.play(text) != output);
+    let misread = misread::all();
+    let misread = misread.filter(|reading| reading.play(given.card.bytes(), text) != output);
     reached
         .altered
         .extend(misread.map(|misreading| misreading.name.to_string()));
     let altered = Alteration::all().into_iter();
-    let altered = altered.filter(|&a| play_by(Rules::altered(a), text) != output);
+    let altered = altered.filter(|&a| play_by(Rules::altered(a), &table, text) != output);
     reached.altered.extend(altered.map(Alteration::name));
     Ok(reached)
 }
 
-/// The program's output; each read is one datagram.
-fn printed(path: &Path, given: &Given) -> Result<Vec<u8>, String> {
+/// What the program wrote beside the card; each read is one datagram.
+fn wrote(path: &Path, given: &Given) -> Result<Wrote, String> {
+    let folder = Folder::with(&given.card)?;
     let way = Way::Datagrams(Cut::Whole);
-    let ended = program::run(&mut Command::new(path), given.text, way, &given.reads());
+    let ended = program::run(&mut folder.command(path), given.text, way, &given.reads());
     match ended.fault {
         Some(fault) => Err(fault),
-        None => Ok(ended.output),
+        None => Ok(Wrote {
+            output: ended.output,
+            error: ended.error,
+        }),
     }
 }
 
@@ -151,7 +163,7 @@ fn enough(what: &str, missing: Vec<String>, found: usize, least: usize) -> Resul
 
 /// How many alterations the kept corpus of sheets finds: all that can show on
 /// a sheet of fewer than 65536 bytes.
-const FOUND_BY_SHEETS: usize = 153;
+const FOUND_BY_SHEETS: usize = 199;
 
 fn replay(path: &Path, corpus: &Path) -> Result<(), String> {
     let given = inputs(&corpus.join("calls"))?;

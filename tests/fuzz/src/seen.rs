@@ -6,9 +6,9 @@ use second::damage::CLAUSES;
 use second::store::{Kind, KINDS};
 
 /// Every code of a reply, and 0 for a line that was unread.
-const CODES: [u64; 33] = [
-    0, 1, 2, 3, 4, 5, 6, 10, 11, 12, 13, 14, 20, 21, 30, 31, 32, 33, 100, 101, 102, 103, 104, 105,
-    106, 107, 108, 109, 110, 111, 112, 113, 114,
+const CODES: [u64; 36] = [
+    0, 1, 2, 3, 4, 5, 6, 10, 11, 12, 13, 14, 20, 21, 30, 31, 32, 33, 40, 41, 42, 100, 101, 102,
+    103, 104, 105, 106, 107, 108, 109, 110, 111, 112, 113, 114,
 ];
 const PLACES: usize = 40;
 
@@ -29,7 +29,9 @@ pub struct Cell {
 
 impl Cell {
     /// The place is that of the reader or publisher named, before the call;
-    /// with code 1, the number of the clause that spoils the store alone.
+    /// with code 1, the number of the clause that spoils the store alone;
+    /// with 40 the length of the first table, with 41 and 42 where it is
+    /// refused.
     pub fn new(kind: Option<Kind>, call: usize, place: Option<u64>, code: u64) -> Cell {
         let beyond = PLACES - 1;
         Cell {
@@ -114,7 +116,7 @@ fn missing(cells: &[Cell], mut wanted: Vec<Answer>) -> Vec<String> {
 /// The codes that this call can give on a store of this kind.
 fn codes(call: usize, kind: Kind) -> &'static [u64] {
     match (call, kind) {
-        (0, _) => &[2, 3, 4, 5, 6, 100],
+        (0, _) => &[2, 3, 4, 5, 6, 40, 41, 42, 100],
         (1, _) => &[1, 10, 20, 101],
         (2, _) => &[1, 10, 13, 20, 102],
         (3, _) => &[1, 10, 20, 103],

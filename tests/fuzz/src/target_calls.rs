@@ -6,7 +6,7 @@ mod counters;
 #[path = "../../compare/src/library.rs"]
 mod library;
 
-use fuzzed::calls;
+use fuzzed::{calls, slices};
 use second::rules::Rules;
 use std::sync::atomic::{AtomicU64, Ordering};
 

@@ -6,8 +6,12 @@ use crate::call::Call;
 use crate::demand3::Demand3;
 use crate::layout::WORDS;
 use crate::lent;
+use crate::making::Making;
 use crate::rules::{Alteration, Rules};
 use crate::store::{Kind, Pitch, KINDS};
+
+/// The first table of every example.
+const FIRST: [Pitch; 32] = [9000; 32];
 
 /// A store being played, with everything that went otherwise than told.
 struct Play {
@@ -39,13 +43,15 @@ impl Play {
             version,
         };
         play.says(make, "made");
-        play.demand3 = Some(Demand3::fresh(kind, readers, publishers, slots));
+        let making = Making::of(&make).expect("a known kind");
+        play.demand3 = Some(Demand3::fresh(&making, &FIRST, rules));
         play
     }
 
     /// Makes the call and notes if the reply is not this one.
     fn says(&mut self, call: Call, due: &str) {
-        let reply = lent::call(&mut self.words, &mut self.entries, &call, self.rules);
+        let (words, entries) = (&mut self.words, &mut self.entries);
+        let reply = lent::call(words, entries, &FIRST, &call, self.rules);
         self.lines
             .push(format!("({} {reply})", self.lines.len() + 1));
         self.note(
@@ -134,7 +140,7 @@ fn p1(rules: Rules) -> Vec<String> {
     let mut entries = vec![0; 64];
     let mut printed = String::new();
     for (n, call) in p1_calls().iter().enumerate() {
-        let reply = lent::call(&mut words, &mut entries, call, rules);
+        let reply = lent::call(&mut words, &mut entries, &FIRST, call, rules);
         printed.push_str(&format!("({} {reply})\n", n + 1));
     }
     let differs = |(due, line): &(&str, &str)| due != line;

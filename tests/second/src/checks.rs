@@ -6,30 +6,51 @@ use crate::damage::{Clause, CLAUSES};
 use crate::demand3::Demand3;
 use crate::layout::{name, pack, publisher_at, reader_at, unpack, KIND, WORDS};
 use crate::lent;
+use crate::making::Making;
 use crate::random::Random;
 use crate::rules::{Alteration, Rules};
 use crate::store::{Kind, Pitch, Store, KINDS};
+use crate::tables;
 use crate::turns::Scheduler;
 
 const AS_WRITTEN: Rules = Rules::AS_WRITTEN;
 
-fn made(kind: Kind, sizes: (u16, u16, u16), version: u64) -> ([u64; WORDS], Vec<Pitch>) {
+/// The first table of these tests: 100, 101 and so on to 131.
+fn first() -> [Pitch; 32] {
+    std::array::from_fn(|k| 100 + k as Pitch)
+}
+
+fn making(kind: Kind, sizes: (u16, u16, u16), version: u64) -> Call {
     let (readers, publishers, slots) = sizes;
-    let mut words = [77; WORDS];
-    let mut entries = vec![-3; usize::from(slots) * 32];
-    let kind = kind.number() as u16;
-    let make = Call::Make {
-        kind,
+    Call::Make {
+        kind: kind.number() as u16,
         readers,
         publishers,
         slots,
         version,
-    };
+    }
+}
+
+fn made(kind: Kind, sizes: (u16, u16, u16), version: u64) -> ([u64; WORDS], Vec<Pitch>) {
+    let mut words = [77; WORDS];
+    let mut entries = vec![-3; usize::from(sizes.2) * 32];
+    let make = making(kind, sizes, version);
     assert_eq!(
-        lent::call(&mut words, &mut entries, &make, AS_WRITTEN),
+        lent::call(&mut words, &mut entries, &first(), &make, AS_WRITTEN),
         Reply::Made
     );
     (words, entries)
+}
+
+/// One of the ten calls, to which no first table is lent.
+fn gives(words: &mut [u64], entries: &mut [Pitch], call: Call) -> Reply {
+    lent::call(words, entries, &[], &call, AS_WRITTEN)
+}
+
+/// What demand 3 hears of from a store of these sizes.
+fn demand3(kind: Kind, sizes: (u16, u16, u16), rules: Rules) -> Demand3 {
+    let making = Making::of(&making(kind, sizes, 0)).expect("a known kind");
+    Demand3::fresh(&making, &first(), rules)
 }
 
 /// The example of the page on the words, call by call.
@@ -42,7 +63,7 @@ fn words_are_those_of_the_page() {
         due[word] = u64::MAX;
     }
     assert_eq!(words, due);
-    assert_eq!(entries, vec![9000; 64]);
+    assert_eq!(entries, first().repeat(2));
     let enter = Call::Enter { r: 0 };
     let steps: [(Call, &[(usize, u64)]); 9] = [
         (enter, &[(9, 1), (10, 0)]),
@@ -56,12 +77,12 @@ fn words_are_those_of_the_page() {
         (Call::Leave { r: 0 }, &[(9, 0), (12, u64::MAX)]),
     ];
     for (call, changes) in steps {
-        lent::call(&mut words, &mut entries, &call, AS_WRITTEN);
+        gives(&mut words, &mut entries, call);
         for &(word, number) in changes {
             due[word] = number;
         }
         assert_eq!(words, due, "{call}");
-        assert_eq!(entries, vec![9000; 64], "{call}");
+        assert_eq!(entries, first().repeat(2), "{call}");
     }
 }
 
@@ -74,7 +95,7 @@ fn a_fresh_old_store_has_not_reading_in_every_record() {
         due[word] = u64::MAX;
     }
     assert_eq!(words, due);
-    assert_eq!(entries, vec![9000; 1024]);
+    assert_eq!(entries, first().repeat(32));
 }
 
 #[test]
@@ -132,51 +153,111 @@ fn replies_and_numbers_agree() {
     assert_eq!(Reply::from_numbers(numbers(114, 3, 9)), Some(freed));
 }
 
+/// The rows of making, each with one call.
+#[test]
+fn makings_are_refused_in_the_order_of_the_rows() {
+    let mut entries = vec![0; 64];
+    let mut words = [5; WORDS];
+    let mut refused = |sizes, version, table: &[Pitch]| {
+        let make = making(Kind::Old, sizes, version);
+        lent::call(&mut words, &mut entries, table, &make, AS_WRITTEN)
+    };
+    let steep = tables::with_step(3, 1501, &mut Random::from_seed(1));
+    let good = (64, 16, 2);
+    assert_eq!(refused((0, 0, 1), u64::MAX, &[]), Reply::Refused(2));
+    assert_eq!(refused((64, 17, 33), u64::MAX, &[]), Reply::Refused(3));
+    assert_eq!(refused((64, 16, 33), u64::MAX, &[]), Reply::Refused(4));
+    assert_eq!(refused((64, 16, 3), u64::MAX, &[]), Reply::Refused(5));
+    assert_eq!(refused(good, 1 << 63, &[]), Reply::Refused(6));
+    assert_eq!(refused(good, 1 << 63, &[9501; 31]), Reply::Refused(6));
+    assert_eq!(refused(good, 0, &[]), Reply::Refused(40));
+    assert_eq!(refused(good, 0, &[9501; 31]), Reply::Refused(40));
+    assert_eq!(refused(good, 0, &[9501; 32]), Reply::Refused(41));
+    assert_eq!(refused(good, 0, &steep), Reply::Refused(42));
+    assert_eq!(refused(good, (1 << 63) - 1, &first()), Reply::Made);
+}
+
+fn refused_table(table: &[Pitch]) -> Reply {
+    let (mut words, mut entries) = ([5; WORDS], vec![7; 96]);
+    let make = making(Kind::New, (1, 1, 3), 0);
+    let reply = lent::call(&mut words, &mut entries, table, &make, AS_WRITTEN);
+    match reply {
+        Reply::Made => assert_eq!(entries, table.repeat(3)),
+        _ => assert_eq!((words, entries), ([5; WORDS], vec![7; 96])),
+    }
+    reply
+}
+
+/// 40, 41 and 42 at their borders.
+#[test]
+fn first_tables_are_refused_at_their_borders() {
+    let made = Reply::Made;
+    assert_eq!(refused_table(&[9000; 32]), made);
+    for length in [0, 1, 31, 33, 64, 96] {
+        assert_eq!(refused_table(&vec![9000; length]), Reply::Refused(40));
+        assert_eq!(refused_table(&vec![9501; length]), Reply::Refused(40));
+    }
+    for k in 0..32 {
+        let with = |entry: Pitch, others: Pitch| {
+            let mut table = [others; 32];
+            table[k] = entry;
+            refused_table(&table)
+        };
+        assert_eq!(with(-500, 1000), made, "entry {k}");
+        assert_eq!(with(-501, -500), Reply::Refused(41), "entry {k}");
+        assert_eq!(with(9500, 8000), made, "entry {k}");
+        assert_eq!(with(9501, 9500), Reply::Refused(41), "entry {k}");
+        assert_eq!(with(Pitch::MAX, -500), Reply::Refused(41), "entry {k}");
+        assert_eq!(with(Pitch::MIN, 9500), Reply::Refused(41), "entry {k}");
+    }
+    for pair in 0..31 {
+        let with = |one: Pitch, next: Pitch| {
+            let mut table = [one; 32];
+            table[pair + 1..].fill(next);
+            refused_table(&table)
+        };
+        assert_eq!(with(-500, 1000), made, "pair {pair}");
+        assert_eq!(with(-500, 1001), Reply::Refused(42), "pair {pair}");
+        assert_eq!(with(9500, 8000), made, "pair {pair}");
+        assert_eq!(with(9500, 7999), Reply::Refused(42), "pair {pair}");
+    }
+}
+
+/// Entries 31 and 0 are no neighbours, and every entry comes before a pair.
+#[test]
+fn first_tables_have_31_pairs_after_32_entries() {
+    let rising: [Pitch; 32] = std::array::from_fn(|k| k as Pitch * 300);
+    assert_eq!(refused_table(&rising), Reply::Made);
+    let falling: [Pitch; 32] = std::array::from_fn(|k| 9300 - k as Pitch * 300);
+    assert_eq!(refused_table(&falling), Reply::Made);
+    let mut both = rising;
+    both[0] = 1801;
+    assert_eq!(refused_table(&both), Reply::Refused(42));
+    both[31] = 9501;
+    assert_eq!(refused_table(&both), Reply::Refused(41));
+    assert_eq!(refused_table(&both[..31]), Reply::Refused(40));
+}
+
 /// The traps of refusal order and of the ends, each with one call.
 #[test]
 fn refusals_come_in_the_order_of_the_table() {
-    let mut entries = vec![0; 64];
-    let mut words = [5; WORDS];
-    let mut refused = |readers, publishers, slots, version| {
-        let make = Call::Make {
-            kind: Kind::Old.number() as u16,
-            readers,
-            publishers,
-            slots,
-            version,
-        };
-        lent::call(&mut words, &mut entries, &make, AS_WRITTEN)
-    };
-    assert_eq!(refused(0, 0, 1, u64::MAX), Reply::Refused(2));
-    assert_eq!(refused(64, 17, 33, u64::MAX), Reply::Refused(3));
-    assert_eq!(refused(64, 16, 33, u64::MAX), Reply::Refused(4));
-    assert_eq!(refused(64, 16, 3, u64::MAX), Reply::Refused(5));
-    assert_eq!(refused(64, 16, 2, 1 << 63), Reply::Refused(6));
-    assert_eq!(refused(64, 16, 2, (1 << 63) - 1), Reply::Made);
-
     let (mut words, mut entries) = made(Kind::Old, (1, 2, 2), 0);
-    let mut gives = |call| lent::call(&mut words, &mut entries, &call, AS_WRITTEN);
-    assert_eq!(gives(Call::Look { r: 1, k: 32 }), Reply::Refused(10));
-    assert_eq!(gives(Call::Look { r: 0, k: 32 }), Reply::Refused(13));
-    assert_eq!(gives(Call::Look { r: 0, k: 31 }), Reply::Refused(20));
-    assert_eq!(gives(Call::Claim { p: 2, s: 2 }), Reply::Refused(11));
-    assert_eq!(gives(Call::Claim { p: 0, s: 0 }), Reply::Refused(30));
-    assert_eq!(gives(Call::Claim { p: 0, s: 1 }), Reply::Claimed(1));
-    assert_eq!(gives(Call::Claim { p: 0, s: 2 }), Reply::Refused(12));
-    assert_eq!(gives(Call::Claim { p: 0, s: 1 }), Reply::Refused(21));
-    assert_eq!(gives(Call::Claim { p: 1, s: 0 }), Reply::Refused(31));
-    assert_eq!(gives(Call::Write { p: 1, v: -501 }), Reply::Refused(14));
-    assert_eq!(gives(Call::Write { p: 1, v: -500 }), Reply::Refused(21));
+    let mut says = |call| gives(&mut words, &mut entries, call);
+    assert_eq!(says(Call::Look { r: 1, k: 32 }), Reply::Refused(10));
+    assert_eq!(says(Call::Look { r: 0, k: 32 }), Reply::Refused(13));
+    assert_eq!(says(Call::Look { r: 0, k: 31 }), Reply::Refused(20));
+    assert_eq!(says(Call::Claim { p: 2, s: 2 }), Reply::Refused(11));
+    assert_eq!(says(Call::Claim { p: 0, s: 0 }), Reply::Refused(30));
+    assert_eq!(says(Call::Claim { p: 0, s: 1 }), Reply::Claimed(1));
+    assert_eq!(says(Call::Claim { p: 0, s: 2 }), Reply::Refused(12));
+    assert_eq!(says(Call::Claim { p: 0, s: 1 }), Reply::Refused(21));
+    assert_eq!(says(Call::Claim { p: 1, s: 0 }), Reply::Refused(31));
+    assert_eq!(says(Call::Write { p: 1, v: -501 }), Reply::Refused(14));
+    assert_eq!(says(Call::Write { p: 1, v: -500 }), Reply::Refused(21));
     words[1] = 0;
     let enter = Call::Enter { r: 9 };
-    assert_eq!(
-        lent::call(&mut words, &mut entries, &enter, AS_WRITTEN),
-        Reply::Refused(1)
-    );
-    assert_eq!(
-        lent::call(&mut words[..424], &mut [], &enter, AS_WRITTEN),
-        Reply::Refused(1)
-    );
+    assert_eq!(gives(&mut words, &mut entries, enter), Reply::Refused(1));
+    assert_eq!(gives(&mut words[..424], &mut [], enter), Reply::Refused(1));
 }
 
 /// 33 looks at looks + b, also when an old walk would make one look only.
@@ -186,20 +267,13 @@ fn sums_of_looks_end_at_the_highest_number() {
         let (mut words, mut entries) = made(kind, (1, 1, 2), 7);
         let at = publisher_at(0);
         words[at..at + 6].copy_from_slice(&[37, 1, 7, 0, u64::MAX - 3, u64::MAX - 3]);
-        let mut gives = |b| {
-            lent::call(
-                &mut words,
-                &mut entries,
-                &Call::Walk { p: 0, b },
-                AS_WRITTEN,
-            )
-        };
-        assert_eq!(gives(4), Reply::Refused(33));
+        let mut walk = |b| gives(&mut words, &mut entries, Call::Walk { p: 0, b });
+        assert_eq!(walk(4), Reply::Refused(33));
         let returned = Reply::Returned {
             looks: u64::MAX - 2,
             waits: u64::MAX - 3,
         };
-        assert_eq!(gives(3), returned);
+        assert_eq!(walk(3), returned);
     }
 }
 
@@ -231,7 +305,7 @@ fn clauses_are_told_apart() {
 #[test]
 fn alterations_have_names_of_their_own() {
     let all = Alteration::all();
-    assert!(all.len() > 90, "{} alterations", all.len());
+    assert!(all.len() > 120, "{} alterations", all.len());
     for (n, &alteration) in all.iter().enumerate() {
         assert_eq!(Alteration::by_name(&alteration.name()), Some(alteration));
         assert!(all[..n]
@@ -249,7 +323,11 @@ fn alterations_have_names_of_their_own() {
 
 /// What demand 3 says of a told list: each call with its reply.
 fn told(kind: Kind, list: &[(Call, Reply)]) -> Result<(), String> {
-    let mut demand3 = Demand3::fresh(kind, 2, 2, 3);
+    told_by(AS_WRITTEN, kind, list)
+}
+
+fn told_by(rules: Rules, kind: Kind, list: &[(Call, Reply)]) -> Result<(), String> {
+    let mut demand3 = demand3(kind, (2, 2, 3), rules);
     list.iter()
         .try_for_each(|(call, reply)| demand3.hear(call, reply))
 }
@@ -288,11 +366,15 @@ fn the_shelf_knows_which_table_was_picked() {
         let published = publication(0, 1, 55, 0);
         told(Kind::New, &[before, &published[..], after].concat())
     };
-    assert_eq!(list(&[OPENS, PICKS], &[looks(9000)]), Ok(()));
+    assert_eq!(list(&[OPENS, PICKS], &[looks(103)]), Ok(()));
+    assert!(list(&[OPENS, PICKS], &[looks(9000)]).is_err());
     assert!(list(&[OPENS, PICKS], &[looks(55)]).is_err());
     assert_eq!(list(&[OPENS], &[PICKS, looks(55)]), Ok(()));
-    assert!(list(&[OPENS], &[PICKS, looks(9000)]).is_err());
-    assert!(list(&[OPENS], &[looks(9000)]).is_err());
+    assert!(list(&[OPENS], &[PICKS, looks(103)]).is_err());
+    assert!(list(&[OPENS], &[looks(103)]).is_err());
+    let feathered = Rules::altered(Alteration::ShelfFeathered);
+    let looked = |v| told_by(feathered, Kind::Old, &[OPENS, PICKS, looks(v)]);
+    assert_eq!((looked(103).is_err(), looked(9000)), (true, Ok(())));
 }
 
 #[test]
@@ -343,11 +425,11 @@ fn slots_taken_twice_or_freed_early_are_found() {
 #[test]
 fn records_are_compared_with_what_was_told() {
     let (mut words, mut entries) = made(Kind::New, (2, 2, 3), 0);
-    let mut demand3 = Demand3::fresh(Kind::New, 2, 2, 3);
+    let mut demand3 = demand3(Kind::New, (2, 2, 3), AS_WRITTEN);
     let mut calls = vec![Call::Enter { r: 1 }; 5];
     calls.push(Call::Claim { p: 1, s: 2 });
     for call in calls {
-        let reply = lent::call(&mut words, &mut entries, &call, AS_WRITTEN);
+        let reply = gives(&mut words, &mut entries, call);
         assert_eq!(demand3.hear(&call, &reply), Ok(()));
         assert_eq!(demand3.recorded(&words), Ok(()));
     }
@@ -374,11 +456,11 @@ fn first_fault(kind: Kind, rules: Rules, calls: u64) -> Option<String> {
     for _ in 0..calls / 1000 {
         let sizes = random.pick(&[(2, 2, 3), (1, 1, 2), (5, 3, 6)]);
         let (mut words, mut entries) = made(kind, sizes, random.below(3));
-        let mut demand3 = Demand3::fresh(kind, sizes.0, sizes.1, sizes.2);
+        let mut demand3 = demand3(kind, sizes, rules);
         let mut scheduler = Scheduler::new(&mut random);
         for _ in 0..1000 {
             let call = scheduler.next(&words, &mut random);
-            let reply = lent::call(&mut words, &mut entries, &call, rules);
+            let reply = lent::call(&mut words, &mut entries, &[], &call, rules);
             let kept = demand3
                 .hear(&call, &reply)
                 .and_then(|()| demand3.recorded(&words));
@@ -417,6 +499,7 @@ fn demand_3_falls_under_altered_rules() {
         A::WaitNotALook,
         A::SyncKeepsLooks,
         A::WaitsNotCounted,
+        A::ShelfFeathered,
     ];
     let old = [
         A::ReleasesAt37,
@@ -429,6 +512,7 @@ fn demand_3_falls_under_altered_rules() {
         A::DepartsByVersion,
         A::WaitNotALook,
         A::OldLooksAreB,
+        A::ShelfFeathered,
     ];
     for (kind, alterations) in [(Kind::New, &new[..]), (Kind::Old, &old[..])] {
         for &alteration in alterations {

@@ -6,8 +6,10 @@
 
 use crate::call::{Call, Reply};
 use crate::layout::{publisher_at, reader_at, CURRENT, WORDS};
+use crate::making::Making;
+use crate::rules::Rules;
 use crate::shelf::Shelf;
-use crate::store::{Kind, MOST_PUBLISHERS, MOST_READERS};
+use crate::store::{Kind, Pitch, MOST_PUBLISHERS, MOST_READERS};
 
 /// A section has a serial number, so that a later one of the same reader is
 /// not taken for it.
@@ -41,14 +43,14 @@ pub struct Demand3 {
 }
 
 impl Demand3 {
-    /// The list begins after an accepted making with these sizes.
-    pub fn fresh(kind: Kind, readers: u16, publishers: u16, slots: u16) -> Demand3 {
+    /// The list begins after this making was accepted with this first table.
+    pub fn fresh(making: &Making, first: &[Pitch], rules: Rules) -> Demand3 {
         Demand3 {
-            kind,
-            readers: u64::from(readers),
-            publishers: u64::from(publishers),
-            slots: u64::from(slots),
-            shelf: Shelf::fresh(),
+            kind: making.kind,
+            readers: u64::from(making.readers),
+            publishers: u64::from(making.publishers),
+            slots: u64::from(making.slots),
+            shelf: Shelf::fresh(first, rules),
             current: 0,
             sections: [Section::default(); MOST_READERS],
             holders: vec![Holder::default(); MOST_PUBLISHERS],

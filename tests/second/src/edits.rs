@@ -1,9 +1,10 @@
-//! The changes that the alterations of the sheet make to texts, lines,
-//! arguments, calls and printed lines.
+//! The changes that the alterations of the sheet make to cards, texts,
+//! lines, arguments, calls and printed lines.
 
 use crate::call::{Call, Reply, CALL_NAMES};
-use crate::sheet::{lines, printed, LONGEST};
-use crate::store::{Kind, Pitch, KINDS, PITCH_HIGH, PITCH_LOW};
+use crate::card::entries_if_any;
+use crate::sheet::{lines, pitch, printed, LONGEST};
+use crate::store::{Kind, Pitch, FEATHERED, KINDS, PITCH_HIGH, PITCH_LOW, TABLE};
 
 /// What an argument is.
 #[derive(Clone, Copy, PartialEq, Eq, Debug)]
@@ -16,6 +17,77 @@ pub enum Role {
 
 /// An argument that nobody reads.
 const UNREADABLE: &[u8] = b"?";
+
+// Cards.
+
+/// The card's entries, with each line changed before it is read.
+pub fn card_with_lines(card: Option<&[u8]>, change: fn(&[u8]) -> Vec<u8>) -> Vec<Pitch> {
+    let entries = lines(card.unwrap_or_default()).map(|line| pitch(&change(line)));
+    entries.collect::<Option<Vec<Pitch>>>().unwrap_or_default()
+}
+
+/// The entries of a card with a bad line are those of a feathered one.
+pub fn feathered_if_bad(card: Option<&[u8]>) -> Vec<Pitch> {
+    let bad = lines(card.unwrap_or_default()).any(|line| pitch(line).is_none());
+    match bad {
+        true => vec![FEATHERED; TABLE],
+        false => entries_if_any(card),
+    }
+}
+
+pub fn feathered_if_empty(card: Option<&[u8]>) -> Vec<Pitch> {
+    match card {
+        Some([]) => vec![FEATHERED; TABLE],
+        _ => entries_if_any(card),
+    }
+}
+
+pub fn good_lines(card: Option<&[u8]>) -> Vec<Pitch> {
+    lines(card.unwrap_or_default()).filter_map(pitch).collect()
+}
+
+pub fn before_bad_line(card: Option<&[u8]>) -> Vec<Pitch> {
+    lines(card.unwrap_or_default()).map_while(pitch).collect()
+}
+
+pub fn zero_if_bad(line: &[u8]) -> Vec<u8> {
+    match pitch(line) {
+        Some(_) => line.to_vec(),
+        None => b"0".to_vec(),
+    }
+}
+
+/// Blank lines are left out, everywhere or at the end alone.
+pub fn without_blank(card: Option<&[u8]>, at_end: bool) -> Vec<Pitch> {
+    let mut kept: Vec<&[u8]> = lines(card.unwrap_or_default()).collect();
+    while let Some([]) = kept.last() {
+        kept.pop();
+    }
+    kept.retain(|line| at_end || !line.is_empty());
+    let entries: Option<Vec<Pitch>> = kept.into_iter().map(pitch).collect();
+    entries.unwrap_or_default()
+}
+
+pub fn first_32(card: Option<&[u8]>) -> Vec<Pitch> {
+    let first = lines(card.unwrap_or_default()).take(TABLE).map(pitch);
+    first.collect::<Option<Vec<Pitch>>>().unwrap_or_default()
+}
+
+pub fn filled_to_32(card: Option<&[u8]>) -> Vec<Pitch> {
+    let mut entries = entries_if_any(card);
+    if let Some(&last) = entries.last() {
+        entries.resize(entries.len().max(TABLE), last);
+    }
+    entries
+}
+
+/// After a last newline there is one more line, which is empty.
+pub fn line_after_last(card: Option<&[u8]>) -> Vec<Pitch> {
+    match card {
+        Some(bytes) if bytes.ends_with(b"\n") => Vec::new(),
+        _ => entries_if_any(card),
+    }
+}
 
 // Texts.
 

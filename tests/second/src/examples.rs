@@ -1,14 +1,29 @@
 //! Whole sheets with their outputs, worked out by hand from document 01.
+//! The card beside them is that of a feathered blade; the examples of cards
+//! have their own.
 
-/// A sheet and what must be printed for it.
+use crate::card;
+use crate::card_examples;
+use crate::store::Pitch;
+
+/// A sheet, the card beside it, which may be missing, and what must be
+/// printed for it.
 pub struct Example {
     pub name: &'static str,
+    pub card: Option<Vec<u8>>,
     pub input: Vec<u8>,
     pub output: Vec<u8>,
 }
 
+impl Example {
+    /// The card's entries.
+    pub fn entries(&self) -> Vec<Pitch> {
+        card::entries_if_any(self.card.as_deref())
+    }
+}
+
 /// A line without its newline, and what is said of it after its number.
-type Line = (&'static [u8], &'static str);
+pub type Line = (&'static [u8], &'static str);
 
 const P1_INPUT: &[u8] = b"(store new 1 1 2 0)
 (enter 0)
@@ -440,14 +455,14 @@ const OLD_AFTER: &[Line] = &[
 
 /// A sheet being put together.
 #[derive(Default)]
-struct Table {
+pub struct Table {
     lines: u64,
     input: Vec<u8>,
     output: Vec<u8>,
 }
 
 impl Table {
-    fn says(mut self, line: &[u8], reply: &str) -> Table {
+    pub fn says(mut self, line: &[u8], reply: &str) -> Table {
         self.lines += 1;
         self.input.extend_from_slice(line);
         self.input.push(b'\n');
@@ -456,7 +471,7 @@ impl Table {
         self
     }
 
-    fn say(self, lines: &[Line]) -> Table {
+    pub fn say(self, lines: &[Line]) -> Table {
         lines
             .iter()
             .fold(self, |table, (line, reply)| table.says(line, reply))
@@ -481,8 +496,14 @@ impl Table {
     }
 
     fn named(self, name: &'static str) -> Example {
+        self.beside(name, Some(card::feathered()))
+    }
+
+    /// The sheet beside this card.
+    pub fn beside(self, name: &'static str, card: Option<Vec<u8>>) -> Example {
         Example {
             name,
+            card,
             input: self.input,
             output: self.output,
         }
@@ -580,6 +601,7 @@ fn publications() -> Vec<Example> {
 pub fn all() -> Vec<Example> {
     let in_full = |&(name, input, output): &(&'static str, &[u8], &[u8])| Example {
         name,
+        card: Some(card::feathered()),
         input: input.to_vec(),
         output: output.to_vec(),
     };
@@ -587,5 +609,6 @@ pub fn all() -> Vec<Example> {
     examples.extend(by_lines());
     examples.extend(by_unread_lines());
     examples.extend(publications());
+    examples.extend(card_examples::all());
     examples
 }

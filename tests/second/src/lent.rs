@@ -1,46 +1,51 @@
 //! The calls over lent slices, as C makes them.
 
-use crate::call::{Call, Reply};
+use crate::call::{Call, Refusal, Reply};
+use crate::first_table;
 use crate::layout::{pack, unpack, WORDS};
-use crate::making::make;
+use crate::making::{make, Making};
 use crate::rules::{Alteration, Rules};
-use crate::store::{Kind, Pitch};
+use crate::store::Pitch;
 
-/// Making or one of the ten calls. A refusal leaves both slices as lent.
-pub fn call(words: &mut [u64], entries: &mut [Pitch], call: &Call, rules: Rules) -> Reply {
+/// Making, to which a first table is lent too, or one of the ten calls. A
+/// refusal leaves every slice as lent.
+pub fn call(
+    words: &mut [u64],
+    entries: &mut [Pitch],
+    table: &[Pitch],
+    call: &Call,
+    rules: Rules,
+) -> Reply {
     let Ok(words) = <&mut [u64; WORDS]>::try_from(words) else {
         return Reply::Refused(1);
     };
     match call {
-        Call::Make { .. } => make_lent(words, entries, call, rules),
+        Call::Make { .. } => Reply::from(make_lent(words, entries, table, call, rules)),
         _ => call_lent(words, entries, call, rules),
     }
 }
 
-fn make_lent(words: &mut [u64; WORDS], entries: &mut [Pitch], call: &Call, rules: Rules) -> Reply {
-    let Call::Make {
-        kind,
-        readers,
-        publishers,
-        slots,
-        version,
-    } = *call
-    else {
-        unreachable!("only a making comes here");
-    };
-    let Some(kind) = Kind::from_number(u64::from(kind)) else {
-        return Reply::Refused(1);
-    };
-    match make(kind, readers, publishers, slots, version, entries, rules) {
+fn make_lent(
+    words: &mut [u64; WORDS],
+    entries: &mut [Pitch],
+    table: &[Pitch],
+    call: &Call,
+    rules: Rules,
+) -> Result<Reply, Refusal> {
+    if rules.has(Alteration::TableLengthBeforeKind) {
+        first_table::refuse_length(table, rules)?;
+    }
+    let making = Making::of(call).ok_or(Refusal(1))?;
+    match make(&making, entries, table, rules) {
         Ok(store) => {
             pack(&store, words);
-            Reply::Made
+            Ok(Reply::Made)
         }
         Err(refusal) => {
             if rules.has(Alteration::RefusedMakingClears) {
                 words.fill(0);
             }
-            Reply::Refused(refusal.0)
+            Err(refusal)
         }
     }
 }

@@ -1,14 +1,18 @@
 //! The second implementation of the pitch table store, old and new.
 //!
-//! It was written from document 01, the page on the words and the numbers of
-//! the C replies alone, without a look at the product. It keeps the store in
-//! structs of its own and only packs it into words to be compared.
+//! It was written from documents 01 and 02, the page on the words and the
+//! numbers of the C replies alone, without a look at the product. It keeps
+//! the store in structs of its own and only packs it into words to be
+//! compared.
 
 pub mod call;
+pub mod card;
+pub mod card_examples;
 pub mod damage;
 pub mod demand3;
 pub mod edits;
 pub mod examples;
+pub mod first_table;
 pub mod layout;
 pub mod lent;
 pub mod making;
@@ -20,6 +24,7 @@ pub mod rules;
 pub mod sheet;
 pub mod shelf;
 pub mod store;
+pub mod tables;
 pub mod turns;
 pub mod walk;
 

@@ -1,57 +1,96 @@
 //! Making a store.
 
-use crate::call::Refusal;
+use crate::call::{Call, Refusal};
+use crate::first_table;
 use crate::rules::{Alteration, Rules};
 use crate::store::{
-    Kind, Pitch, Publisher, Reader, Store, FEATHERED, MOST_PUBLISHERS, MOST_READERS, MOST_SLOTS,
-    NOT_READING, TABLE,
+    Kind, Pitch, Publisher, Reader, Store, MOST_PUBLISHERS, MOST_READERS, MOST_SLOTS, NOT_READING,
+    TABLE,
 };
 
-/// A fresh store, or a refusal that leaves the entries as lent.
+/// What a making is given, besides the lent slices.
+#[derive(Clone, Copy, PartialEq, Eq, Debug)]
+pub struct Making {
+    pub kind: Kind,
+    pub readers: u16,
+    pub publishers: u16,
+    pub slots: u16,
+    pub version: u64,
+}
+
+impl Making {
+    /// The making that a call asks for; none if no kind has its number.
+    pub fn of(call: &Call) -> Option<Making> {
+        let Call::Make {
+            kind,
+            readers,
+            publishers,
+            slots,
+            version,
+        } = *call
+        else {
+            return None;
+        };
+        Some(Making {
+            kind: Kind::from_number(u64::from(kind))?,
+            readers,
+            publishers,
+            slots,
+            version,
+        })
+    }
+}
+
+/// A fresh store, or a refusal that leaves the entries as lent. The first
+/// table is lent to be read alone.
 pub fn make(
-    kind: Kind,
-    readers: u16,
-    publishers: u16,
-    slots: u16,
-    version: u64,
+    making: &Making,
     entries: &mut [Pitch],
+    table: &[Pitch],
     rules: Rules,
 ) -> Result<Store, Refusal> {
-    let late_version = version > first_version_limit(kind, rules);
-    let wrong_length = entries.len() != usize::from(slots) * TABLE;
+    refuse(making, entries.len(), table, rules)?;
+    first_table::fill(entries, table, rules);
+    Ok(Store {
+        kind: making.kind,
+        readers: u64::from(making.readers),
+        publishers: u64::from(making.publishers),
+        slots: u64::from(making.slots),
+        current: 0,
+        version: making.version,
+        releases: 0,
+        indicators: [0, 0],
+        reader: fresh_readers(making.kind, making.readers, rules),
+        publisher: [Publisher::default(); MOST_PUBLISHERS],
+    })
+}
+
+fn refuse(making: &Making, length: usize, table: &[Pitch], rules: Rules) -> Result<(), Refusal> {
+    let late_version = making.version > first_version_limit(making.kind, rules);
+    let wrong_length = length != usize::from(making.slots) * TABLE;
     if rules.has(Alteration::MakingVersionFirst) && late_version {
         return Err(Refusal(6));
     }
     if rules.has(Alteration::MakingLengthFirst) && wrong_length {
         return Err(Refusal(5));
     }
-    refuse_sizes(readers, publishers, slots, rules)?;
+    if rules.has(Alteration::TableLengthFirst) {
+        first_table::refuse_length(table, rules)?;
+    }
+    refuse_sizes(making, rules)?;
     if wrong_length {
         return Err(Refusal(5));
+    }
+    if rules.has(Alteration::TableLengthBeforeVersion) {
+        first_table::refuse_length(table, rules)?;
     }
     if late_version {
         return Err(Refusal(6));
     }
-    entries.fill(if rules.has(Alteration::FreshEntriesZero) {
-        0
-    } else {
-        FEATHERED
-    });
-    Ok(Store {
-        kind,
-        readers: u64::from(readers),
-        publishers: u64::from(publishers),
-        slots: u64::from(slots),
-        current: 0,
-        version,
-        releases: 0,
-        indicators: [0, 0],
-        reader: fresh_readers(kind, readers, rules),
-        publisher: [Publisher::default(); MOST_PUBLISHERS],
-    })
+    first_table::refuse(table, rules)
 }
 
-fn refuse_sizes(readers: u16, publishers: u16, slots: u16, rules: Rules) -> Result<(), Refusal> {
+fn refuse_sizes(making: &Making, rules: Rules) -> Result<(), Refusal> {
     let most_readers = if rules.has(Alteration::Making65Readers) {
         65
     } else {
@@ -62,13 +101,13 @@ fn refuse_sizes(readers: u16, publishers: u16, slots: u16, rules: Rules) -> Resu
     } else {
         2
     };
-    if !(1..=most_readers).contains(&usize::from(readers)) {
+    if !(1..=most_readers).contains(&usize::from(making.readers)) {
         return Err(Refusal(2));
     }
-    if !(1..=MOST_PUBLISHERS).contains(&usize::from(publishers)) {
+    if !(1..=MOST_PUBLISHERS).contains(&usize::from(making.publishers)) {
         return Err(Refusal(3));
     }
-    if !(fewest_slots..=MOST_SLOTS).contains(&usize::from(slots)) {
+    if !(fewest_slots..=MOST_SLOTS).contains(&usize::from(making.slots)) {
         return Err(Refusal(4));
     }
     Ok(())

@@ -6,15 +6,20 @@
 //! bytes is unread cannot be altered: no well shaped line is that long.
 
 use crate::call::{Call, Reply};
+use crate::card::{self, entries_if_any};
 use crate::edits::{self, Role};
 use crate::rules::Rules;
 use crate::sheet::{lines, play_by, printed, read, Sheet, LONGEST};
-use crate::store::{Kind, FEATHERED};
+use crate::store::{self, Kind, FEATHERED};
 use Role::{Number, Pitch, Version};
-use Step::{Argument, Line, Output, Print, Skip, Text};
+use Step::{Argument, Card, CardLine, Line, Output, Print, Skip, Text};
 
 /// Where an alteration takes hold.
 enum Step {
+    /// Another way from the card, if there is one, to its entries.
+    Card(fn(Option<&[u8]>) -> Vec<store::Pitch>),
+    /// A line of the card is changed before it is read.
+    CardLine(fn(&[u8]) -> Vec<u8>),
     /// The text is changed before it is taken into lines.
     Text(fn(&[u8]) -> Vec<u8>),
     /// A line is changed before it is read.
@@ -43,6 +48,59 @@ pub struct Misreading {
 const fn altered(name: &'static str, text: &'static str, step: Step) -> Misreading {
     Misreading { name, text, step }
 }
+
+#[rustfmt::skip]
+const CARDS: &[Misreading] = &[
+    altered("card-missing-feathered", "a missing card counts as feathered",
+        Card(|card| card::entries(card.unwrap_or(&card::feathered())))),
+    altered("card-missing-zero", "a missing card counts as 32 times 0",
+        Card(|card| card.map_or(vec![0; store::TABLE], card::entries))),
+    altered("card-unusable-feathered", "a card with a bad line counts as feathered",
+        Card(edits::feathered_if_bad)),
+    altered("card-empty-feathered", "an empty card counts as feathered",
+        Card(edits::feathered_if_empty)),
+    altered("card-bad-line-skipped", "a bad line of the card is skipped",
+        Card(edits::good_lines)),
+    altered("card-bad-line-is-0", "a bad line of the card is read as 0",
+        CardLine(edits::zero_if_bad)),
+    altered("card-ends-at-bad-line", "a card keeps the entries before a bad line",
+        Card(edits::before_bad_line)),
+    altered("card-blank-skipped", "a blank line of the card is read as nothing",
+        Card(|card| edits::without_blank(card, false))),
+    altered("card-blank-end-skipped", "blank lines at the end of the card are read as nothing",
+        Card(|card| edits::without_blank(card, true))),
+    altered("card-cut-to-32", "a card of more than 32 lines is cut to 32", Card(edits::first_32)),
+    altered("card-filled-to-32", "a card of fewer lines is filled up with its last",
+        Card(edits::filled_to_32)),
+    altered("card-last-dropped", "a last line of the card without its newline is dropped",
+        Card(|card| entries_if_any(card.map(edits::without_the_unfinished).as_deref()))),
+    altered("card-line-after-last", "after a last newline the card has one more line",
+        Card(edits::line_after_last)),
+    altered("card-return", "a carriage return may end a line of the card",
+        CardLine(|line| line.strip_suffix(b"\r").unwrap_or(line).to_vec())),
+    altered("card-plus", "a plus may stand on a card", CardLine(edits::without_plus)),
+    altered("card-leading-zeros", "leading zeros may stand on a card",
+        CardLine(edits::without_zeros)),
+    altered("card-minus-zero", "-0 may stand on a card", CardLine(edits::plain_zero)),
+    altered("card-space-before", "spaces may stand before a pitch on a card",
+        CardLine(edits::after_spaces)),
+    altered("card-space-after", "spaces may stand after a pitch on a card",
+        CardLine(edits::before_spaces)),
+    altered("card-text-after", "what follows a pitch on a card is dropped",
+        CardLine(|line| edits::before(line, b' '))),
+    altered("card-zero-byte-ends", "what follows a zero byte is dropped on a card",
+        CardLine(|line| edits::before(line, 0))),
+    altered("card-wide-wraps", "entries of a card too wide are taken modulo 2^16",
+        CardLine(edits::signed_modulo_16)),
+    altered("card-wide-ends", "entries of a card too wide are taken as the widest",
+        CardLine(edits::widest_pitch)),
+    altered("card-outside-bad", "a pitch out of range is a bad line of the card",
+        CardLine(edits::unread_outside)),
+    altered("card-reversed", "the card begins with entry 31",
+        Card(|card| entries_if_any(card).into_iter().rev().collect())),
+    altered("without-card-unread", "without entries a store is unread",
+        Step::Reply(without_card_unread)),
+];
 
 #[rustfmt::skip]
 const LINES: &[Misreading] = &[
@@ -224,7 +282,7 @@ const REPLIES: &[Misreading] = &[
 
 /// Every alteration of the sheet.
 pub fn all() -> impl Iterator<Item = &'static Misreading> {
-    [LINES, SHAPES, NUMBERS, CALLS, REPLIES]
+    [CARDS, LINES, SHAPES, NUMBERS, CALLS, REPLIES]
         .into_iter()
         .flatten()
 }
@@ -234,17 +292,23 @@ impl Misreading {
         all().find(|misreading| misreading.name == name)
     }
 
-    /// The whole sheet, with this rule altered.
-    pub fn play(&self, text: &[u8]) -> Vec<u8> {
+    /// The whole sheet beside this card, if there is one, with this rule
+    /// altered.
+    pub fn play(&self, card: Option<&[u8]>, text: &[u8]) -> Vec<u8> {
+        let table = match self.step {
+            Card(read) => read(card),
+            CardLine(change) => edits::card_with_lines(card, change),
+            _ => entries_if_any(card),
+        };
         match self.step {
-            Text(change) => play_by(Rules::AS_WRITTEN, &change(text)),
-            Output(change) => change(text, play_by(Rules::AS_WRITTEN, text)),
-            _ => self.play_lines(text),
+            Text(change) => play_by(Rules::AS_WRITTEN, &table, &change(text)),
+            Output(change) => change(text, play_by(Rules::AS_WRITTEN, &table, text)),
+            _ => self.play_lines(&table, text),
         }
     }
 
-    fn play_lines(&self, text: &[u8]) -> Vec<u8> {
-        let mut sheet = Sheet::new(Rules::AS_WRITTEN);
+    fn play_lines(&self, table: &[store::Pitch], text: &[u8]) -> Vec<u8> {
+        let mut sheet = Sheet::new(table, Rules::AS_WRITTEN);
         let mut output = Vec::new();
         let mut n = 0;
         for line in lines(text) {
@@ -271,6 +335,11 @@ impl Misreading {
             _ => sheet.reply(line),
         }
     }
+}
+
+fn without_card_unread(sheet: &mut Sheet, line: &[u8]) -> Option<Reply> {
+    let reply = sheet.reply(line);
+    reply.filter(|&reply| reply != Reply::Refused(40))
 }
 
 fn is_refused_store(line: &[u8], reply: Option<Reply>) -> bool {
@@ -380,14 +449,18 @@ fn before_made_names(sheet: &mut Sheet, line: &[u8]) -> Option<Reply> {
 #[cfg(test)]
 mod tests {
     use super::*;
-    use crate::examples;
+    use crate::examples::{self, Example};
     use crate::sheet::play;
 
     /// The examples, and a text of more than 65535 lines.
-    fn texts() -> Vec<Vec<u8>> {
-        let examples = examples::all().into_iter().map(|example| example.input);
-        let mut texts: Vec<Vec<u8>> = examples.collect();
-        texts.push(vec![b'\n'; 65_540]);
+    fn texts() -> Vec<Example> {
+        let mut texts = examples::all();
+        texts.push(Example {
+            name: "many lines",
+            card: Some(card::feathered()),
+            input: vec![b'\n'; 65_540],
+            output: Vec::new(),
+        });
         texts
     }
 
@@ -395,10 +468,13 @@ mod tests {
     #[test]
     fn no_alteration_is_idle() {
         let texts = texts();
-        let outputs: Vec<Vec<u8>> = texts.iter().map(|text| play(text)).collect();
+        let played = |text: &Example| play(&text.entries(), &text.input);
+        let outputs: Vec<Vec<u8>> = texts.iter().map(played).collect();
         for misreading in all() {
             let mut both = texts.iter().zip(&outputs);
-            let found = both.any(|(text, output)| misreading.play(text) != *output);
+            let found = both.any(|(text, output)| {
+                misreading.play(text.card.as_deref(), &text.input) != *output
+            });
             assert!(found, "{}", misreading.name);
         }
     }
@@ -406,7 +482,7 @@ mod tests {
     #[test]
     fn alterations_have_names_and_texts_of_their_own() {
         let listed: Vec<&Misreading> = all().collect();
-        assert!(listed.len() > 90, "{} alterations", listed.len());
+        assert!(listed.len() > 110, "{} alterations", listed.len());
         for (n, misreading) in listed.iter().enumerate() {
             let alike = |other: &&Misreading| {
                 other.name == misreading.name || other.text == misreading.text
@@ -418,14 +494,20 @@ mod tests {
     /// An alteration alters nothing that its rule does not name.
     #[test]
     fn alterations_alter_one_rule() {
-        let input = &examples::all()[0].input;
-        let due = play(input);
+        let p1 = &examples::all()[0];
+        let played = |misreading: &Misreading| {
+            let output = misreading.play(p1.card.as_deref(), &p1.input);
+            String::from_utf8(output).expect("printed text")
+        };
+        let due = String::from_utf8_lossy(&p1.output);
         for shape in LINES[3..].iter().chain(SHAPES).chain(NUMBERS) {
-            let text = String::from_utf8(shape.play(input)).expect("printed text");
             let line_after_last = shape.name == "line-after-last";
             let more = if line_after_last { "(11 unread)\n" } else { "" };
-            let due = String::from_utf8_lossy(&due) + more;
-            assert_eq!(text, due, "{}", shape.name);
+            assert_eq!(played(shape), format!("{due}{more}"), "{}", shape.name);
+        }
+        let line_after_last = |card: &&Misreading| card.name == "card-line-after-last";
+        for card in CARDS.iter().filter(|card| !line_after_last(card)) {
+            assert_eq!(played(card), due, "{}", card.name);
         }
     }
 }

@@ -1,7 +1,7 @@
 //! The run sheet: a text in, a printed line for each of its lines out.
 
 use crate::call::{Call, Reply};
-use crate::making::make;
+use crate::making::{make, Making};
 use crate::rules::Rules;
 use crate::store::{Kind, Pitch, Store, TABLE};
 
@@ -92,7 +92,7 @@ fn argument(digits: &[u8]) -> Option<u16> {
 }
 
 /// A plain decimal of 16 bits, signed, with a minus if it is negative.
-fn pitch(text: &[u8]) -> Option<Pitch> {
+pub fn pitch(text: &[u8]) -> Option<Pitch> {
     let Some(digits) = text.strip_prefix(b"-") else {
         return Pitch::try_from(decimal(text)?).ok();
     };
@@ -109,15 +109,21 @@ pub struct Made {
     pub entries: Vec<Pitch>,
 }
 
-/// What a sheet has come to: the store last made, if there is one.
+/// What a sheet has come to: the store last made, if there is one. Each
+/// making is lent the card's entries.
 pub struct Sheet {
     pub made: Option<Made>,
+    table: Vec<Pitch>,
     rules: Rules,
 }
 
 impl Sheet {
-    pub fn new(rules: Rules) -> Sheet {
-        Sheet { made: None, rules }
+    pub fn new(table: &[Pitch], rules: Rules) -> Sheet {
+        Sheet {
+            made: None,
+            table: table.to_vec(),
+            rules,
+        }
     }
 
     /// The kind of the made store.
@@ -144,20 +150,9 @@ impl Sheet {
 
     /// Lends exactly slots x 32 entries. If refused, the store before stays.
     fn make(&mut self, call: &Call) -> Reply {
-        let Call::Make {
-            kind,
-            readers,
-            publishers,
-            slots,
-            version,
-        } = *call
-        else {
-            unreachable!("only a making comes here");
-        };
-        let kind = Kind::from_number(u64::from(kind)).expect("the sheet knows this kind");
-        let mut entries = vec![0; usize::from(slots) * TABLE];
-        let lent = &mut entries;
-        match make(kind, readers, publishers, slots, version, lent, self.rules) {
+        let making = Making::of(call).expect("the sheet knows this kind");
+        let mut entries = vec![0; usize::from(making.slots) * TABLE];
+        match make(&making, &mut entries, &self.table, self.rules) {
             Ok(store) => {
                 self.made = Some(Made { store, entries });
                 Reply::Made
@@ -175,9 +170,10 @@ pub fn printed(n: u64, reply: Option<Reply>) -> String {
     }
 }
 
-/// The whole sheet, with the rules of the calls as given.
-pub fn play_by(rules: Rules, text: &[u8]) -> Vec<u8> {
-    let mut sheet = Sheet::new(rules);
+/// The whole sheet with this first table, and with the rules of the calls as
+/// given.
+pub fn play_by(rules: Rules, table: &[Pitch], text: &[u8]) -> Vec<u8> {
+    let mut sheet = Sheet::new(table, rules);
     let mut output = Vec::new();
     for (n, line) in (1..).zip(lines(text)) {
         output.extend_from_slice(printed(n, sheet.reply(line)).as_bytes());
@@ -185,9 +181,9 @@ pub fn play_by(rules: Rules, text: &[u8]) -> Vec<u8> {
     output
 }
 
-/// The whole sheet, as document 01 has it.
-pub fn play(text: &[u8]) -> Vec<u8> {
-    play_by(Rules::AS_WRITTEN, text)
+/// The whole sheet with this first table, as the documents have it.
+pub fn play(table: &[Pitch], text: &[u8]) -> Vec<u8> {
+    play_by(Rules::AS_WRITTEN, table, text)
 }
 
 #[cfg(test)]
@@ -199,7 +195,7 @@ mod tests {
     #[test]
     fn examples_print_as_worked_out_by_hand() {
         for example in examples::all() {
-            let output = play(&example.input);
+            let output = play(&example.entries(), &example.input);
             let printed = String::from_utf8_lossy(&output);
             let due = String::from_utf8_lossy(&example.output);
             for (line, due) in printed.lines().zip(due.lines()) {

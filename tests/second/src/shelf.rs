@@ -3,6 +3,7 @@
 //! It sees calls and replies and none of the store's numbers.
 
 use crate::call::{Call, Reply};
+use crate::rules::{Alteration, Rules};
 use crate::store::{Pitch, FEATHERED, MOST_PUBLISHERS, MOST_READERS, TABLE};
 
 pub struct Shelf {
@@ -12,9 +13,13 @@ pub struct Shelf {
 }
 
 impl Shelf {
-    pub fn fresh() -> Shelf {
+    /// The shelf starts with the table lent to the making.
+    pub fn fresh(first: &[Pitch], rules: Rules) -> Shelf {
         Shelf {
-            table: vec![FEATHERED; TABLE],
+            table: match rules.has(Alteration::ShelfFeathered) {
+                true => vec![FEATHERED; TABLE],
+                false => first.to_vec(),
+            },
             notes: vec![None; MOST_READERS],
             drafts: vec![Vec::new(); MOST_PUBLISHERS],
         }

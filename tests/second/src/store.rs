@@ -24,6 +24,8 @@ pub const PITCH_ENDS: [Pitch; 8] = [
     Pitch::MAX,
 ];
 pub const TABLE: usize = 32;
+/// The most that two neighbours of a first table may differ.
+pub const STEP_MOST: i32 = 1500;
 pub const MOST_READERS: usize = 64;
 pub const MOST_PUBLISHERS: usize = 16;
 pub const MOST_SLOTS: usize = 32;

@@ -3,6 +3,7 @@
 
 use crate::compare::{Difference, Heard};
 use crate::program::Ended;
+use second::card;
 use second::misread::{self, Misreading};
 use second::rules::{Alteration, Rules};
 use second::sheet::play_by;
@@ -41,10 +42,13 @@ impl Altered {
         }
     }
 
-    fn play(self, text: &[u8]) -> Vec<u8> {
+    fn play(self, card: Option<&[u8]>, text: &[u8]) -> Vec<u8> {
         match self {
-            Altered::Sheet(misreading) => misreading.play(text),
-            Altered::Call(alteration) => play_by(Rules::altered(alteration), text),
+            Altered::Sheet(misreading) => misreading.play(card, text),
+            Altered::Call(alteration) => {
+                let table = card::entries_if_any(card);
+                play_by(Rules::altered(alteration), &table, text)
+            }
         }
     }
 
@@ -53,9 +57,10 @@ impl Altered {
         heard.iter().find_map(|sheet| {
             let ended = Ended {
                 output: sheet.output.clone(),
-                fault: None,
+                ..Ended::default()
             };
-            Difference::of(&sheet.name, &sheet.text, &ended, &self.play(&sheet.text))
+            let played = self.play(sheet.card.as_deref(), &sheet.text);
+            Difference::of(&sheet.name, &sheet.text, &ended, &played)
         })
     }
 }
@@ -69,6 +74,10 @@ fn shows(alteration: Alteration) -> bool {
         A::OldPlaceTwo | A::NewPlace36 | A::MarkPastLast => true,
         A::PickedAlwaysTested | A::HeldAlwaysTested => true,
         A::LongerEntriesPass | A::MakingLengthFirst => true,
+        // A slot other than 0 is written whole before anybody looks at it.
+        A::FreshSlotZeroOnly | A::FreshLastSlotLeft => true,
+        // The sheet has no shelf, and no unknown kind.
+        A::ShelfFeathered | A::TableLengthBeforeKind => true,
         // Words lent by C, and numbers beyond the sizes.
         A::RefusedMakingClears | A::FreshWithinSizeOnly => true,
         A::SpoiledBeyondSizes | A::HoldersBeyondSizes => true,

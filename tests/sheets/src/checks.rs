@@ -1,6 +1,8 @@
 //! Tests of the comparison itself: that it can find what it is for.
 
 use crate::altered::Altered;
+use crate::card_shapes::{CARD_SHAPES, GOOD};
+use crate::cards::{Card, Folder};
 use crate::compare::{shown, Difference, Heard};
 use crate::failures::Sigpipe;
 use crate::pieces::{some_ways, Cut, Way, LARGEST};
@@ -8,15 +10,25 @@ use crate::program::Ended;
 use crate::seen::Seen;
 use crate::shapes::SHAPES;
 use crate::writer::{random_of, write, HUGE_LINE, MANY_LINES, NO_LINES, ORDINARY};
+use second::card;
 use second::random::Random;
-use second::sheet::{lines, play, read};
+use second::sheet::{lines, read};
+use second::store::{Pitch, FEATHERED, TABLE};
 use std::os::unix::process::ExitStatusExt;
 use std::process::Command;
+
+const FIRST: [Pitch; TABLE] = [FEATHERED; TABLE];
+
+/// The whole sheet beside the feathered card.
+fn play(text: &[u8]) -> Vec<u8> {
+    second::sheet::play(&FIRST, text)
+}
 
 fn difference(text: &[u8], output: &[u8], fault: Option<&str>) -> Option<String> {
     let ended = Ended {
         output: output.to_vec(),
         fault: fault.map(str::to_string),
+        ..Ended::default()
     };
     Difference::of("a test", text, &ended, &play(text)).map(|found| found.to_string())
 }
@@ -74,13 +86,14 @@ fn a_run_that_saw_nothing_lacks_everything() {
     assert!(lacks("new raise: shared") && !lacks("old raise: shared"));
     assert!(lacks("walk before a made store: refused 1"));
     assert!(lacks("an unread line: -0") && lacks("a sheet by a file"));
+    assert!(lacks("old store: refused 41") && lacks("a sheet beside a card: 33 lines"));
 }
 
 #[test]
 fn what_was_seen_is_not_missing() {
     let mut seen = Seen::default();
     let text = b"(enter 0)\n(store old 1 1 2 0)\n(store new 0 1 2 0)\n(enter 1)\n-";
-    seen.note(text, &play(text));
+    seen.note(&FIRST, text, &play(text));
     let missing = seen.missing();
     let found = [
         "refusal 1",
@@ -188,6 +201,7 @@ fn small_texts_often_go_byte_by_byte() {
 fn alterations_are_found_in_what_was_heard() {
     let heard = |text: &[u8]| Heard {
         name: "a test".to_string(),
+        card: Some(card::feathered()),
         text: text.to_vec(),
         output: play(text),
     };
@@ -200,6 +214,102 @@ fn alterations_are_found_in_what_was_heard() {
     assert_eq!((zeros.line_number, zeros.sheet), (2, "a test".to_string()));
     assert!(found("leading-zeros-in-pitches").is_none());
     assert!(found("current-is-free").is_none());
+    assert!(found("card-line-after-last").is_some());
+    assert!(found("card-plus").is_none());
+}
+
+/// What making says of the table of each shape of card.
+fn made_with(card: &Card) -> String {
+    let output = second::sheet::play(&card.entries(), b"(store new 1 1 2 0)\n");
+    String::from_utf8(output).expect("printed text")
+}
+
+#[test]
+fn cards_are_what_they_are_called() {
+    let mut random = Random::from_seed(9);
+    for _ in 0..100 {
+        for (n, shape) in CARD_SHAPES.iter().enumerate() {
+            let card = shape.card(&mut random);
+            let due = match shape.name {
+                // By chance these are good.
+                "a byte changed" | "random bytes on a line" => continue,
+                _ if n < GOOD => "(1 made)\n",
+                "an entry out of range" | "an entry at an end of 16 bits" => "(1 refused 41)\n",
+                "a step of 1501" => "(1 refused 42)\n",
+                "steep and out of range" => {
+                    assert!(matches!(
+                        &made_with(&card)[..],
+                        "(1 refused 41)\n" | "(1 refused 42)\n"
+                    ));
+                    continue;
+                }
+                _ => "(1 refused 40)\n",
+            };
+            assert_eq!(made_with(&card), due, "{}: {card:?}", shape.name);
+        }
+    }
+    let bytes = |name: &str, random: &mut Random| {
+        let shape = CARD_SHAPES.iter().find(|shape| shape.name == name);
+        let card = shape.expect("its name").card(random);
+        card.bytes().map(<[u8]>::len)
+    };
+    assert_eq!(bytes("4095 bytes", &mut random), Some(4095));
+    assert_eq!(bytes("4096 bytes", &mut random), Some(4096));
+    assert_eq!(bytes("missing", &mut random), None);
+}
+
+#[test]
+fn what_is_said_of_a_card_is_compared() {
+    const SECOND: &str = "run_sheet: without a first table each store line is refused with 40, or with a number that is tested before it\n";
+    let says = |card: &Card, first: &str| {
+        let error = format!("run_sheet: card{first}\n{SECOND}");
+        card.check_said(error.as_bytes()).is_ok()
+    };
+    let file = |text: &[u8]| Card::File(text.to_vec());
+    let good = file(&card::feathered());
+    assert!(good.check_said(b"").is_ok() && good.check_said(b"\n").is_err());
+    assert!(!says(&good, " has 31 lines, and a first table is 32"));
+    let missing = ", looked for in the folder where run_sheet was started: No such file";
+    assert!(says(&Card::Missing, missing) && !says(&Card::Directory, missing));
+    assert!(Card::Missing.check_said(b"").is_err());
+    let short = file(&card::feathered()[5..]);
+    assert!(says(&short, " has 31 lines, and a first table is 32"));
+    assert!(!says(&short, " has 30 lines, and a first table is 32"));
+    assert!(!says(
+        &short,
+        " has more than 32 lines, and a first table is 32"
+    ));
+    let bad = file(&[&card::feathered()[5..], b"x"].concat());
+    assert!(says(&bad, ": line 32 is no pitch") && !says(&bad, ": line 31 is no pitch"));
+    let long = file(&card::feathered().repeat(26));
+    assert!(says(&long, " is too long: a first table is 32 lines"));
+    let first = "run_sheet: card: line 32 is no pitch\n";
+    for error in [first.to_string(), format!("{first}{SECOND}{SECOND}")] {
+        assert!(bad.check_said(error.as_bytes()).is_err());
+    }
+}
+
+/// A program started in the folder finds the card; a pipe gives all its
+/// bytes, and waits for nobody.
+#[test]
+fn folders_have_their_cards() {
+    let cat = |card: &Card| {
+        let folder = Folder::with(card).expect("a folder");
+        let feeding = folder.feed();
+        let mut command = folder.command("cat".as_ref());
+        let output = command.arg("card").output().expect("cat");
+        drop(feeding);
+        output.status.success().then_some(output.stdout)
+    };
+    let bytes = card::feathered();
+    assert_eq!(cat(&Card::File(bytes.clone())), Some(bytes.clone()));
+    assert_eq!(cat(&Card::Pipe(bytes.clone())), Some(bytes.clone()));
+    for card in [Card::Missing, Card::LinkToNothing, Card::LinkToItself] {
+        assert_eq!(cat(&card), None, "{card:?}");
+    }
+    assert_eq!((cat(&Card::Directory), cat(&Card::Failing)), (None, None));
+    let folder = Folder::with(&Card::Pipe(bytes)).expect("a folder");
+    drop(folder.feed());
 }
 
 #[test]

@@ -1,15 +1,16 @@
 //! The program beside the second implementation, output by output.
 
+use crate::card_shapes::{CARD_SHAPES, FORBIDDEN};
+use crate::cards::{is_root, Card, Folder};
 use crate::pieces::{some_ways, Cut, Way, LARGEST};
 use crate::program::{run, Ended};
 use crate::seen::Seen;
-use crate::writer::{self, HUGE_LINE, MANY_LINES, NO_LINES, ORDINARY};
-use second::examples::{self, Example};
+use crate::writer::{self, CARDS, HUGE_LINE, MANY_LINES, NO_LINES, ORDINARY};
+use second::examples;
 use second::random::Random;
 use second::sheet::{lines, play};
 use std::fmt;
 use std::path::{Path, PathBuf};
-use std::process::Command;
 
 /// Ways for any text, however long.
 const EVERY_WAY: [Way; 6] = [
@@ -21,11 +22,24 @@ const EVERY_WAY: [Way; 6] = [
     Way::File,
 ];
 
-/// A text with what the program printed for it.
+/// A text with what the program printed for it, and the bytes of the card
+/// beside it, if it could be read.
 pub struct Heard {
     pub name: String,
+    pub card: Option<Vec<u8>>,
     pub text: Vec<u8>,
     pub output: Vec<u8>,
+}
+
+/// How often each shape of card has a sheet of its own.
+const ROUNDS: usize = 3;
+
+/// A sheet, the card beside it, and what is due.
+struct Held<'a> {
+    name: &'a str,
+    card: &'a Card,
+    text: &'a [u8],
+    due: &'a [u8],
 }
 
 /// Where two outputs differ first.
@@ -123,37 +137,56 @@ impl Comparison {
         }
     }
 
-    /// One text one way; the program must print what is due.
+    /// A sheet one way. The program must print what is due, and say of the
+    /// card what is due.
     fn hold(
         &mut self,
-        name: &str,
-        text: &[u8],
+        sheet: &Held,
         way: Way,
-        due: &[u8],
         random: &mut Random,
     ) -> Result<Vec<u8>, Box<Difference>> {
-        let pieces = way.pieces(text, random);
-        let ended = run(&mut Command::new(&self.program), text, way, &pieces);
-        let name = format!("{name}, by {}", way.name());
-        match Difference::of(&name, text, &ended, due) {
+        let ended = match Folder::with(sheet.card) {
+            Ok(folder) => self.run_in(&folder, sheet, way, random),
+            Err(fault) => Ended {
+                fault: Some(fault),
+                ..Ended::default()
+            },
+        };
+        let name = format!("{}, by {}", sheet.name, way.name());
+        match Difference::of(&name, sheet.text, &ended, sheet.due) {
             None => Ok(ended.output),
             Some(difference) => Err(Box::new(difference)),
         }
     }
 
+    fn run_in(&self, folder: &Folder, sheet: &Held, way: Way, random: &mut Random) -> Ended {
+        let pieces = way.pieces(sheet.text, random);
+        let feeding = folder.feed();
+        let mut command = folder.command(&self.program);
+        let mut ended = run(&mut command, sheet.text, way, &pieces);
+        drop(feeding);
+        if ended.fault.is_none() {
+            ended.fault = sheet.card.check_said(&ended.error).err();
+        }
+        ended
+    }
+
     /// The sheets worked out by hand, each in every way.
     pub fn examples(&mut self) -> Result<(), Box<Difference>> {
         let mut random = Random::from_seed(self.seed);
-        for Example {
-            name,
-            input,
-            output,
-        } in examples::all()
-        {
+        for example in examples::all() {
+            let card = example.card.clone().map_or(Card::Missing, Card::File);
+            let sheet = Held {
+                name: example.name,
+                card: &card,
+                text: &example.input,
+                due: &example.output,
+            };
             for way in EVERY_WAY {
-                self.hold(name, &input, way, &output, &mut random)?;
+                self.hold(&sheet, way, &mut random)?;
             }
-            self.seen.note(&input, &output);
+            let table = example.entries();
+            self.seen.note(&table, &example.input, &example.output);
         }
         Ok(())
     }
@@ -167,20 +200,46 @@ impl Comparison {
             _ => some_ways(number, &written.text, &mut random),
         };
         self.seen.note_sheet(&written, &ways);
-        let text = written.text;
-        let name = format!("number {number} of seed {}", self.seed);
-        let due = play(&text);
+        let (card, text) = (written.card, written.text);
+        let name = format!(
+            "number {number} of seed {}, card {}",
+            self.seed, written.card_name
+        );
+        let due = play(&card.entries(), &text);
+        let sheet = Held {
+            name: &name,
+            card: &card,
+            text: &text,
+            due: &due,
+        };
         let mut output = Vec::new();
         for way in ways {
-            output = self.hold(&name, &text, way, &due, &mut random)?;
+            output = self.hold(&sheet, way, &mut random)?;
         }
-        self.seen.note(&text, &output);
-        Ok(Heard { name, text, output })
+        self.seen.note(&card.entries(), &text, &output);
+        Ok(Heard {
+            card: card.bytes().map(<[u8]>::to_vec),
+            name,
+            text,
+            output,
+        })
     }
 
-    /// Ordinary sheets with so many lines in all, and the three others.
+    /// A sheet beside each shape of card. Root may read every file.
+    fn cards(&mut self) -> Result<Vec<Heard>, Box<Difference>> {
+        let tried = |shape: &usize| CARD_SHAPES[*shape].name != FORBIDDEN || !is_root();
+        let shapes = (0..CARD_SHAPES.len()).filter(tried);
+        let rounds = (0..ROUNDS).map(|round| round * CARD_SHAPES.len());
+        let numbers = rounds.flat_map(|round| shapes.clone().map(move |shape| round + shape));
+        numbers
+            .map(|number| self.sheet(CARDS + number as u64))
+            .collect()
+    }
+
+    /// A sheet beside each shape of card, ordinary sheets with so many lines
+    /// in all, and the three others.
     pub fn sheets(&mut self, least: u64) -> Result<Vec<Heard>, Box<Difference>> {
-        let mut heard = Vec::new();
+        let mut heard = self.cards()?;
         let (mut number, mut count) = (ORDINARY, 0);
         while count < least {
             let sheet = self.sheet(number)?;

@@ -1,7 +1,9 @@
 //! Outputs that cannot be written and an input that cannot be read: the
 //! program must end.
 
+use crate::cards::{Card, Folder};
 use crate::program::Running;
+use second::card;
 use std::fs::{File, OpenOptions};
 use std::io::{self, PipeWriter, Read, Write};
 use std::os::unix::process::CommandExt;
@@ -83,7 +85,8 @@ pub fn all(program: &Path) -> Result<u64, String> {
         count += 1;
     }
     failed_read(program)?;
-    Ok(count + 1)
+    unsaid(program)?;
+    Ok(count + 2)
 }
 
 fn failed_write(program: &Path, input: Input, output: Output) -> Result<(), String> {
@@ -92,9 +95,10 @@ fn failed_write(program: &Path, input: Input, output: Output) -> Result<(), Stri
 }
 
 fn play(program: &Path, input: Input, output: Output) -> Result<(), String> {
+    let folder = Folder::with(&Card::File(card::feathered()))?;
     let (stdin, feeds) = io::pipe().map_err(|error| error.to_string())?;
     let (stdout, reads) = output_of(output).map_err(|error| error.to_string())?;
-    let mut command = Command::new(program);
+    let mut command = folder.command(program);
     if let Output::Closed(sigpipe) | Output::ClosedLater(sigpipe) = output {
         sigpipe.of(&mut command);
     }
@@ -134,14 +138,36 @@ fn feed(mut pipe: PipeWriter, input: Input) -> Option<PipeWriter> {
     (input == Input::FewAndOpen).then_some(pipe)
 }
 
+/// What is to be said of a missing card cannot be said: the output stays.
+fn unsaid(program: &Path) -> Result<(), String> {
+    let folder = Folder::with(&Card::Missing)?;
+    let full = OpenOptions::new().write(true).open("/dev/full");
+    let full = full.map_err(|error| error.to_string())?;
+    let (stdin, feeds) = io::pipe().map_err(|error| error.to_string())?;
+    let mut command = folder.command(program);
+    command.stdin(stdin).stdout(Stdio::piped()).stderr(full);
+    let mut running = Running::start(&mut command)?;
+    drop(feed(feeds, Input::Few));
+    while running.output.more()? {}
+    running.ended()?;
+    match &running.output.bytes[..] {
+        b"(1 refused 40)\n(2 refused 1)\n(3 refused 1)\n" => Ok(()),
+        printed => Err(format!(
+            "with a standard error that has no room it printed {}",
+            printed.escape_ascii()
+        )),
+    }
+}
+
 /// A folder cannot be read as a file.
 fn failed_read(program: &Path) -> Result<(), String> {
+    let started_in = Folder::with(&Card::File(card::feathered()))?;
     let folder = File::open(std::env::temp_dir()).map_err(|error| error.to_string())?;
-    let mut command = Command::new(program);
+    let mut command = started_in.command(program);
     let mut running = Running::start(command.stdin(folder).stdout(Stdio::piped()))?;
-    while running.more()? {}
+    while running.output.more()? {}
     running.ended()?;
-    match running.output.is_empty() {
+    match running.output.bytes.is_empty() {
         true => Ok(()),
         false => Err("it printed something for an input that it cannot read".to_string()),
     }

@@ -3,10 +3,12 @@
 //! `sheets PROGRAM LINES SEED` gives it sheets of that many lines. With the
 //! name of an alteration after that, one rule of the second implementation
 //! is altered, and that must end in a difference; with the name
-//! `alterations`, each of them. `sheets show SEED NUMBER` prints a sheet.
-//! `sheets reads` prints the lengths of its own reads.
+//! `alterations`, each of them. `sheets show SEED NUMBER` prints a sheet, and
+//! `sheets card SEED NUMBER` the card beside it. `sheets reads` prints the lengths of its own reads.
 
 mod altered;
+mod card_shapes;
+mod cards;
 #[cfg(test)]
 mod checks;
 mod compare;
@@ -69,14 +71,16 @@ fn talk_through(program: &Path, seed: u64) -> Result<u64, String> {
             0 => Way::Datagrams(Cut::Whole),
             _ => Way::Pipe(Cut::Whole),
         };
-        turns += talk::talk(program, &written.text, way, &mut random)?;
+        turns += talk::talk(program, &written, way, &mut random)?;
     }
     Ok(turns)
 }
 
 fn differ(difference: &Difference) {
     print!("The program and the second implementation differ.\n{difference}");
-    println!("A sheet is printed by: sheets show SEED NUMBER");
+    println!(
+        "A sheet is printed by: sheets show SEED NUMBER; its card by: sheets card SEED NUMBER"
+    );
 }
 
 fn compare(program: &Path, lines: u64, seed: u64) -> Result<(), String> {
@@ -86,6 +90,7 @@ fn compare(program: &Path, lines: u64, seed: u64) -> Result<(), String> {
         return Err("not alike".to_string());
     }
     let turns = talk_through(program, seed)?;
+    talk::said_before_reading(program)?;
     let failures = failures::all(program)?;
     let missing = comparison.seen.missing();
     if !missing.is_empty() {
@@ -94,6 +99,9 @@ fn compare(program: &Path, lines: u64, seed: u64) -> Result<(), String> {
         return Err("too little seen".to_string());
     }
     println!("alike with seed {seed}: {}", comparison.seen);
+    if cards::is_root() {
+        println!("not tried, because root may read it: a card that may not be read");
+    }
     println!("a talk of {turns} turns; ended after each of {failures} failed writes and reads");
     Ok(())
 }
@@ -130,6 +138,7 @@ fn try_alterations(program: &Path, lines: u64, seed: u64, all: &[Altered]) -> Re
 fn usage() -> Result<(), String> {
     eprintln!("usage: sheets PROGRAM LINES SEED [alterations | the name of one]");
     eprintln!("       sheets show SEED NUMBER");
+    eprintln!("       sheets card SEED NUMBER");
     eprintln!("alterations:");
     for altered in Altered::all() {
         eprintln!("  {}: {}", altered.name(), altered.text());
@@ -139,8 +148,21 @@ fn usage() -> Result<(), String> {
 
 fn show(seed: u64, number: u64) -> Result<(), String> {
     let text = writer::write(seed, number).text;
+    print(&text)
+}
+
+/// The card's bytes. One that has none is told by its name.
+fn show_card(seed: u64, number: u64) -> Result<(), String> {
+    let written = writer::write(seed, number);
+    match written.card.bytes() {
+        Some(bytes) => print(bytes),
+        None => Err(format!("no bytes: {}", written.card_name)),
+    }
+}
+
+fn print(bytes: &[u8]) -> Result<(), String> {
     std::io::stdout()
-        .write_all(&text)
+        .write_all(bytes)
         .map_err(|error| error.to_string())
 }
 
@@ -152,6 +174,7 @@ fn obey(arguments: &[&str]) -> Result<(), String> {
     match *arguments {
         ["reads"] => program::print_reads().map_err(|error| error.to_string()),
         ["show", seed, sheet] => show(number(seed)?, number(sheet)?),
+        ["card", seed, sheet] => show_card(number(seed)?, number(sheet)?),
         [program, lines, seed] => {
             check_datagrams()?;
             compare(Path::new(program), number(lines)?, number(seed)?)

@@ -72,11 +72,55 @@ fn file_of(text: &[u8]) -> io::Result<File> {
     Ok(file)
 }
 
+/// What the program writes to one of its files, as far as it was heard.
+pub struct Stream {
+    chunks: Receiver<Vec<u8>>,
+    pub bytes: Vec<u8>,
+}
+
+impl Stream {
+    /// Listens to a file. Without one it is at its end.
+    fn of(file: Option<impl Read + Send + 'static>) -> Stream {
+        let (sender, chunks) = channel();
+        if let Some(file) = file {
+            std::thread::spawn(move || hear(file, sender));
+        }
+        Stream {
+            chunks,
+            bytes: Vec::new(),
+        }
+    }
+
+    /// Waits for more; false at its end.
+    pub fn more(&mut self) -> Result<bool, String> {
+        if self.bytes.len() > MOST_OUTPUT {
+            return Err("it prints without end".to_string());
+        }
+        match self.chunks.recv_timeout(LIMIT) {
+            Ok(chunk) => {
+                self.bytes.extend_from_slice(&chunk);
+                Ok(true)
+            }
+            Err(RecvTimeoutError::Disconnected) => Ok(false),
+            Err(RecvTimeoutError::Timeout) => Err("it is silent and does not end".to_string()),
+        }
+    }
+}
+
+fn hear(mut file: impl Read, sender: Sender<Vec<u8>>) {
+    let mut buffer = vec![0; 65_536];
+    while let Ok(length @ 1..) = file.read(&mut buffer) {
+        if sender.send(buffer[..length].to_vec()).is_err() {
+            break;
+        }
+    }
+}
+
 /// The program while it runs. It does not outlive this.
 pub struct Running {
     child: Child,
-    chunks: Receiver<Vec<u8>>,
-    pub output: Vec<u8>,
+    pub output: Stream,
+    pub error: Stream,
 }
 
 impl Running {
@@ -86,30 +130,11 @@ impl Running {
         // is noticed.
         command.stdin(Stdio::null());
         let mut child = spawned.map_err(|error| format!("it does not start: {error}"))?;
-        let (sender, chunks) = channel();
-        if let Some(stdout) = child.stdout.take() {
-            std::thread::spawn(move || hear(stdout, sender));
-        }
         Ok(Running {
+            output: Stream::of(child.stdout.take()),
+            error: Stream::of(child.stderr.take()),
             child,
-            chunks,
-            output: Vec::new(),
         })
-    }
-
-    /// Waits for more output; false at its end.
-    pub fn more(&mut self) -> Result<bool, String> {
-        if self.output.len() > MOST_OUTPUT {
-            return Err("it prints without end".to_string());
-        }
-        match self.chunks.recv_timeout(LIMIT) {
-            Ok(chunk) => {
-                self.output.extend_from_slice(&chunk);
-                Ok(true)
-            }
-            Err(RecvTimeoutError::Disconnected) => Ok(false),
-            Err(RecvTimeoutError::Timeout) => Err("it is silent and does not end".to_string()),
-        }
     }
 
     /// Waits for the end.
@@ -134,30 +159,23 @@ impl Drop for Running {
     }
 }
 
-fn hear(mut stdout: impl Read, sender: Sender<Vec<u8>>) {
-    let mut buffer = vec![0; 65_536];
-    while let Ok(length @ 1..) = stdout.read(&mut buffer) {
-        if sender.send(buffer[..length].to_vec()).is_err() {
-            break;
-        }
-    }
-}
-
-/// What came of a run: the whole output, and what was wrong besides.
+/// What came of a run: all that was written, and what was wrong besides.
+#[derive(Default)]
 pub struct Ended {
     pub output: Vec<u8>,
+    pub error: Vec<u8>,
     pub fault: Option<String>,
 }
 
 /// The program run on a text in these pieces. It must end by itself with 0.
 pub fn run(program: &mut Command, text: &[u8], way: Way, pieces: &[&[u8]]) -> Ended {
-    let mut output = Vec::new();
-    let fault = run_into(&mut output, program, text, way, pieces).err();
-    Ended { output, fault }
+    let mut ended = Ended::default();
+    ended.fault = run_into(&mut ended, program, text, way, pieces).err();
+    ended
 }
 
 fn run_into(
-    output: &mut Vec<u8>,
+    ended: &mut Ended,
     program: &mut Command,
     text: &[u8],
     way: Way,
@@ -165,11 +183,12 @@ fn run_into(
 ) -> Result<(), String> {
     let (stdin, feeder) = input(way, text).map_err(|error| format!("no input: {error}"))?;
     program.stdin(stdin).stdout(Stdio::piped());
-    let mut running = Running::start(program)?;
+    let mut running = Running::start(program.stderr(Stdio::piped()))?;
     std::thread::scope(|scope| {
         scope.spawn(move || feed(feeder, pieces));
         let heard = to_the_end(&mut running);
-        output.append(&mut running.output);
+        ended.output = std::mem::take(&mut running.output.bytes);
+        ended.error = std::mem::take(&mut running.error.bytes);
         // From here on nobody reads, which ends the feeding.
         drop(running);
         heard
@@ -183,7 +202,8 @@ fn feed(mut feeder: Feeder, pieces: &[&[u8]]) {
 }
 
 fn to_the_end(running: &mut Running) -> Result<(), String> {
-    while running.more()? {}
+    while running.output.more()? {}
+    while running.error.more()? {}
     let status = running.ended()?;
     if status.success() {
         Ok(())

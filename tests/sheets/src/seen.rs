@@ -1,12 +1,14 @@
 //! What the sheets of a run have shown, and what they still lack.
 
+use crate::card_shapes::{CARD_SHAPES, FORBIDDEN};
+use crate::cards::is_root;
 use crate::pieces::{Way, NAMES};
 use crate::shapes::SHAPES;
 use crate::writer::Written;
 use second::call::{Call, Reply, CALL_NAMES};
 use second::rules::Rules;
 use second::sheet::{lines, read, Sheet};
-use second::store::{Kind, KINDS};
+use second::store::{Kind, Pitch, KINDS};
 use std::collections::BTreeMap;
 use std::fmt;
 
@@ -18,7 +20,9 @@ const WORDS: [&str; 17] = [
 
 /// Every refusal that a sheet can meet. The program lends as many entries as
 /// are due, so that 5 stays out; 33 needs nearly 2^64 looks.
-const REFUSALS: [u64; 15] = [1, 2, 3, 4, 6, 10, 11, 12, 13, 14, 20, 21, 30, 31, 32];
+const REFUSALS: [u64; 18] = [
+    1, 2, 3, 4, 6, 10, 11, 12, 13, 14, 20, 21, 30, 31, 32, 40, 41, 42,
+];
 
 /// Things that a run must show besides words, refusals, shapes and ways.
 const OTHERS: [&str; 7] = [
@@ -62,10 +66,12 @@ impl Seen {
         for way in ways {
             self.add(way_name(way.name()), 1);
         }
+        self.add(card_name(written.card_name), 1);
     }
 
-    /// A text and what the program printed for it.
-    pub fn note(&mut self, text: &[u8], output: &[u8]) {
+    /// A text and what the program printed for it, beside a card of these
+    /// entries.
+    pub fn note(&mut self, table: &[Pitch], text: &[u8], output: &[u8]) {
         self.sheets += 1;
         let ended = if text.ends_with(b"\n") {
             OTHERS[5]
@@ -73,7 +79,7 @@ impl Seen {
             OTHERS[6]
         };
         self.add(ended.to_string(), 1);
-        let mut sheet = Sheet::new(Rules::AS_WRITTEN);
+        let mut sheet = Sheet::new(table, Rules::AS_WRITTEN);
         for (line, printed) in lines(text).zip(lines(output)) {
             self.lines += 1;
             self.note_printed(printed);
@@ -140,6 +146,9 @@ impl Seen {
         needed.extend(REFUSALS.iter().map(refusal_name));
         needed.extend(SHAPES.iter().map(|shape| shape_name(shape.name)));
         needed.extend(NAMES.iter().map(|way| way_name(way)));
+        let cards = CARD_SHAPES.iter().map(|shape| shape.name);
+        let tried = cards.filter(|&name| name != FORBIDDEN || !is_root());
+        needed.extend(tried.map(card_name));
         needed.extend(OTHERS.iter().map(|other| other.to_string()));
         needed.extend(needed_of_calls());
         needed.retain(|what| self.count(what) == 0);
@@ -177,6 +186,10 @@ fn refusal_name(number: impl fmt::Display) -> String {
 
 fn shape_name(shape: &str) -> String {
     format!("an unread line: {shape}")
+}
+
+fn card_name(card: &str) -> String {
+    format!("a sheet beside a card: {card}")
 }
 
 fn way_name(way: &str) -> String {
@@ -220,7 +233,9 @@ fn needed_of_calls() -> Vec<String> {
 /// busy in an old store, so that its RAISE is never shared.
 fn answers(call: &str, kind: Kind) -> &'static str {
     match (call, kind) {
-        ("store", _) => "refused 2, refused 3, refused 4, refused 6, made",
+        ("store", _) => {
+            "refused 2, refused 3, refused 4, refused 6, refused 40, refused 41, refused 42, made"
+        }
         ("enter", _) => "refused 10, refused 20, at",
         ("look", _) => "refused 10, refused 13, refused 20, pitch",
         ("leave", _) => "refused 10, refused 20, left",

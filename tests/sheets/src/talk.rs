@@ -1,20 +1,31 @@
 //! A person at a terminal: a line is sent only after the reply to the one
 //! before was read.
 
+use crate::cards::{Card, Folder};
 use crate::compare::shown;
-use crate::pieces::Way;
+use crate::pieces::{Cut, Way};
 use crate::program::{input, Feeder, Running};
+use crate::writer::Written;
+use second::card;
 use second::random::Random;
-use second::sheet::play;
+use second::sheet::{lines, play};
 use std::path::Path;
-use std::process::{Command, Stdio};
+use std::process::Stdio;
 
-/// Talks through a text and returns the number of turns.
-pub fn talk(program: &Path, text: &[u8], way: Way, random: &mut Random) -> Result<u64, String> {
+/// Talks through a sheet and returns the number of turns. After the first
+/// reply the card is exchanged, which the program has read by then.
+pub fn talk(
+    program: &Path,
+    written: &Written,
+    way: Way,
+    random: &mut Random,
+) -> Result<u64, String> {
+    let folder = Folder::with(&written.card)?;
+    let text = &written.text[..];
     let (stdin, mut feeder) = input(way, text).map_err(|error| error.to_string())?;
-    let mut command = Command::new(program);
+    let mut command = folder.command(program);
     let mut running = Running::start(command.stdin(stdin).stdout(Stdio::piped()))?;
-    let due = play(text);
+    let due = play(&written.card.entries(), text);
     let mut dues = due.split_inclusive(|&byte| byte == b'\n');
     let (mut said, mut heard, mut turns) = (0, 0, 0);
     while said < text.len() {
@@ -25,9 +36,12 @@ pub fn talk(program: &Path, text: &[u8], way: Way, random: &mut Random) -> Resul
         let ended = turn.iter().filter(|&&byte| byte == b'\n').count();
         heard += dues.by_ref().take(ended).map(<[u8]>::len).sum::<usize>();
         hear(&mut running, &due[..heard]).map_err(|fault| told(turn, &fault))?;
+        if turns == 1 {
+            folder.exchange(&card::feathered())?;
+        }
     }
     feeder.end().map_err(|error| error.to_string())?;
-    while running.more()? {}
+    while running.output.more()? {}
     running.ended()?;
     hear(&mut running, &due)?;
     Ok(turns)
@@ -60,18 +74,41 @@ fn send(feeder: &mut Feeder, turn: &[u8], random: &mut Random) -> Result<(), Str
 
 /// Waits until as much was printed as is due by now, and compares it.
 fn hear(running: &mut Running, due: &[u8]) -> Result<(), String> {
-    while running.output.len() < due.len() {
-        if !running.more()? {
+    while running.output.bytes.len() < due.len() {
+        if !running.output.more()? {
             return Err("it has ended".to_string());
         }
     }
-    if running.output == due {
+    if running.output.bytes == due {
         return Ok(());
     }
     let end = |text: &[u8]| shown(&text[text.len().saturating_sub(100)..]);
     Err(format!(
         "it printed {}, not {}",
-        end(&running.output),
+        end(&running.output.bytes),
         end(due)
     ))
+}
+
+/// What is to be said of a card is said before the program reads its input.
+pub fn said_before_reading(program: &Path) -> Result<(), String> {
+    for card in [Card::Missing, Card::File(b"9000\nx\n".to_vec())] {
+        let folder = Folder::with(&card)?;
+        let way = Way::Pipe(Cut::Whole);
+        let (stdin, feeder) = input(way, b"").map_err(|error| error.to_string())?;
+        let mut command = folder.command(program);
+        command.stdin(stdin).stdout(Stdio::piped());
+        let mut running = Running::start(command.stderr(Stdio::piped()))?;
+        while lines(&running.error.bytes).count() < 2 || !running.error.bytes.ends_with(b"\n") {
+            let told = |fault: String| format!("before its input is there: {fault}");
+            if !running.error.more().map_err(told)? {
+                return Err("it ended before its input was there".to_string());
+            }
+        }
+        feeder.end().map_err(|error| error.to_string())?;
+        while running.error.more()? {}
+        running.ended()?;
+        card.check_said(&running.error.bytes)?;
+    }
+    Ok(())
 }

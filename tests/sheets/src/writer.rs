@@ -1,5 +1,7 @@
 //! Random sheets. The same seed and number give the same sheet.
 
+use crate::card_shapes::{CARD_SHAPES, FORBIDDEN, GOOD};
+use crate::cards::Card;
 use crate::shapes::{any_byte, SHAPES};
 use second::call::{Call, Reply};
 use second::layout::{pack, publisher_at, PUBLISHERS, WORDS};
@@ -17,14 +19,20 @@ pub const MANY_LINES: u64 = 1;
 pub const NO_LINES: u64 = 2;
 /// From here on the sheets are ordinary.
 pub const ORDINARY: u64 = 3;
+/// From here on each sheet has the next shape of card.
+pub const CARDS: u64 = 1 << 39;
 /// From here on the sheets are short enough to be talked through.
 pub const TALK: u64 = 1 << 40;
 
 /// How often 32 may be the reply before another store is made.
 const PATIENCE: u64 = 10;
 
-/// A sheet, with how often each shape of unread line is in it.
+/// A sheet with the card beside it, and how often each shape of unread line
+/// is in it.
 pub struct Written {
+    pub card: Card,
+    /// The name of the card's shape.
+    pub card_name: &'static str,
     pub text: Vec<u8>,
     pub shapes: Vec<u64>,
 }
@@ -38,15 +46,38 @@ pub fn random_of(seed: u64, number: u64) -> Random {
 /// The sheet of this number.
 pub fn write(seed: u64, number: u64) -> Written {
     let mut random = random_of(seed, number);
-    let mut writer = Writer::new(&mut random);
+    let shape = card_shape(number, &mut random);
+    let mut writer = Writer::new(shape, &mut random);
     match number {
         HUGE_LINE => writer.huge_line(),
         MANY_LINES => writer.many_lines(),
         NO_LINES => {}
         TALK.. => writer.calls(400),
+        CARDS.. => writer.stores(),
+        _ if shape >= GOOD => writer.stores(),
         _ => writer.ordinary(),
     }
     writer.written()
+}
+
+/// The shape of the card beside the sheet of this number.
+fn card_shape(number: u64, random: &mut Random) -> usize {
+    match number {
+        CARDS..TALK => (number - CARDS) as usize % CARD_SHAPES.len(),
+        ORDINARY..CARDS if random.one_in(8) => any_shape(random),
+        // A talk exchanges the card, which is a file then.
+        TALK.. => 0,
+        _ => random.below(GOOD as u64) as usize,
+    }
+}
+
+/// Any shape of card that root can try too.
+fn any_shape(random: &mut Random) -> usize {
+    let shape = random.below(CARD_SHAPES.len() as u64) as usize;
+    match CARD_SHAPES[shape].name {
+        FORBIDDEN => 0,
+        _ => shape,
+    }
 }
 
 struct Writer<'a> {
@@ -63,17 +94,21 @@ struct Writer<'a> {
 }
 
 impl<'a> Writer<'a> {
-    fn new(random: &'a mut Random) -> Writer<'a> {
+    fn new(shape: usize, random: &'a mut Random) -> Writer<'a> {
+        let card = CARD_SHAPES[shape].card(random);
+        let sheet = Sheet::new(&card.entries(), Rules::AS_WRITTEN);
         let scheduler = Scheduler::new(random);
         let misshapen = random.pick(&[0, 10, 60, 150, 400]);
         let together = random.one_in(2);
         let written = Written {
+            card,
+            card_name: CARD_SHAPES[shape].name,
             text: Vec::new(),
             shapes: vec![0; SHAPES.len()],
         };
         Writer {
             random,
-            sheet: Sheet::new(Rules::AS_WRITTEN),
+            sheet,
             scheduler,
             misshapen,
             together,
@@ -108,6 +143,24 @@ impl<'a> Writer<'a> {
         }
         let lines = self.random.pick(&[2, 30, 200, 600, 1500, 2500]);
         self.calls(lines);
+    }
+
+    /// Many `store` lines, refused and perhaps accepted, and after each a
+    /// few calls that look at the first table.
+    fn stores(&mut self) {
+        for _ in 0..6 {
+            self.before_a_made_store();
+            self.refused_store();
+            self.store();
+            for _ in 0..5 {
+                self.add(b"(enter 0)");
+            }
+            for _ in 0..4 {
+                let k = self.random.below(32);
+                self.add(format!("(look 0 {k})").as_bytes());
+            }
+            self.line();
+        }
     }
 
     /// A made store, and this many lines after it.

@@ -3,8 +3,8 @@ use borrow.Author.Needs.{needs}
 use native.Mathlib.Omega.{arith}
 use lib.ListN.{length, length-set, length-replicate, take}
 use lib.Seq.{take-all}
-use Prim.Native.Nat.{_+_, _-_, _<_, _≤_}
-use mathlib.Core.Path.{_≡_, refl, sym, ap, _∙_}
+use Prim.Native.Nat.{_-_, _<_, _≤_}
+use mathlib.Core.Path.{_≡_, refl, sym, _∙_}
 use Rattle.calls.specs.PitchLaws.{pitch-back}
 use Rattle.calls.specs.FirstTable.{entryOf}
 use Rattle.publication_tables.specs.FillLaws.{copies}
