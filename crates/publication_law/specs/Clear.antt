@@ -28,7 +28,7 @@ pub record MakingClear (vs : Versions) (z : Given) (s : State) : Type 0 where
   pub version-fits : vs .tooLarge (z .version) ≡ false
   pub table-long : length (z .table) ≡ TABLE
   pub table-in-range : anyOutOfRange (z .table) ≡ false
-  pub table-even : anySteep (z .table) ≡ false
+  pub table-steps : anySteep (z .table) ≡ false
 
 module _ (vs : Versions) (z : Given) (s : State) where
   pub making-clear : AllClear (makingTests vs z s) → MakingClear vs z s
@@ -48,7 +48,7 @@ module _ (vs : Versions) (z : Given) (s : State) where
         version-fits = f .1 .1 .1 .1 .1 .0;
         table-long = eqb-true _ _ (not-false _ (f .1 .1 .1 .1 .1 .1 .0));
         table-in-range = f .1 .1 .1 .1 .1 .1 .1 .0;
-        table-even = f .1 .1 .1 .1 .1 .1 .1 .1 .0;
+        table-steps = f .1 .1 .1 .1 .1 .1 .1 .1 .0;
       }
 
   pub making-rows : MakingClear vs z s → AllClear (makingTests vs z s)
@@ -58,7 +58,7 @@ module _ (vs : Versions) (z : Given) (s : State) where
       not-outside 1 READERS-MAX _ (f .readers-low) (f .readers-high),
       (
         not-outside 1 PUBLISHERS-MAX _ (f .publishers-low) (f .publishers-high),
-        (not-outside SLOTS-MIN SLOTS-MAX _ (f .slots-low) (f .slots-high), (negated _ (eq-eqb _ _ (f .entries-are)), (f .version-fits, (negated _ (eq-eqb _ _ (f .table-long)), (f .table-in-range, (f .table-even, tt)))))),
+        (not-outside SLOTS-MIN SLOTS-MAX _ (f .slots-low) (f .slots-high), (negated _ (eq-eqb _ _ (f .entries-are)), (f .version-fits, (negated _ (eq-eqb _ _ (f .table-long)), (f .table-in-range, (f .table-steps, tt)))))),
       ),
     ),
   )
@@ -68,7 +68,7 @@ module _ (vs : Versions) (z : Given) (s : State) where
   table-is-good f = record {
     long = f .table-long;
     in-range = λ k l. none-below (λ k. outOfRange (entryOf (z .table) k)) _ k (f .table-in-range) (omega (arith, f .table-long));
-    even = λ k l. none-below (λ k. steep (entryOf (z .table) k) (entryOf (z .table) (k + 1))) _ k (f .table-even) (omega (arith, f .table-long));
+    steps-bounded = λ k l. none-below (λ k. steep (entryOf (z .table) k) (entryOf (z .table) (k + 1))) _ k (f .table-steps) (omega (arith, f .table-long));
   }
 
   -- The same from the number of its first row that applies: there is none.
@@ -79,8 +79,8 @@ module _ (vs : Versions) (z : Given) (s : State) where
 pub good-in-range : (table : List ℤ) → GoodTable table → anyOutOfRange table ≡ false
 good-in-range table good = no-below (λ k. outOfRange (entryOf table k)) (length table) (λ k l. good .in-range k (omega (arith, good .long)))
 
-pub good-even : (table : List ℤ) → GoodTable table → anySteep table ≡ false
-good-even table good = no-below (λ k. steep (entryOf table k) (entryOf table (k + 1))) (length table - 1) (λ k l. good .even k (omega (arith, good .long)))
+pub good-steps : (table : List ℤ) → GoodTable table → anySteep table ≡ false
+good-steps table good = no-below (λ k. steep (entryOf table k) (entryOf table (k + 1))) (length table - 1) (λ k l. good .steps-bounded k (omega (arith, good .long)))
 
 pub record ClaimClear (exclusive : Bool) (s : State) (p slot : ℕ) : Type 0 where
   pub publisher-named : p < publishers (s .words)

@@ -35,7 +35,7 @@ use Rattle.publication_tables.specs.FillLaws.{tables-long, tables-entry}
 use Rattle.statement.specs.Companions.{GraceTraits, IsFresh, MakesFresh, MakingAccepts, InTurn, StateCompanions, GraceStateCompanions, GraceCompanions}
 use Rattle.statement.specs.KeptInvariant.{Ghost, ghost₀, ghostStep, afterEvent, afterEvents, Back, GraceKeptInvariant, kept-after, grace-demand3, grace-companions}
 use Rattle.publication_law.specs.Steps.{reader, publisher, enterTests, leaveTests, syncTests, sync, raise, walk, oneMore, makingTests, made}
-use Rattle.publication_law.specs.Clear.{MakingClear, making-clear, making-rows, table-is-good, good-in-range, good-even, claim-clear}
+use Rattle.publication_law.specs.Clear.{MakingClear, making-clear, making-rows, table-is-good, good-in-range, good-steps, claim-clear}
 use Rattle.publication_law.specs.Damage.{DamageRules, sharedDamage}
 use Rattle.publication_law.specs.Table.{damaged, rows, step, making, machine}
 use Rattle.publication_law.specs.SectionRules.{SectionRules, tableBy}
@@ -456,7 +456,7 @@ module _ (R : SectionRules) (traits : GraceTraits) (L : KindShows R traits) wher
         version-fits = L .last-fits _ low;
         table-long = good .long;
         table-in-range = good-in-range (z .table) good;
-        table-even = good-even (z .table) good;
+        table-steps = good-steps (z .table) good;
       }))) refl
 
   -- A WALK with no looks that replies spent leaves the whole state as it was.

@@ -67,7 +67,7 @@ pub fn numbers_of(reply: Reply) -> ReplyNumbers
 }
 
 // How many numbers of each sort the header names.
-const LIMITS: usize = 14;
+const LIMITS: usize = 15;
 
 const REFUSALS: usize = 20;
 
@@ -88,6 +88,7 @@ fn limit(which: usize) -> u64
     let low = pitch_number(calls::PITCH_LOW);
     let high = pitch_number(calls::PITCH_HIGH);
     let feathered = pitch_number(calls::FEATHERED);
+    let step = pitch_number(calls::STEP_MAX);
     let numbers: [u64; LIMITS] = [
         layout::WORDS as u64,
         calls::KIND_NEW,
@@ -103,6 +104,7 @@ fn limit(which: usize) -> u64
         calls::NOT_READING,
         grace_version_law::LAST,
         two_phase_law::LAST,
+        step,
     ];
     numbers[which]
 }

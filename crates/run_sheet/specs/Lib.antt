@@ -1,3 +1,3 @@
-pub mod CardLent
+pub mod TakenFrom
 pub mod ReadFed
 pub mod Program

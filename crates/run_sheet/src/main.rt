@@ -10,8 +10,8 @@ ghost use Rattle.statement.specs.Machine.{state};
 ghost use Rattle.sheet_law.specs.Printing.{PRINTED-MAX};
 ghost use Rattle.sheet_law.specs.Sheet.{sheetState};
 ghost use Rattle.sheet_law.specs.Reads.{KEPT};
-ghost use Rattle.card_law.specs.Card.{CARD-KEPT, cardOf};
-ghost use Rattle.run_sheet.specs.CardLent.{CardLent};
+ghost use Rattle.card_law.specs.Card.{CARD-KEPT};
+ghost use Rattle.run_sheet.specs.TakenFrom.{TakenFrom};
 ghost use Rattle.run_sheet.specs.ReadFed.{ReadFed};
 use calls::Pitch;
 use calls::TABLE;
@@ -23,9 +23,6 @@ use libc::STDIN_FILENO;
 use libc::STDOUT_FILENO;
 use sheet::KEPT;
 use sheet::ROOM;
-
-// A card that cannot be opened or read counts as no entries.
-const NO_ENTRIES: usize = 0;
 
 // Whether the card ends behind the bytes that were read; a message where it does not.
 fn card_ends(fd: i32) -> bool {
@@ -76,58 +73,75 @@ fn say_why(size: usize, count: usize, bad: usize) {
     }
 }
 
-// The entries of a card's bytes, as many as there is room for.
-fn card_entries(bytes: &[u8], room: &mut [Pitch]) -> usize
-    requires { ⌜ length (now room) ≡ CARD-KEPT ⌝ }
-    ensures { λ n. ⌜ (n ≤ length (now (room .exit)))
-        × (take n (now (room .exit)) ≡ take CARD-KEPT (cardOf (now (bytes .entry)))) ⌝ }
-{
-    let read = card::read_card(bytes, room);
-    say_why(bytes.len(), read.count, read.bad);
-    read.count
-}
-
-// The entries of an open card; none, with a message, where it cannot be read.
-fn read_opened_card(fd: i32, room: &mut [Pitch]) -> usize
-    requires { ⌜ length (now room) ≡ CARD-KEPT ⌝ }
-    ensures { λ n. ⌜ (n ≤ length (now (room .exit))) × CardLent (take n (now (room .exit))) ⌝ }
-{
-    let mut bytes = io::buffer();
-    let n = io::read_full(fd, &mut bytes);
-    if n < CARD_READ && !card_ends(fd) {
-        return NO_ENTRIES;
+// What is wrong with a card that is no first table, if that was not said when it was read, and what `store` lines get then.
+fn say_unusable(read: bool, size: usize, count: usize, bad: usize) {
+    if read {
+        say_why(size, count, bad);
     }
-    card_entries(&bytes[..n], room)
-}
-
-// The entries of the card; none, with a message, where it cannot be opened.
-fn open_card(room: &mut [Pitch]) -> usize
-    requires { ⌜ length (now room) ≡ CARD-KEPT ⌝ }
-    ensures { λ n. ⌜ (n ≤ length (now (room .exit))) × CardLent (take n (now (room .exit))) ⌝ }
-{
-    let fd = os::open_read(b"card");
-    if fd < 0 {
-        os::fail(b"run_sheet: card, looked for in the folder where run_sheet was started");
-        return NO_ENTRIES;
-    }
-    let count = read_opened_card(fd, room);
-    libc::close(fd);
-    count
-}
-
-// What `store` lines are lent; where that is no first table, a message says what they get.
-fn first_table(room: &mut [Pitch]) -> usize
-    requires { ⌜ length (now room) ≡ CARD-KEPT ⌝ }
-    ensures { λ n. ⌜ (n ≤ length (now (room .exit))) × CardLent (take n (now (room .exit))) ⌝ }
-{
-    let count = open_card(room);
     if count != TABLE {
         io::write_all(
             STDERR_FILENO,
             b"run_sheet: without a first table each store line is refused with 40, or with a number that is tested before it\n",
         );
     }
-    count
+}
+
+// The bytes that were read of the card, and whether it could be read.
+struct CardBytes {
+    size: usize,
+    read: bool,
+}
+
+// The first bytes of an open card, as many as there is room for; none, with a message, where it cannot be read.
+fn read_opened_card(fd: i32, bytes: &mut [u8]) -> CardBytes
+    ensures { λ r. ⌜ r .size ≤ length (now (bytes .exit)) ⌝ }
+{
+    let size = io::read_full(fd, bytes);
+    if size < bytes.len() && !card_ends(fd) {
+        return CardBytes {
+            size: 0,
+            read: false,
+        };
+    }
+    CardBytes { size, read: true }
+}
+
+// The same of the card, which is opened and closed; none, with a message, where it cannot be opened.
+fn read_card_file(bytes: &mut [u8]) -> CardBytes
+    ensures { λ r. ⌜ r .size ≤ length (now (bytes .exit)) ⌝ }
+{
+    let fd = os::open_read(b"card");
+    if fd < 0 {
+        os::fail(b"run_sheet: card, looked for in the folder where run_sheet was started");
+        return CardBytes {
+            size: 0,
+            read: false,
+        };
+    }
+    let got = read_opened_card(fd, bytes);
+    libc::close(fd);
+    got
+}
+
+// How many bytes were read of the card, and how many entries these have.
+struct CardTaken {
+    size: usize,
+    count: usize,
+}
+
+// The entries of the card's first bytes, as many as there is room for; a message where they are no first table.
+fn take_card(bytes: &mut [u8], room: &mut [Pitch]) -> CardTaken
+    requires { ⌜ length (now room) ≡ CARD-KEPT ⌝ }
+    ensures { λ r. ⌜ TakenFrom (now (bytes .exit)) (r .size) (now (room .exit)) (r .count) ⌝ }
+{
+    let got = read_card_file(bytes);
+    let size = got.size;
+    let entries = card::read_card(&bytes[..size], room);
+    say_unusable(got.read, size, entries.count, entries.bad);
+    CardTaken {
+        size,
+        count: entries.count,
+    }
 }
 
 // One read: how many bytes it brought, 0 at the end of the input and, with a message, where it failed.
@@ -221,12 +235,10 @@ fn finish_sheet(
     written(&out[..made]);
 }
 
-// The sheet on standard input, to its end, with the first table that a card gave.
+// The sheet on standard input, to its end, with a first table.
 // A proved loop has to end, and nothing says that the input does:
 // the loop counts its reads down, from a number that no run uses up.
-fn play_sheet(table: &[Pitch])
-    requires { ⌜ CardLent (now table) ⌝ }
-{
+fn play_sheet(table: &[Pitch]) {
     let mut words = [0u64; WORDS];
     let mut room: [Pitch; ROOM] = [0; ROOM];
     let mut kept = [0u8; KEPT];
@@ -269,7 +281,9 @@ fn play_sheet(table: &[Pitch])
 }
 
 fn main() {
+    let mut bytes = io::buffer();
     let mut room: [Pitch; CARD_KEPT] = [0; CARD_KEPT];
-    let count = first_table(&mut room);
+    let taken = take_card(&mut bytes, &mut room);
+    let count = taken.count;
     play_sheet(&room[..count]);
 }

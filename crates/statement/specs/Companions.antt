@@ -54,7 +54,7 @@ pub record GraceTraits : Type 0 where
 pub record GoodTable (table : List ℤ) : Type 0 where
   pub long : length table ≡ TABLE
   pub in-range : (k : ℕ) → k < TABLE → outOfRange (entryOf table k) ≡ false
-  pub even : (k : ℕ) → k + 1 < TABLE → steep (entryOf table k) (entryOf table (k + 1)) ≡ false
+  pub steps-bounded : (k : ℕ) → k + 1 < TABLE → steep (entryOf table k) (entryOf table (k + 1)) ≡ false
 
 -- A making with every argument in its range, lent words and entries of the right lengths and a good table, is accepted.
 abbrev pub MakingAccepts : Machine → Traits → Type 0

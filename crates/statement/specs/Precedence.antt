@@ -49,7 +49,7 @@ abbrev ramp : ℕ → ℕ → ℕ → List ℤ
 ramp zero v by = []
 ramp (suc n) v by = pos v ∷ ramp n (v + by) by
 
--- The ends of a first table. No entries get 40, and 33; with a first version above the last they get 6. -501 and 9501 get 41 wherever they stand.
+-- The ends of a first table. No entries get 40, and 33; with a first version above the last they get 6. -501 as the last entry and 9501 as the first get 41.
 -- Steps of 1500 are made, up and down; 1501 gets 42, at the first pair and at the last. Entries 31 and 0 are no neighbours.
 abbrev pub tableEnds : Machine → ℕ → List Example
 tableEnds M last =

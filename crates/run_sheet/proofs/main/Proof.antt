@@ -5,17 +5,23 @@ use lib.Seq.{length-take-le}
 use Rattle.run_sheet.proofs.main.Statement.{statement}
 use Rattle.run_sheet.proofs.main.Tie as tie
 
-slice-aggregate-first-table : tie.Need-slice-aggregate-first-table
-slice-aggregate-first-table c = search needs
+buffer-requires : tie.Need-buffer-requires
+buffer-requires c κs = search needs
 
-first-table-requires : tie.Need-first-table-requires
-first-table-requires c κs = search needs
+slice-aggregate-take-card : tie.Need-slice-aggregate-take-card
+slice-aggregate-take-card c = search needs
+
+slice-aggregate-take-card-2 : tie.Need-slice-aggregate-take-card-2
+slice-aggregate-take-card-2 c = search needs
+
+take-card-requires : tie.Need-take-card-requires
+take-card-requires c κs = search needs
 
 array-share-prefix-room : tie.Need-array-share-prefix-room
 array-share-prefix-room c = search needs
 
 slice-aggregate-play-sheet : tie.Need-slice-aggregate-play-sheet
-slice-aggregate-play-sheet c = sym (length-take-le (c .before .before .first-table .result) (c .before .before .first-table .last .0) (c .before .before .first-table .ensures .0))
+slice-aggregate-play-sheet c = let t = c .before .before .before .take-card in sym (length-take-le (t .result .count) (t .last .1 .0) (t .ensures .within))
 
 play-sheet-requires : tie.Need-play-sheet-requires
 play-sheet-requires c κs = search needs
@@ -27,8 +33,10 @@ pub main-spec : {M : Type 1} → statement M
 main-spec =
     tie.close
     (tie.spec
-    slice-aggregate-first-table
-    first-table-requires
+    buffer-requires
+    slice-aggregate-take-card
+    slice-aggregate-take-card-2
+    take-card-requires
     array-share-prefix-room
     slice-aggregate-play-sheet
     play-sheet-requires
