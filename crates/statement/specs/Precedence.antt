@@ -49,19 +49,19 @@ abbrev ramp : ℕ → ℕ → ℕ → List ℤ
 ramp zero v by = []
 ramp (suc n) v by = pos v ∷ ramp n (v + by) by
 
--- The ends of a first table. No entries get 40, and 33; with a first version above the last they get 6. -501 as the last entry and 9501 as the first get 41.
--- Steps of 1500 are made, up and down; 1501 gets 42, at the first pair and at the last. Entries 31 and 0 are no neighbours.
+-- The ends of a first table. No entries get 40, and 33; with a first version above the last they get 6. -501 as the last entry and 9501 as entry 16 get 41.
+-- Steps of 1500 are made, up and down; 1501 gets 42, up between entries 15 and 16 and down at the last pair. Entries 31 and 0 are no neighbours.
 abbrev pub tableEnds : Machine → ℕ → List Example
 tableEnds M last =
     makes M (given 1 1 2 last []) (lent WORDS 64) (Refused 40)
     ∷ makes M (given 1 1 2 last (replicate 33 (pos 0))) (lent WORDS 64) (Refused 40)
     ∷ makes M (given 1 1 2 (last + 1) []) (lent WORDS 64) (Refused 6)
     ∷ makes M (given 1 1 2 last (replicate 31 (negℤ (pos 500)) ++ (negℤ (pos 501) ∷ []))) (lent WORDS 64) (Refused 41)
-    ∷ makes M (given 1 1 2 last (thenAll (pos 9501) (pos 9500) 31)) (lent WORDS 64) (Refused 41)
+    ∷ makes M (given 1 1 2 last (replicate 16 (pos 9500) ++ thenAll (pos 9501) (pos 9500) 15)) (lent WORDS 64) (Refused 41)
     ∷ makes M (given 1 1 2 last (replicate 32 (negℤ (pos 500)))) (lent WORDS 64) Made
     ∷ makes M (given 1 1 2 last (replicate 32 (pos 9500))) (lent WORDS 64) Made
     ∷ makes M (given 1 1 2 last (pairs 16 (negℤ (pos 500)) (pos 1000))) (lent WORDS 64) Made
-    ∷ makes M (given 1 1 2 last (thenAll (negℤ (pos 500)) (pos 1001) 31)) (lent WORDS 64) (Refused 42)
+    ∷ makes M (given 1 1 2 last (replicate 16 (negℤ (pos 500)) ++ replicate 16 (pos 1001))) (lent WORDS 64) (Refused 42)
     ∷ makes M (given 1 1 2 last (replicate 31 (pos 1501) ++ (pos 0 ∷ []))) (lent WORDS 64) (Refused 42)
     ∷ makes M (given 1 1 2 last (ramp 32 0 300)) (lent WORDS 64) Made
     ∷ []
