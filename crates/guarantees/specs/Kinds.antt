@@ -18,10 +18,10 @@ use Rattle.layout.specs.Layout.{WORDS, kindWord, indicator}
 use Rattle.statement.specs.Machine.{State, state, Given, Fresh, events, afterAll}
 use Rattle.statement.specs.Demand3.{Demand3}
 use Rattle.statement.specs.Frame.{Frame}
-use Rattle.statement.specs.Looks.{LooksInRange, FirstTableFirst}
+use Rattle.statement.specs.Looks.{LooksInRange, FirstTableUntilSwap}
 use Rattle.statement.specs.Companions.{MakingAccepts, MakesFresh, RefusedLeaves, GraceCompanions}
 use Rattle.statement.specs.FreeSlot.{FindsFreeSlot, finds-free-slot-alike}
-use Rattle.statement.specs.Alike.{fresh-alike, after-alike, events-alike, demand3-alike, grace-companions-alike, making-accepts-alike, makes-fresh-alike, looks-in-range-alike, first-table-first-alike}
+use Rattle.statement.specs.Alike.{fresh-alike, after-alike, events-alike, demand3-alike, grace-companions-alike, making-accepts-alike, makes-fresh-alike, looks-in-range-alike, first-table-until-swap-alike}
 use Rattle.publication_law.specs.DamageLaws.{zero-damaged}
 use Rattle.publication_law.specs.Steps.{publisher}
 use Rattle.publication_law.specs.Table.{damaged}
@@ -51,9 +51,9 @@ looks-in-range = by-number (λ n. LooksInRange (store n))
     (λ kind. looks-in-range-alike (storeOf kind) (store (kindNumber kind)) (alike kind) (kind-promises kind .looks-in-range))
     (λ n none s f. absurd (none s f))
 
-pub first-table-first : (n : ℕ) → FirstTableFirst (store n)
-first-table-first = by-number (λ n. FirstTableFirst (store n))
-    (λ kind. first-table-first-alike (storeOf kind) (store (kindNumber kind)) (alike kind) (kind-promises kind .first-table-first))
+pub first-table-until-swap : (n : ℕ) → FirstTableUntilSwap (store n)
+first-table-until-swap = by-number (λ n. FirstTableUntilSwap (store n))
+    (λ kind. first-table-until-swap-alike (storeOf kind) (store (kindNumber kind)) (alike kind) (kind-promises kind .first-table-until-swap))
     (λ n none s f. absurd (none s f))
 
 -- The numbers of the kinds, and that none of them lacks a call.

@@ -24,7 +24,7 @@ use Rattle.layout.specs.Records.{_atPlace_, _walk≔_, _mark≔_, _next≔_, _l
 use Rattle.statement.specs.Machine.{State, Outcome, Given, Fresh, afterAll}
 use Rattle.statement.specs.Demand3.{Demand3}
 use Rattle.statement.specs.Frame.{Frame}
-use Rattle.statement.specs.Looks.{LooksInRange, FirstTableFirst, WritesInRange, looks-in-range, first-table-first}
+use Rattle.statement.specs.Looks.{LooksInRange, FirstTableUntilSwap, WritesInRange, looks-in-range, first-table-until-swap}
 use Rattle.statement.specs.Companions.{GraceTraits, MakingAccepts, MakesFresh, RefusedLeaves, GraceCompanions}
 use Rattle.publication_law.specs.Steps.{publisher, raise, walked}
 use Rattle.publication_law.specs.Table.{Table, damaged, rows, step, making, machine}
@@ -54,7 +54,7 @@ pub record Promises (T : Table) (traits : GraceTraits) : Type 0 where
   pub companions : GraceCompanions (machine T) traits
   -- every accepted look is of a pitch in range, and of the table lent to the making until a SWAP is accepted
   pub looks-in-range : LooksInRange (machine T)
-  pub first-table-first : FirstTableFirst (machine T)
+  pub first-table-until-swap : FirstTableUntilSwap (machine T)
   -- the damage test is false after every list from fresh
   pub never-damaged : (s : State) → Fresh (machine T) s → (cs : List Call) → damaged T (afterAll (machine T) s cs) ≡ false
   pub making-accepts : MakingAccepts (machine T) (traits .every)
@@ -124,7 +124,7 @@ promises-of R traits L = record {
   demand3 = demand3-of R traits L;
   companions = companions-of R traits L;
   looks-in-range = looks-in-range (machine (tableBy R)) (writes-in-range R traits L) (own-table R traits L) (makes-fresh-of R traits L);
-  first-table-first = first-table-first (machine (tableBy R)) (own-table R traits L);
+  first-table-until-swap = first-table-until-swap (machine (tableBy R)) (own-table R traits L);
   never-damaged = never-damaged-of R traits L;
   making-accepts = making-accepts-of R traits L;
   refused-leaves = refused-leaves-of-acts (λ s. traits .publishes) (tableBy R) (act-laws-of R traits L);

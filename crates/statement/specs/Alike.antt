@@ -15,7 +15,7 @@ use Rattle.calls.specs.Told.{Told}
 use Rattle.calls.specs.Tally.{Tally}
 use Rattle.statement.specs.Machine.{State, outcome, Given, Machine, Fresh, events, afterAll}
 use Rattle.statement.specs.Demand3.{Demand3}
-use Rattle.statement.specs.Looks.{LooksInRange, FirstTableFirst}
+use Rattle.statement.specs.Looks.{LooksInRange, FirstTableUntilSwap}
 use Rattle.statement.specs.Companions.{Traits, GraceTraits, MakingAccepts, MakesFresh, StateCompanions, GraceStateCompanions, Companions, GraceCompanions}
 use Rattle.statement.specs.Examples.{lentFor, replies, repliesAfter, repliesFrom, repliesOn, leadTo, Example, Holds, AllHold}
 use Rattle.statement.specs.Examples.Example.{shows, unchanged, makes, each}
@@ -148,8 +148,8 @@ module _ (M N : Machine) where
     pub looks-in-range-alike : LooksInRange M → LooksInRange N
     looks-in-range-alike promise s f cs pre post r k a e = promise s (fresh-alike s f) cs pre post r k a (sym (events-alike s f cs) ∙ e)
 
-    pub first-table-first-alike : FirstTableFirst M → FirstTableFirst N
-    first-table-first-alike promise s f cs pre post r k a e = promise s (fresh-alike s f) cs pre post r k a (sym (events-alike s f cs) ∙ e)
+    pub first-table-until-swap-alike : FirstTableUntilSwap M → FirstTableUntilSwap N
+    first-table-until-swap-alike promise s f cs pre post r k a e = promise s (fresh-alike s f) cs pre post r k a (sym (events-alike s f cs) ∙ e)
 
     pub making-accepts-alike : (traits : Traits) → MakingAccepts M traits → MakingAccepts N traits
     making-accepts-alike traits promise z s = rw (like .makings z s) (promise z s)

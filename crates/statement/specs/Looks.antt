@@ -32,8 +32,8 @@ abbrev pub Unswapped : List Event → Type 0
 Unswapped es = (pre post : List Event) (p : ℕ) (a : Reply) → es ≡ pre ++ (Swap p ⇒ a) ∷ post → accepted a ≡ false
 
 -- Until a SWAP is accepted, LOOK k gives entry k of the table lent to the making.
-abbrev pub FirstTableFirst : Machine → Type 0
-FirstTableFirst M = (s : State) (f : Fresh M s) (cs : List Call) (pre post : List Event) (r k : ℕ) (a : Reply) → events M s cs ≡ pre ++ (Look r k ⇒ a) ∷ post → accepted a ≡ true
+abbrev pub FirstTableUntilSwap : Machine → Type 0
+FirstTableUntilSwap M = (s : State) (f : Fresh M s) (cs : List Call) (pre post : List Event) (r k : ℕ) (a : Reply) → events M s cs ≡ pre ++ (Look r k ⇒ a) ∷ post → accepted a ≡ true
     → Unswapped pre → a ≡ Pitch (entryOf (f .arguments .table) k)
 
 -- A WRITE is accepted of a pitch in range alone, on every state.
@@ -140,8 +140,8 @@ unswapped-bring P ((c ⇒ a) ∷ es) none = (brings c none, unswapped-bring P es
     brings (Walk p b) none ok = tt
     brings (Release p) none ok = tt
 
-pub first-table-first : (M : Machine) → Demand3 M (λ z. z .table) → FirstTableFirst M
-first-table-first M promise s f cs pre post r k a e ok none =
+pub first-table-until-swap : (M : Machine) → Demand3 M (λ z. z .table) → FirstTableUntilSwap M
+first-table-until-swap M promise s f cs pre post r k a e ok none =
     let first = f .arguments .table in
     let found = promise s f cs .looks pre post r k a e ok in
     let has = shelf-has (λ k v. entryOf first k ≡ v) Anything (model₀ first) pre (first-has (λ k v. entryOf first k ≡ v) Anything first (λ k v e. entry-is first k v e .1)) (unswapped-bring (λ k v. entryOf first k ≡ v) pre none) in
