@@ -7,7 +7,7 @@ use crate::slices::MOST_TABLE;
 use second::layout::WORDS;
 use second::random::Random;
 use second::store::{Kind, Pitch, KINDS, PITCH_HIGH, PITCH_LOW, STEP_MOST, TABLE};
-use second::tables::{self, PAIRS};
+use second::tables::{self, ENDS, PAIRS};
 use std::fmt;
 
 /// What a run must show of first tables, of both kinds.
@@ -30,20 +30,12 @@ pub enum Border {
 }
 
 const LENGTHS: [usize; 6] = [0, 1, 31, 33, 64, MOST_TABLE];
-const ENTRIES: [Pitch; 6] = [
-    PITCH_LOW - 1,
-    PITCH_LOW,
-    PITCH_HIGH,
-    PITCH_HIGH + 1,
-    Pitch::MIN,
-    Pitch::MAX,
-];
 const STEPS: [i32; 4] = [STEP_MOST, STEP_MOST + 1, -STEP_MOST, -STEP_MOST - 1];
 
 /// Every border.
 pub fn borders() -> impl Iterator<Item = Border> {
     let lengths = LENGTHS.into_iter().map(Border::Length);
-    let entry = |k| ENTRIES.into_iter().map(move |v| Border::Entry(k, v));
+    let entry = |k| ENDS.into_iter().map(move |v| Border::Entry(k, v));
     let step = |pair| STEPS.into_iter().map(move |step| Border::Step(pair, step));
     lengths
         .chain((0..TABLE).flat_map(entry))

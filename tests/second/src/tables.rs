@@ -81,16 +81,18 @@ fn any_in_range(random: &mut Random) -> Pitch {
     random.below(PITCHES) as Pitch + PITCH_LOW
 }
 
-/// A pitch just outside the range, just inside it, or far outside.
+/// Pitches just outside the range, just inside it, and far outside.
+pub const ENDS: [Pitch; 6] = [
+    PITCH_LOW - 1,
+    PITCH_LOW,
+    PITCH_HIGH,
+    PITCH_HIGH + 1,
+    Pitch::MIN,
+    Pitch::MAX,
+];
+
 fn some_end(random: &mut Random) -> Pitch {
-    random.pick(&[
-        PITCH_LOW - 1,
-        PITCH_LOW,
-        PITCH_HIGH,
-        PITCH_HIGH + 1,
-        Pitch::MIN,
-        Pitch::MAX,
-    ])
+    random.pick(&ENDS)
 }
 
 /// A good table with this entry, which is in range, at this place.
