@@ -4,3 +4,4 @@ pub mod Rows
 -- Laws.
 pub mod RowLaws
 pub mod Fills
+pub mod Options

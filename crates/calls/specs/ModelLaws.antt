@@ -3,17 +3,12 @@ use Prim.Native.Nat.{ℕ, zero, suc, _<_}
 use native.Mathlib.Omega.{arith}
 use mathlib.Core.Path.{_≡_, refl, subst}
 use mathlib.Core.List.{List, [], _∷_, _++_}
-use mathlib.Core.Option.{none, some}
+use mathlib.Core.Option.{some}
 use lib.IntN.{ℤ}
 use lib.ListN.{length}
+use Rattle.base.specs.Options.{none-some, some-same}
 use Rattle.calls.specs.FirstTable.{entryOf}
 use Rattle.calls.specs.Model.{entry}
-
-pub none-some : (v : ℤ) → none ≡ some v → ⊥
-none-some v e = let no : _≡_ {A = ℕ} 0 1 = cc in omega arith
-
-some-same : (v v′ : ℤ) → some v ≡ some v′ → v ≡ v′
-some-same v v′ e = cc
 
 pub entry-old : (draft more : List ℤ) (k : ℕ) → k < length draft → entry (draft ++ more) k ≡ entry draft k
 entry-old [] more k lt = absurd (omega arith)

@@ -12,6 +12,7 @@ use lib.IntN.{ℤ, pos, negsuc}
 use lib.ListN.{length, take, length-append, length-take}
 use lib.Seq.{take-all}
 use borrow.Author.Tests.{ne-eqb, ltb-true, ltb-false}
+use Rattle.base.specs.Options.{none-some, some-same}
 use Rattle.calls.specs.Numbers.{TABLE}
 use Rattle.lines_law.specs.Lines.{NEWLINE, linesOf, afterLines}
 use Rattle.lines_law.specs.Joining.{joinedLines, OneLine, OneLineEach, IsJoined, is-joined, lines-joined, lines-ended}
@@ -58,12 +59,6 @@ unfolding afterLines
 none-stays [] = refl
 none-stays (l ∷ ls) = none-stays ls
 
-no-entries : (vs : List ℤ) → none ≡ some vs → ⊥
-no-entries vs e = let z : _≡_ {A = ℕ} 0 1 = cc in omega arith
-
-some-same : (vs ws : List ℤ) → some vs ≡ some ws → vs ≡ ws
-some-same vs ws e = cc
-
 -- Entries' texts are read back behind those that were read before.
 texts-back : (us vs : List ℤ) → FitsEach vs → afterLines cardReader (some us) (angleTexts vs) ≡ some (us ++ vs)
 unfolding afterLines angleTexts
@@ -86,7 +81,7 @@ texts-only us (l ∷ ls) vs e = go (angle l) refl e (λ v z. texts-only (us ++ (
   where
     go : (a : Angle) → angle l ≡ a → afterLines cardReader (withLine (some us) a) ls ≡ some vs
         → ((v : ℤ) → afterLines cardReader (some (us ++ (v ∷ []))) ls ≡ some vs → ReadBehind (us ++ (v ∷ [])) ls vs) → ReadBehind us (l ∷ ls) vs
-    go NoAngle d z rest = absurd (no-entries vs (sym (none-stays ls) ∙ z))
+    go NoAngle d z rest = absurd (none-some vs (sym (none-stays ls) ∙ z))
     go (Hundredths v) d z rest =
         let q = angle-text l v d in
         let r = rest v z in
@@ -116,7 +111,7 @@ read-unended t vs f e = go (lines-ended t)
 
     go : (linesOf (t ++ (NEWLINE ∷ [])) ≡ linesOf t) ⊎ (linesOf (t ++ (NEWLINE ∷ [])) ≡ linesOf t ++ ([] ∷ [])) → cardLines t ≡ some vs
     go (inl j) = ap (λ (ls : List (List ℕ)). afterLines cardReader (some []) ls) (sym j) ∙ whole
-    go (inr j) = absurd (no-entries vs (sym (blank-ends (some []) (linesOf t)) ∙ (ap (λ (ls : List (List ℕ)). afterLines cardReader (some []) ls) (sym j) ∙ whole)))
+    go (inr j) = absurd (none-some vs (sym (blank-ends (some []) (linesOf t)) ∙ (ap (λ (ls : List (List ℕ)). afterLines cardReader (some []) ls) (sym j) ∙ whole)))
 
 -- A card is read as these entries exactly if they have their width, and it is their text or lacks but its last newline.
 pub read-exactly : (t : List ℕ) (vs : List ℤ) → (cardLines t ≡ some vs) ↔ (FitsEach vs × IsJoined t (cardText vs))

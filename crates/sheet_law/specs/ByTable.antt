@@ -13,6 +13,7 @@ use lib.ListN.{length, take, drop, length-take, take-append-drop}
 use lib.Seq.{take-all}
 use borrow.Author.Tests.{ne-eqb, ltb-true, ltb-false}
 use Rattle.base.specs.Base.{choose}
+use Rattle.base.specs.Options.{none-some}
 use Rattle.base.specs.Rows.{Test, firstOf, outside}
 use Rattle.base.specs.RowLaws.{choose-split}
 use Rattle.calls.specs.declared.Reply.the-variants.{Made, Refused}
@@ -46,14 +47,11 @@ pub record RefusedWithout (s : State) (c : Command) : Type 0 where
   pub early : (number ≤ BAD-VERSION) ⊎ (number ≡ BAD-TABLE-LENGTH)
   pub refused : (entries : List ℤ) → asFirstTable entries ≡ none → played entries s c ≡ outcome (Refused number) s
 
-not-none : (l : List ℤ) → some l ≡ none → ⊥
-not-none l e = let z : _≡_ {A = ℕ} 0 1 = cc in omega arith
-
 not-32 : (l : List ℤ) → asFirstTable l ≡ none → eqb (length l) TABLE ≡ false
 not-32 l = go (eqb (length l) TABLE) refl
   where
     go : (b : Bool) → eqb (length l) TABLE ≡ b → choose b (some l) none ≡ none → eqb (length l) TABLE ≡ false
-    go true e h = absurd (not-none l h)
+    go true e h = absurd (none-some l (sym h))
     go false e h = e
 
 -- One first table is one list.
@@ -62,8 +60,8 @@ one-list l m = go (eqb (length l) TABLE) (eqb (length m) TABLE)
   where
     go : (a b : Bool) → choose a (some l) none ≡ choose b (some m) none → (l ≡ m) ⊎ ((choose a (some l) none ≡ none) × (choose b (some m) none ≡ none))
     go true true e = inl cc
-    go true false e = absurd (not-none l e)
-    go false true e = absurd (not-none m (sym e))
+    go true false e = absurd (none-some l (sym e))
+    go false true e = absurd (none-some m e)
     go false false e = inr (refl, refl)
 
 refuses : (rows : List Test) (o : Outcome) (s : State) (n : ℕ) → firstOf rows ≡ n → n ≢ 0 → decide rows o s ≡ outcome (Refused n) s

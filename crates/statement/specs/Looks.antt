@@ -7,6 +7,7 @@ use mathlib.Core.List.{List, [], _∷_, _++_}
 use mathlib.Core.Option.{some}
 use lib.IntN.{ℤ}
 use Rattle.base.specs.Base.{is}
+use Rattle.base.specs.Options.{none-some}
 use Rattle.base.specs.RowLaws.{clash, choose-split, same, at-or}
 use Rattle.calls.specs.declared.Call.{Call}
 use Rattle.calls.specs.declared.Call.the-variants.{Enter, Look, Leave, Claim, Write, Swap, Sync, Raise, Walk, Release}
@@ -17,7 +18,7 @@ use Rattle.calls.specs.FirstTable.{outOfRange, entryOf}
 use Rattle.calls.specs.Events.{Event, accepted, placeOf, movedBy, foldEvents}
 use Rattle.calls.specs.Events.Event.{_⇒_}
 use Rattle.calls.specs.Model.{Model, model₀, modelStep, entry, withNote}
-use Rattle.calls.specs.ModelLaws.{entry-is, none-some, appended-entries}
+use Rattle.calls.specs.ModelLaws.{entry-is, appended-entries}
 use Rattle.statement.specs.Machine.{State, Machine, Fresh, events}
 use Rattle.statement.specs.Demand3.{Demand3}
 use Rattle.statement.specs.Companions.{MakesFresh}
