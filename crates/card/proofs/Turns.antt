@@ -13,7 +13,7 @@ use lib.Seq.{drop-cons, take-suc, take-all, take-suc-set, take-append-le, drop-d
 use borrow.Author.Tests.{eq-eqb, ne-eqb, ltb-true, ltb-false}
 use Rattle.lines_law.specs.Lines.{NEWLINE, linesFrom, linesOf, afterLines}
 use Rattle.sheet_law.specs.declared.Angle.{Angle}
-use Rattle.sheet_law.specs.declared.Angle.the-variants.{Hundredths, NoAngle}
+use Rattle.sheet_law.specs.declared.Angle.the-variants.{SignedDecimal, NoAngle}
 use Rattle.sheet_law.specs.Reading.{angle}
 use Rattle.sheet_law.specs.Widths.{tail}
 use Rattle.card_law.specs.Card.{withLine, cardReader, cardLines, cardOf, orNoEntries, orLine, badLine}
@@ -96,7 +96,7 @@ module _ {t : List ℕ} {from line : ℕ} {room : List ℤ} {count : ℕ} (w : G
           ∙ ap (λ (a : Angle). orLine a (line + 1) (badLine (line + 1) (linesOf (drop (n + 1) (drop from t))))) e
 
     -- A pitch.
-    module _ (v : ℤ) (e : angle (take n (drop from t)) ≡ Hundredths v) (next : ℕ) (rest : linesOf (drop (n + 1) (drop from t)) ≡ linesOf (drop next t)) where
+    module _ (v : ℤ) (e : angle (take n (drop from t)) ≡ SignedDecimal v) (next : ℕ) (rest : linesOf (drop (n + 1) (drop from t)) ≡ linesOf (drop next t)) where
       pub all-next : cardLines t ≡ afterLines cardReader (some (w .entries ++ (v ∷ []))) (linesOf (drop next t))
       unfolding afterLines
       all-next =
@@ -170,13 +170,13 @@ module _ {t : List ℕ} {from line : ℕ} {room : List ℤ} {count : ℕ} (w : G
         (sym (bad-here w h n (first-of f .0) (first-of f .1 some-left) same), no-card w h n (first-of f .0) (first-of f .1 some-left) same)
 
     -- a pitch: it is put if there is room, and the next line begins behind the newline
-    pub goes-on : (v : ℤ) → Hundredths v ≡ angle (take (from + n - from) (drop from t))
+    pub goes-on : (v : ℤ) → SignedDecimal v ≡ angle (take (from + n - from) (drop from t))
         → (many : ℕ) (filled : List ℤ) → (count < length room → (many ≡ count + 1) × (filled ≡ set room count v)) × (length room ≤ count → (many ≡ count) × (filled ≡ room))
         → (next : ℕ) → (from + n < length t → next ≡ from + n + 1) × (length t ≤ from + n → next ≡ from + n)
         → Going t next (line + 1) filled many
     goes-on v e many filled put next after = by-end (ltb (from + n) (length t)) refl
       where
-        same : angle (take n (drop from t)) ≡ Hundredths v
+        same : angle (take n (drop from t)) ≡ SignedDecimal v
         same = ap angle (sym (line-of _ refl)) ∙ sym e
 
         low : n ≤ length (drop from t)

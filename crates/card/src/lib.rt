@@ -76,7 +76,7 @@ pub fn read_card(bytes: &[u8], room: &mut [Pitch]) -> CardRead
         line += 1;
         let n = line_length(&bytes[from..]);
         let end = from + n;
-        let Angle::Hundredths(v) = angle(&bytes[from..end]) else {
+        let Angle::SignedDecimal(v) = angle(&bytes[from..end]) else {
             return card_read(0, line);
         };
         count = put_entry(room, count, v);

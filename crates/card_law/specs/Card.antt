@@ -6,7 +6,7 @@ use lib.IntN.{ℤ}
 use Rattle.calls.specs.Numbers.{TABLE}
 use Rattle.lines_law.specs.Lines.{NEWLINE, linesOf, LineReader, afterLines}
 use Rattle.sheet_law.specs.declared.Angle.{Angle}
-use Rattle.sheet_law.specs.declared.Angle.the-variants.{Hundredths, NoAngle}
+use Rattle.sheet_law.specs.declared.Angle.the-variants.{SignedDecimal, NoAngle}
 use Rattle.sheet_law.specs.Reading.{LINE-MAX, angle}
 use Rattle.sheet_law.specs.Canonical.{angleText}
 use Rattle.sheet_law.specs.Sheet.{sheet}
@@ -16,7 +16,7 @@ use Rattle.sheet_law.specs.ByTable.{asFirstTable}
 abbrev pub withLine : Option (List ℤ) → Angle → Option (List ℤ)
 withLine none a = none
 withLine (some vs) NoAngle = none
-withLine (some vs) (Hundredths v) = some (vs ++ (v ∷ []))
+withLine (some vs) (SignedDecimal v) = some (vs ++ (v ∷ []))
 
 abbrev pub cardReader : LineReader
 cardReader = record { Kept = Option (List ℤ); after = λ x l. withLine x (angle l); says = λ x l. []; longest = LINE-MAX }
@@ -34,7 +34,7 @@ cardOf t = orNoEntries (cardLines t)
 -- The number of the first line that is no pitch, after n lines; 0 if there is none.
 abbrev pub orLine : Angle → ℕ → ℕ → ℕ
 orLine NoAngle n rest = n
-orLine (Hundredths v) n rest = rest
+orLine (SignedDecimal v) n rest = rest
 
 unfoldable pub badLine : ℕ → List (List ℕ) → ℕ
 badLine n [] = 0

@@ -17,7 +17,7 @@ use Rattle.calls.specs.Numbers.{TABLE}
 use Rattle.lines_law.specs.Lines.{NEWLINE, linesOf, afterLines}
 use Rattle.lines_law.specs.Joining.{joinedLines, OneLine, OneLineEach, IsJoined, is-joined, lines-joined, lines-ended}
 use Rattle.sheet_law.specs.declared.Angle.{Angle}
-use Rattle.sheet_law.specs.declared.Angle.the-variants.{Hundredths, NoAngle}
+use Rattle.sheet_law.specs.declared.Angle.the-variants.{SignedDecimal, NoAngle}
 use Rattle.sheet_law.specs.Reading.{angle}
 use Rattle.sheet_law.specs.Text.{decimal}
 use Rattle.sheet_law.specs.Decimals.{AllDigits, all-digits}
@@ -82,7 +82,7 @@ texts-only us (l ∷ ls) vs e = go (angle l) refl e (λ v z. texts-only (us ++ (
     go : (a : Angle) → angle l ≡ a → afterLines cardReader (withLine (some us) a) ls ≡ some vs
         → ((v : ℤ) → afterLines cardReader (some (us ++ (v ∷ []))) ls ≡ some vs → ReadBehind (us ++ (v ∷ [])) ls vs) → ReadBehind us (l ∷ ls) vs
     go NoAngle d z rest = absurd (none-some vs (sym (none-stays ls) ∙ z))
-    go (Hundredths v) d z rest =
+    go (SignedDecimal v) d z rest =
         let q = angle-text l v d in
         let r = rest v z in
         record {

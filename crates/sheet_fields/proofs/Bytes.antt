@@ -14,7 +14,7 @@ use borrow.Author.Tests.{lt-ltb, le-ltb, eq-eqb, ne-eqb}
 use Rattle.base.specs.Base.{choose}
 use Rattle.calls.specs.Numbers.{PITCH-HALF}
 use Rattle.sheet_law.specs.declared.Number.the-variants.{Decimal, NoNumber}
-use Rattle.sheet_law.specs.declared.Angle.the-variants.{Hundredths, NoAngle}
+use Rattle.sheet_law.specs.declared.Angle.the-variants.{SignedDecimal, NoAngle}
 use Rattle.sheet_law.specs.Text.{sameText, SPACE, MINUS, DIGIT-0, DIGIT-9}
 use Rattle.sheet_law.specs.Reading.{upToSpace, afterSpace, digits, plain, atMost, negative, positive, angle}
 
@@ -130,9 +130,9 @@ plain-digits (b ∷ c ∷ l) h e = rw (ne-eqb b DIGIT-0 (e (omega arith))) refl
 pub negative-zero : (n : ℕ) → n ≡ 0 → negative (Decimal n) ≡ NoAngle
 negative-zero n e = rw e refl
 
-pub negative-other : (n : ℕ) → (n ≡ 0 → ⊥) → negative (Decimal n) ≡ Hundredths (negsuc (n - 1))
+pub negative-other : (n : ℕ) → (n ≡ 0 → ⊥) → negative (Decimal n) ≡ SignedDecimal (negsuc (n - 1))
 negative-other zero h = absurd (h refl)
-negative-other (suc n) h = let e : suc n - 1 ≡ n = omega arith in ap (λ (m : ℕ). Hundredths (negsuc m)) (sym e)
+negative-other (suc n) h = let e : suc n - 1 ≡ n = omega arith in ap (λ (m : ℕ). SignedDecimal (negsuc m)) (sym e)
 
 pub angle-empty : (l : List ℕ) → length l ≡ 0 → angle l ≡ NoAngle
 unfolding angle

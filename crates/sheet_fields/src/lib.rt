@@ -146,7 +146,7 @@ fn negative(s: &[u8]) -> Angle
     if v == 0 {
         return Angle::NoAngle;
     }
-    Angle::Hundredths(below(v - 1))
+    Angle::SignedDecimal(below(v - 1))
 }
 
 fn positive(s: &[u8]) -> Angle
@@ -155,7 +155,7 @@ fn positive(s: &[u8]) -> Angle
     let Number::Decimal(v) = number(s, PITCH_MAX) else {
         return Angle::NoAngle;
     };
-    Angle::Hundredths(above(v))
+    Angle::SignedDecimal(above(v))
 }
 
 // A pitch: a decimal, or a minus and a decimal that is not 0.

@@ -16,7 +16,7 @@ use Rattle.calls.specs.declared.Call.{Call}
 use Rattle.calls.specs.declared.Call.the-variants as call
 use Rattle.calls.specs.Numbers.{PITCH-BITS, PITCH-HALF, NUMBER-MAX, KIND-NEW, KIND-OLD}
 use Rattle.sheet_law.specs.declared.Number.the-variants.{Decimal}
-use Rattle.sheet_law.specs.declared.Angle.the-variants.{Hundredths}
+use Rattle.sheet_law.specs.declared.Angle.the-variants.{SignedDecimal}
 use Rattle.sheet_law.specs.declared.Command.{Command}
 use Rattle.sheet_law.specs.declared.Command.the-variants.{Make, Run}
 use Rattle.sheet_law.specs.declared.Line.the-variants.{Read}
@@ -117,7 +117,7 @@ unfolding angle
 angle-signed [] = refl
 angle-signed (byte ∷ l) = refl
 
-pub angle-back : (v : ℤ) → FitsAngle v → angle (angleText v) ≡ Hundredths v
+pub angle-back : (v : ℤ) → FitsAngle v → angle (angleText v) ≡ SignedDecimal v
 unfolding angle
 angle-back (pos n) fits = angle-signed (decimal n) ∙ (signed-decimal (atMost PITCH-HALF) (atMost (PITCH-HALF - 1)) n ∙ rw (le-ltb (PITCH-HALF - 1) n (omega arith)) refl)
 angle-back (negsuc n) fits = rw (plain-decimal (suc n), le-ltb PITCH-HALF (suc n) (omega arith)) refl

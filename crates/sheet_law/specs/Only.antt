@@ -18,7 +18,7 @@ use Rattle.calls.specs.Numbers.{PITCH-HALF, NUMBER-MAX, KIND-NEW, KIND-OLD}
 use Rattle.sheet_law.specs.declared.Number.{Number}
 use Rattle.sheet_law.specs.declared.Number.the-variants.{Decimal, NoNumber}
 use Rattle.sheet_law.specs.declared.Angle.{Angle}
-use Rattle.sheet_law.specs.declared.Angle.the-variants.{Hundredths, NoAngle}
+use Rattle.sheet_law.specs.declared.Angle.the-variants.{SignedDecimal, NoAngle}
 use Rattle.sheet_law.specs.declared.Keyword.{Keyword}
 use Rattle.sheet_law.specs.declared.Keyword.the-variants.{Unknown}
 use Rattle.sheet_law.specs.declared.Command.{Command}
@@ -58,33 +58,33 @@ at-most-only : (most : ℕ) (l : List ℕ) (n : ℕ) → atMost most (plain l) �
 at-most-only most l n e = (plain-only l n (at-most-is most (plain l) n e), at-most-bound most (plain l) n e)
 
 -- What a pitch that is read tells of its text.
-angle-same : (v a : ℤ) → Hundredths v ≡ Hundredths a → v ≡ a
+angle-same : (v a : ℤ) → SignedDecimal v ≡ SignedDecimal a → v ≡ a
 angle-same v a e = cc
 
-no-angle : (v : ℤ) → NoAngle ≡ Hundredths v → ⊥
+no-angle : (v : ℤ) → NoAngle ≡ SignedDecimal v → ⊥
 no-angle v e = let z : _≡_ {A = ℕ} 0 1 = cc in omega arith
 
-negative-text : (l : List ℕ) (v : ℤ) → negative (atMost PITCH-HALF (plain l)) ≡ Hundredths v → (angleText v ≡ MINUS ∷ l) × FitsAngle v
+negative-text : (l : List ℕ) (v : ℤ) → negative (atMost PITCH-HALF (plain l)) ≡ SignedDecimal v → (angleText v ≡ MINUS ∷ l) × FitsAngle v
 negative-text l v = go (atMost PITCH-HALF (plain l)) refl
   where
-    go : (x : Number) → atMost PITCH-HALF (plain l) ≡ x → negative x ≡ Hundredths v → (angleText v ≡ MINUS ∷ l) × FitsAngle v
+    go : (x : Number) → atMost PITCH-HALF (plain l) ≡ x → negative x ≡ SignedDecimal v → (angleText v ≡ MINUS ∷ l) × FitsAngle v
     go NoNumber e z = absurd (no-angle v z)
     go (Decimal zero) e z = absurd (no-angle v z)
     go (Decimal (suc n)) e z = let q = at-most-only PITCH-HALF l (suc n) e in
         subst (λ (a : ℤ). (angleText a ≡ MINUS ∷ l) × FitsAngle a) (angle-same (negsuc n) v z) (ap (λ (k : List ℕ). MINUS ∷ k) (q .0), omega arith)
 
-positive-text : (l : List ℕ) (v : ℤ) → positive (atMost (PITCH-HALF - 1) (plain l)) ≡ Hundredths v → (angleText v ≡ l) × FitsAngle v
+positive-text : (l : List ℕ) (v : ℤ) → positive (atMost (PITCH-HALF - 1) (plain l)) ≡ SignedDecimal v → (angleText v ≡ l) × FitsAngle v
 positive-text l v = go (atMost (PITCH-HALF - 1) (plain l)) refl
   where
-    go : (x : Number) → atMost (PITCH-HALF - 1) (plain l) ≡ x → positive x ≡ Hundredths v → (angleText v ≡ l) × FitsAngle v
+    go : (x : Number) → atMost (PITCH-HALF - 1) (plain l) ≡ x → positive x ≡ SignedDecimal v → (angleText v ≡ l) × FitsAngle v
     go NoNumber e z = absurd (no-angle v z)
     go (Decimal n) e z = let q = at-most-only (PITCH-HALF - 1) l n e in
         subst (λ (a : ℤ). (angleText a ≡ l) × FitsAngle a) (angle-same (pos n) v z) (q .0, omega arith)
 
-pub angle-text : (l : List ℕ) (v : ℤ) → angle l ≡ Hundredths v → (angleText v ≡ l) × FitsAngle v
+pub angle-text : (l : List ℕ) (v : ℤ) → angle l ≡ SignedDecimal v → (angleText v ≡ l) × FitsAngle v
 unfolding angle
 angle-text [] v e = absurd (no-angle v e)
-angle-text (b ∷ l) v e = choose-split (λ (x : Angle). x ≡ Hundredths v → (angleText v ≡ b ∷ l) × FitsAngle v) (eqb b MINUS)
+angle-text (b ∷ l) v e = choose-split (λ (x : Angle). x ≡ SignedDecimal v → (angleText v ≡ b ∷ l) × FitsAngle v) (eqb b MINUS)
     (λ t z. let q = negative-text l v z in (q .0 ∙ ap (λ (c : ℕ). c ∷ l) (sym (eqb-true b MINUS t)), q .1))
     (λ _ z. positive-text (b ∷ l) v z)
     e
@@ -109,7 +109,7 @@ module _ (Q : Line → Type 0) (bad : Q Unread) where
     where
       go : (x : Angle) → angle l ≡ x → Q (ifAngle x f)
       go NoAngle e = bad
-      go (Hundredths v) e = let q = angle-text l v e in h v (q .0) (q .1)
+      go (SignedDecimal v) e = let q = angle-text l v e in h v (q .0) (q .1)
 
 -- A text with something after its first space is what stands before it, the space, and what stands after it.
 space-or-none : (l : List ℕ) → (afterSpace l ≡ []) ⊎ (upToSpace l ++ (SPACE ∷ afterSpace l) ≡ l)

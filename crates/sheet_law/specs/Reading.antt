@@ -14,7 +14,7 @@ use Rattle.calls.specs.Numbers.{PITCH-HALF, NUMBER-MAX, KIND-NEW, KIND-OLD}
 use Rattle.sheet_law.specs.declared.Number.{Number}
 use Rattle.sheet_law.specs.declared.Number.the-variants.{Decimal, NoNumber}
 use Rattle.sheet_law.specs.declared.Angle.{Angle}
-use Rattle.sheet_law.specs.declared.Angle.the-variants.{Hundredths, NoAngle}
+use Rattle.sheet_law.specs.declared.Angle.the-variants.{SignedDecimal, NoAngle}
 use Rattle.sheet_law.specs.declared.Keyword.{Keyword}
 use Rattle.sheet_law.specs.declared.Keyword.the-variants.{Store, Enter, Look, Leave, Claim, Write, Swap, Sync, Raise, Walk, Release, Unknown}
 use Rattle.sheet_law.specs.declared.Command.the-variants.{Make, Run}
@@ -64,11 +64,11 @@ wide l = atMost NUMBER-MAX (plain l)
 abbrev pub negative : Number → Angle
 negative NoNumber = NoAngle
 negative (Decimal zero) = NoAngle
-negative (Decimal (suc n)) = Hundredths (negsuc n)
+negative (Decimal (suc n)) = SignedDecimal (negsuc n)
 
 abbrev pub positive : Number → Angle
 positive NoNumber = NoAngle
-positive (Decimal n) = Hundredths (pos n)
+positive (Decimal n) = SignedDecimal (pos n)
 
 unfoldable pub angle : List ℕ → Angle
 angle [] = NoAngle
@@ -119,7 +119,7 @@ ifNumber (Decimal n) f = f n
 
 abbrev pub ifAngle : Angle → (ℤ → Line) → Line
 ifAngle NoAngle f = Unread
-ifAngle (Hundredths v) f = f v
+ifAngle (SignedDecimal v) f = f v
 
 -- The arguments of a call: a reader or a publisher; with a second number, an entry, a slot or a number of looks; with a pitch.
 abbrev pub one : List ℕ → (ℕ → Call) → Line

@@ -15,7 +15,7 @@ use Rattle.calls.specs.declared.WalkReply.the-variants.{Waiting, Spent, Quiet, 
 use Rattle.sheet_law.specs.declared.Number.{Number}
 use Rattle.sheet_law.specs.declared.Number.the-variants.{Decimal, NoNumber}
 use Rattle.sheet_law.specs.declared.Angle.{Angle}
-use Rattle.sheet_law.specs.declared.Angle.the-variants.{Hundredths, NoAngle}
+use Rattle.sheet_law.specs.declared.Angle.the-variants.{SignedDecimal, NoAngle}
 use Rattle.sheet_law.specs.Text.{text, sameText, SPACE, decimal}
 use Rattle.sheet_law.specs.Reading.{upToSpace, afterSpace, plain}
 use Rattle.sheet_law.specs.Printing.{walkText, replyText, printedLine}
@@ -32,7 +32,7 @@ replyWithNumbers (Decimal n) second f = replyWithNumber second (f n)
 
 abbrev replyWithPitch : Angle → Option Reply
 replyWithPitch NoAngle = none
-replyWithPitch (Hundredths v) = some (reply.Pitch v)
+replyWithPitch (SignedDecimal v) = some (reply.Pitch v)
 
 -- The reply that a text is of, if any.
 abbrev pub replyNamed : List ℕ → Option Reply

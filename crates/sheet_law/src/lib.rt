@@ -19,7 +19,7 @@ pub enum Number {
 }
 
 pub enum Angle {
-    Hundredths(Pitch),
+    SignedDecimal(Pitch),
     NoAngle,
 }
 

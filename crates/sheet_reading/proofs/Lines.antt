@@ -12,7 +12,7 @@ use Rattle.calls.specs.declared.Call.{Call}
 use Rattle.base.specs.Base.{choose}
 use Rattle.calls.specs.Numbers.{KIND-NEW, KIND-OLD}
 use Rattle.sheet_law.specs.declared.Number.the-variants.{Decimal, NoNumber}
-use Rattle.sheet_law.specs.declared.Angle.the-variants.{Hundredths, NoAngle}
+use Rattle.sheet_law.specs.declared.Angle.the-variants.{SignedDecimal, NoAngle}
 use Rattle.sheet_law.specs.declared.Command.the-variants.{Run}
 use Rattle.sheet_law.specs.declared.Line.the-variants.{Read, Unread}
 use Rattle.sheet_law.specs.Text.{OPEN, CLOSE}
@@ -38,7 +38,7 @@ module _ (l : List ℕ) where
   two-read build true false n m e f = rw (e, f) refl
   two-read build false b n m e f = rw e refl
 
-  pub pitched-read : (build : ℕ → ℤ → Call) (a b : Bool) (n : ℕ) (v : ℤ) → narrow (upToSpace l) ≡ choose a (Decimal n) NoNumber → angle (afterSpace l) ≡ choose b (Hundredths v) NoAngle
+  pub pitched-read : (build : ℕ → ℤ → Call) (a b : Bool) (n : ℕ) (v : ℤ) → narrow (upToSpace l) ≡ choose a (Decimal n) NoNumber → angle (afterSpace l) ≡ choose b (SignedDecimal v) NoAngle
       → choose (a && b) (Read (Run (build n v))) Unread ≡ pitched l build
   pitched-read build true true n v e f = rw (e, f) refl
   pitched-read build true false n v e f = rw (e, f) refl

@@ -98,9 +98,9 @@ fn narrow(s: &[u8]) -> NumberRead
 }
 
 fn pitch(s: &[u8]) -> PitchRead
-    ensures { λ r. ⌜ Reading·angle (now (s .entry)) ≡ choose (r .read) (Angle.Hundredths (r .value)) Angle.NoAngle ⌝ }
+    ensures { λ r. ⌜ Reading·angle (now (s .entry)) ≡ choose (r .read) (Angle.SignedDecimal (r .value)) Angle.NoAngle ⌝ }
 {
-    let Angle::Hundredths(v) = angle(s) else {
+    let Angle::SignedDecimal(v) = angle(s) else {
         return PitchRead {
             read: false,
             value: 0,

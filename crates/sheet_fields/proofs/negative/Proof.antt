@@ -5,7 +5,7 @@ use Prim.Native.Nat.{_-_}
 use mathlib.Core.Path.{sym, _∙_, ap}
 use Rattle.calls.specs.Numbers.{PITCH-HALF}
 use Rattle.calls.specs.PitchLaws.{pitch-back}
-use Rattle.sheet_law.specs.declared.Angle.the-variants.{Hundredths}
+use Rattle.sheet_law.specs.declared.Angle.the-variants.{SignedDecimal}
 use Rattle.sheet_law.specs.Reading.{plain, negative as negative-of}
 use Rattle.sheet_law.specs.Widths.{at-most-bound}
 use Rattle.sheet_fields.proofs.Bytes.{negative-zero, negative-other}
@@ -37,7 +37,7 @@ below-requires c κs = let a = at-most-bound PITCH-HALF (plain (c .before .befor
 
 -- the pitch
 returns-3 : tie.Need-returns-3
-returns-3 c = rw (pitch-back (c .below .result) (c .below .ok)) (ap Hundredths (c .below .ensures) ∙ sym (ap negative-of (sym (c .before .before .before .before .before .number .ensures) ∙ c .before .before .before .v .given .1) ∙ negative-other (c .before .before .before .v .given .0 .0) (c .before .if1 .left)))
+returns-3 c = rw (pitch-back (c .below .result) (c .below .ok)) (ap SignedDecimal (c .below .ensures) ∙ sym (ap negative-of (sym (c .before .before .before .before .before .number .ensures) ∙ c .before .before .before .v .given .1) ∙ negative-other (c .before .before .before .v .given .0 .0) (c .before .if1 .left)))
 
 pub negative-spec : {M : Type 1} → statement M
 negative-spec =

@@ -5,7 +5,7 @@ use Prim.Native.Nat.{_-_}
 use mathlib.Core.Path.{sym, _∙_, ap}
 use Rattle.calls.specs.Numbers.{PITCH-HALF}
 use Rattle.calls.specs.PitchLaws.{pitch-back}
-use Rattle.sheet_law.specs.declared.Angle.the-variants.{Hundredths}
+use Rattle.sheet_law.specs.declared.Angle.the-variants.{SignedDecimal}
 use Rattle.sheet_law.specs.Reading.{plain, positive as positive-of}
 use Rattle.sheet_law.specs.Widths.{at-most-bound}
 use Rattle.sheet_fields.proofs.positive.Statement.{statement}
@@ -29,7 +29,7 @@ above-requires c κs = let a = at-most-bound (PITCH-HALF - 1) (plain (c .before 
 
 -- the pitch
 returns-2 : tie.Need-returns-2
-returns-2 c = rw (pitch-back (c .above .result) (c .above .ok)) (ap Hundredths (c .above .ensures) ∙ sym (ap positive-of (sym (c .before .before .before .before .number .ensures) ∙ c .before .before .v .given .1)))
+returns-2 c = rw (pitch-back (c .above .result) (c .above .ok)) (ap SignedDecimal (c .above .ensures) ∙ sym (ap positive-of (sym (c .before .before .before .before .number .ensures) ∙ c .before .before .v .given .1)))
 
 pub positive-spec : {M : Type 1} → statement M
 positive-spec =

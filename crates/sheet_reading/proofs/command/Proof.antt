@@ -12,7 +12,7 @@ use Rattle.calls.specs.PitchLaws.{pitch-back}
 use Rattle.calls.specs.declared.Call.{Call}
 use Rattle.calls.specs.declared.Call.the-variants as call
 use Rattle.sheet_law.specs.declared.Number.the-variants.{Decimal, NoNumber}
-use Rattle.sheet_law.specs.declared.Angle.the-variants.{Hundredths, NoAngle}
+use Rattle.sheet_law.specs.declared.Angle.the-variants.{SignedDecimal, NoAngle}
 use Rattle.sheet_law.specs.declared.Command.the-variants.{Run}
 use Rattle.sheet_law.specs.declared.Line.the-variants.{Read, Unread}
 use Rattle.sheet_law.specs.Reading.{upToSpace, afterSpace, narrow as narrow-of, angle as angle-of, one, two, pitched}
@@ -31,7 +31,7 @@ first-is c = ap narrow-of (sym (c .before .before .before .before .before .befor
 second-is : (c : tie.After-pitch) → narrow-of (afterSpace (line c)) ≡ choose (c .before .before .narrow3 .result .read) (Decimal (c .before .before .narrow3 .result .value)) NoNumber
 second-is c = ap narrow-of (sym (tail-is (c .before .before .before .before .before .before .before .split-at-space .result .next) (line c) _ (c .before .before .before .before .before .before .before .split-at-space .ensures .3))) ∙ c .before .before .narrow3 .ensures
 
-pitch-is : (c : tie.After-pitch) → angle-of (afterSpace (line c)) ≡ choose (c .pitch .result .read) (Hundredths (c .pitch .result .value)) NoAngle
+pitch-is : (c : tie.After-pitch) → angle-of (afterSpace (line c)) ≡ choose (c .pitch .result .read) (SignedDecimal (c .pitch .result .value)) NoAngle
 pitch-is c = ap angle-of (sym (tail-is (c .before .before .before .before .before .before .before .split-at-space .result .next) (line c) _ (c .before .before .before .before .before .before .before .split-at-space .ensures .3))) ∙ c .pitch .ensures
 
 -- What each form of arguments gives, whatever the call.
