@@ -100,7 +100,7 @@ fn show_old(stepped: two_phase::Stepped) -> TwoPhase
 
 // The table that is published: -5 degrees in its first entry, 25 in the others.
 fn new_pitch(k: u16) -> Pitch {
-    if k == 0 { -500 } else { 2500 }
+    if k == 0 { -5000 } else { 25000 }
 }
 
 // The 32 WRITEs of that table, in order. Only the last reply is shown.

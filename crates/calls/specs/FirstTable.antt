@@ -20,7 +20,7 @@ entryOf l k = getD l k (pos 0)
 abbrev pub anyOutOfRange : List ℤ → Bool
 anyOutOfRange l = anyBelow (λ k. outOfRange (entryOf l k)) (length l)
 
--- 42 two neighbours, entries k and k + 1, differ by more than 1500.
+-- 42 two neighbours, entries k and k + 1, differ by more than STEP-MAX.
 abbrev pub steep : ℤ → ℤ → Bool
 steep v v′ = ltZ STEP-MAX (v -ℤ v′) || ltZ STEP-MAX (v′ -ℤ v)
 

@@ -20,25 +20,28 @@ TABLE = 32
 
 -- A pitch is a signed number of this many bits: from -PITCH-HALF up to, but not including, PITCH-HALF.
 abbrev pub PITCH-BITS : ℕ
-PITCH-BITS = 16
+PITCH-BITS = 32
+
+abbrev pub PITCH-BYTES : ℕ
+PITCH-BYTES = 4
 
 abbrev pub PITCH-HALF : ℕ
-PITCH-HALF = 32768
+PITCH-HALF = 2147483648
 
--- It is in hundredths of a degree, -500 to 9500.
+-- It is in thousandths of a degree, -5000 to 95000.
 abbrev pub PITCH-LOW : ℤ
-PITCH-LOW = negℤ (pos 500)
+PITCH-LOW = negℤ (pos 5000)
 
 abbrev pub PITCH-HIGH : ℤ
-PITCH-HIGH = pos 9500
+PITCH-HIGH = pos 95000
 
--- Two neighbours of a first table may differ by so much.
+-- Two neighbours of a first table may differ by up to 15000.
 abbrev pub STEP-MAX : ℤ
-STEP-MAX = pos 1500
+STEP-MAX = pos 15000
 
 -- A feathered blade.
 abbrev pub FEATHERED : ℤ
-FEATHERED = pos 9000
+FEATHERED = pos 90000
 
 -- 2^64, and the greatest number of 64 bits.
 abbrev pub MODULUS : ℕ
@@ -51,12 +54,16 @@ NUMBER-MAX = 18446744073709551615
 abbrev pub NOT-READING : ℕ
 NOT-READING = 18446744073709551615
 
--- The kind word: 1 new, 2 old.
+-- The format of words and entries. A release that changes them and not the number of words raises it by one.
+abbrev pub FORMAT : ℕ
+FORMAT = 1
+
+-- The kind word: 16 times the format, and 1 for new, 2 for old.
 abbrev pub KIND-NEW : ℕ
-KIND-NEW = 1
+KIND-NEW = 17
 
 abbrev pub KIND-OLD : ℕ
-KIND-OLD = 2
+KIND-OLD = 18
 
 -- The places of a reader: 0 out; 1 the version loaded; 2 published; 3 loaded again (2 and 3 new only); 4 the section open; 5 the current slot picked.
 abbrev pub PLACE-OUT : ℕ

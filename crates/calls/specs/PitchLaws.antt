@@ -1,6 +1,6 @@
 -- A pitch in the machine's bits: what is read back from them is the pitch, at its own width and at 64 bits; its size, 0 - v where v is negative, has 64 bits.
 -- Assumes nothing.
-use Prim.Native.Nat.{ℕ, _-_, _^_, _<_}
+use Prim.Native.Nat.{ℕ, _*_, _-_, _^_, _<_}
 use native.Mathlib.Omega.{arith}
 use mathlib.Core.Path.{_≡_, refl, ap, _∙_}
 use mathlib.Core.Bool.{true, false}
@@ -8,19 +8,22 @@ use lib.IntN.{ℤ, pos, negsuc, _-ℤ_, natAbs}
 use lib.Dec.{T}
 use lib.Signed.{mag, ltZ, nonNeg}
 use borrow.Author.Tests.{ltb-true}
-use mir.Syntax.{Width, w16, w64}
+use mir.Syntax.{Width, w32, w64}
 use mir.Val.{SFits, Fits, toZ, ofZ}
 use mir.ValLaws.{toZ-ofZ}
 use Rattle.base.specs.RowLaws.{clash}
-use Rattle.calls.specs.Numbers.{PITCH-BITS, PITCH-HALF}
+use Rattle.calls.specs.Numbers.{PITCH-BITS, PITCH-BYTES, PITCH-HALF}
 
 -- PITCH-BITS, as the machine has it.
 abbrev pub PITCH-WIDTH : Width
-PITCH-WIDTH = w16
+PITCH-WIDTH = w32
 
 -- PITCH-HALF is half of the numbers that so many bits hold.
 pub half-of-bits : PITCH-HALF ≡ 2 ^ (PITCH-BITS - 1)
 half-of-bits = refl
+
+pub bits-of-bytes : PITCH-BITS ≡ 8 * PITCH-BYTES
+bits-of-bytes = refl
 
 -- What the machine reads from the bits of a pitch.
 abbrev pub inBits : ℤ → ℤ
@@ -52,7 +55,7 @@ not-below (negsuc n) l t = clash t
 
 -- The size of a pitch in 64 bits, as the code takes it: of a pitch below 0, and of one from 0 up.
 module _ (v : ℤ) (l : mag v < PITCH-HALF) where
-  wide : SFits w64 v
+  pub wide : SFits w64 v
   wide = record { sfits = go (mag v) l }
     where
       go : (n : ℕ) → n < PITCH-HALF → n < 9223372036854775808

@@ -1,20 +1,22 @@
 // The vocabulary of the store: calls, replies, limits, places, refusal numbers and codes, as document 01 names them.
 // specs/: what the calls alone tell, document 01's plain shelf, a reply's numbers for C.
 
-// A pitch, in hundredths of a degree.
-pub type Pitch = i16;
+// A pitch, in thousandths of a degree.
+pub type Pitch = i32;
 
-// 2^15, the size of the least number of the type.
-pub const PITCH_HALF: u64 = 32768;
+// The bytes of one, and 2^31, the size of the least number of the type.
+pub const PITCH_BYTES: u64 = 4;
+
+pub const PITCH_HALF: u64 = 2147483648;
 
 // Its range.
-pub const PITCH_LOW: Pitch = -500;
+pub const PITCH_LOW: Pitch = -5000;
 
-pub const PITCH_HIGH: Pitch = 9500;
-// Two neighbours of a first table may differ by so much.
-pub const STEP_MAX: Pitch = 1500;
+pub const PITCH_HIGH: Pitch = 95000;
+// Two neighbours of a first table may differ by up to so much.
+pub const STEP_MAX: Pitch = 15000;
 // A feathered blade: an entry of many a first table.
-pub const FEATHERED: Pitch = 9000;
+pub const FEATHERED: Pitch = 90000;
 
 pub const READERS_MAX: u16 = 64;
 
@@ -30,10 +32,13 @@ pub const NUMBER_MAX: u64 = 18446744073709551615;
 // What a fresh reader has published, and what LEAVE of the new store publishes.
 pub const NOT_READING: u64 = 18446744073709551615;
 
-// The kind word of a store's words.
-pub const KIND_NEW: u64 = 1;
+// The format of words and entries. A release that changes them and not the number of words raises it by one.
+pub const FORMAT: u64 = 1;
 
-pub const KIND_OLD: u64 = 2;
+// The kind word of a store's words: 16 times the format, and 1 for new, 2 for old. So a store or a caller of another format is refused.
+pub const KIND_NEW: u64 = 17;
+
+pub const KIND_OLD: u64 = 18;
 
 // The places of a reader. The section is open at 4 and 5; the old store has no 2 and 3.
 pub const PLACE_OUT: u64 = 0;

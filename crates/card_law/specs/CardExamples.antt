@@ -23,24 +23,24 @@ AllRead ((card, entries) ∷ l) = (cardOf card ≡ entries) × AllRead l
 
 pub readings : AllRead (
     -- the last line may lack its newline; an empty file has no lines
-    (text "9000\n-500\n", pos 9000 ∷ negsuc 499 ∷ [])
-    ∷ (text "9000\n-500", pos 9000 ∷ negsuc 499 ∷ [])
+    (text "90000\n-5000\n", pos 90000 ∷ negsuc 4999 ∷ [])
+    ∷ (text "90000\n-5000", pos 90000 ∷ negsuc 4999 ∷ [])
     ∷ (text "", [])
     -- an empty line anywhere is misshapen, a blank last one too
-    ∷ (text "9000\n\n-500\n", [])
-    ∷ (text "9000\n\n", [])
+    ∷ (text "90000\n\n-5000\n", [])
+    ∷ (text "90000\n\n", [])
     ∷ (text "\n", [])
     -- no leading zero, no plus, no `-0`, no space, no carriage return
     ∷ (text "0\n", pos 0 ∷ [])
-    ∷ (text "09000\n", [])
-    ∷ (text "+9000\n", [])
+    ∷ (text "090000\n", [])
+    ∷ (text "+90000\n", [])
     ∷ (text "-0\n", [])
-    ∷ (text "9000 \n", [])
-    ∷ (text "9000\r\n", [])
-    -- a pitch has 16 bits; one line too wide leaves no entries
-    ∷ (text "32767\n-32768\n", pos 32767 ∷ negsuc 32767 ∷ [])
-    ∷ (text "9000\n32768\n", [])
-    ∷ (text "9000\n-32769\n", [])
+    ∷ (text "90000 \n", [])
+    ∷ (text "90000\r\n", [])
+    -- a pitch has 32 bits; one line too wide leaves no entries
+    ∷ (text "2147483647\n-2147483648\n", pos 2147483647 ∷ negsuc 2147483647 ∷ [])
+    ∷ (text "90000\n2147483648\n", [])
+    ∷ (text "90000\n-2147483649\n", [])
     ∷ [])
 unfolding linesFrom afterLines digits plain angle cardOf
 readings = (refl, (refl, (refl, (refl, (refl, (refl, (refl, (refl, (refl, (refl, (refl, (refl, (refl, (refl, (refl, tt)))))))))))))))
@@ -60,16 +60,16 @@ STORE = text "(store new 1 1 2 0)\n"
 pub printings : AllPrinted (
     -- 40 at any other number of lines, and without a card
     (text "", STORE, text "(1 refused 40)\n")
-    ∷ (lines 31 (text "9000"), STORE, text "(1 refused 40)\n")
-    ∷ (lines 33 (text "9000"), STORE, text "(1 refused 40)\n")
-    ∷ (lines 32 (text "9000"), STORE, text "(1 made)\n")
+    ∷ (lines 31 (text "90000"), STORE, text "(1 refused 40)\n")
+    ∷ (lines 33 (text "90000"), STORE, text "(1 refused 40)\n")
+    ∷ (lines 32 (text "90000"), STORE, text "(1 made)\n")
     -- a bad line, a blank last one too, leaves no entries
-    ∷ (lines 32 (text "9000") ++ text "\n", STORE, text "(1 refused 40)\n")
-    ∷ (lines 31 (text "9000") ++ text "32768\n", STORE, text "(1 refused 40)\n")
-    -- 41 before 42: an entry out of range, two neighbours more than 1500 apart
-    ∷ (lines 31 (text "0") ++ text "9501\n", STORE, text "(1 refused 41)\n")
-    ∷ (lines 31 (text "0") ++ text "1501\n", STORE, text "(1 refused 42)\n")
-    ∷ (lines 31 (text "1500") ++ text "0\n", STORE, text "(1 made)\n")
+    ∷ (lines 32 (text "90000") ++ text "\n", STORE, text "(1 refused 40)\n")
+    ∷ (lines 31 (text "90000") ++ text "2147483648\n", STORE, text "(1 refused 40)\n")
+    -- 41 before 42: an entry out of range, two neighbours more than 15000 apart
+    ∷ (lines 31 (text "0") ++ text "95001\n", STORE, text "(1 refused 41)\n")
+    ∷ (lines 31 (text "0") ++ text "15001\n", STORE, text "(1 refused 42)\n")
+    ∷ (lines 31 (text "15000") ++ text "0\n", STORE, text "(1 made)\n")
     -- 2, 3, 4 and 6 before 40
     ∷ (text "", text "(store new 0 1 2 0)\n", text "(1 refused 2)\n")
     ∷ (text "", text "(store old 1 0 2 0)\n", text "(1 refused 3)\n")

@@ -21,7 +21,7 @@ use Rattle.sheet_law.specs.declared.Angle.the-variants.{SignedDecimal, NoAngle}
 use Rattle.sheet_law.specs.Reading.{angle}
 use Rattle.sheet_law.specs.Text.{decimal}
 use Rattle.sheet_law.specs.Decimals.{AllDigits, all-digits}
-use Rattle.sheet_law.specs.Canonical.{angleText, FitsAngle, angle-back, angle-length}
+use Rattle.sheet_law.specs.Canonical.{angleText, FitsAngle, PITCH-TEXT, angle-back, angle-length}
 use Rattle.sheet_law.specs.Only.{angle-text}
 use Rattle.card_law.specs.Card.{withLine, cardReader, cardLines, orNoEntries, cardOf, cardText, CARD-READ, tableOn}
 
@@ -131,8 +131,11 @@ pub reads-back : (vs : List ℤ) → FitsEach vs → cardOf (cardText vs) ≡ vs
 unfolding cardOf
 reads-back vs f = ap orNoEntries (read-joined vs f)
 
--- A pitch has at most 21 bytes, so that n entries take at most 22 × n.
-text-short : (vs : List ℤ) → FitsEach vs → length (cardText vs) ≤ 22 * length vs
+-- An entry takes at most the longest text of a pitch, and a newline.
+abbrev ENTRY-BYTES : ℕ
+ENTRY-BYTES = PITCH-TEXT + 1
+
+text-short : (vs : List ℤ) → FitsEach vs → length (cardText vs) ≤ ENTRY-BYTES * length vs
 unfolding cardText
 text-short [] f = omega arith
 text-short (v ∷ vs) f = omega (arith, length-append (angleText v) (NEWLINE ∷ cardText vs), angle-length v (f .0), text-short vs (f .1))
@@ -141,11 +144,11 @@ joined-short : (t j : List ℕ) → IsJoined t j → length t ≤ length j
 joined-short t j (inl e) = omega (arith, ap length e)
 joined-short t j (inr e) = omega (arith, ap length e, length-append t (NEWLINE ∷ []))
 
-pub entries-short : (t : List ℕ) (vs : List ℤ) → cardLines t ≡ some vs → length t ≤ 22 * length vs
+pub entries-short : (t : List ℕ) (vs : List ℤ) → cardLines t ≡ some vs → length t ≤ ENTRY-BYTES * length vs
 entries-short t vs e = let q = read-exactly t vs .0 e in omega (arith, joined-short t (cardText vs) (q .1), text-short vs (q .0))
 
--- A longer card has not 32 entries.
-pub long-card : (t : List ℕ) → 22 * TABLE < length t → eqb (length (cardOf t)) TABLE ≡ false
+-- A card of more than 384 bytes has not 32 entries.
+pub long-card : (t : List ℕ) → ENTRY-BYTES * TABLE < length t → eqb (length (cardOf t)) TABLE ≡ false
 unfolding cardOf
 long-card t long = go (cardLines t) refl
   where

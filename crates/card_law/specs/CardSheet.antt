@@ -36,9 +36,9 @@ no-first-table card e s kind rs ps ss version = store-without s kind rs ps ss ve
 pub unread-by-line : (card : List ℕ) (s : State) (l : List ℕ) → (saidTo (cardOf card) s (lineFor s l) ≡ text "unread") ↔ (lineOf l ≡ Unread)
 unread-by-line card = unread-by-bytes (cardOf card)
 
--- P1 from its bytes: a card of 32 lines `9000`, and the sheet.
+-- P1 from its bytes: a card of 32 lines `90000`, and the sheet.
 abbrev pub P1-card : List ℕ
-P1-card = joinedLines (replicate TABLE (text "9000"))
+P1-card = joinedLines (replicate TABLE (text "90000"))
 
 p1-card : cardOf P1-card ≡ replicate TABLE FEATHERED
 unfolding joinedLines linesFrom afterLines digits plain angle cardOf

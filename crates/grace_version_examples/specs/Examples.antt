@@ -19,7 +19,7 @@ use Rattle.grace_version_law.specs.Promises.{new-walk-zero}
 abbrev pub P1 : Example
 P1 = shows GraceVersion (givenFeathered 1 1 2 0) []
     (Enter 0 ∷ Enter 0 ∷ Enter 0 ∷ Enter 0 ∷ Enter 0 ∷ Look 0 31 ∷ Claim 0 0 ∷ Claim 0 1 ∷ Leave 0 ∷ [])
-    (Made ∷ At 1 ∷ At 2 ∷ At 3 ∷ At 4 ∷ At 5 ∷ Pitch (pos 9000) ∷ Refused 30 ∷ Claimed 1 ∷ Left ∷ [])
+    (Made ∷ At 1 ∷ At 2 ∷ At 3 ∷ At 4 ∷ At 5 ∷ Pitch (pos 90000) ∷ Refused 30 ∷ Claimed 1 ∷ Left ∷ [])
 
 -- P2: two publishers SYNC at version 0, both marks 1; first RAISE raised, second shared.
 abbrev pub P2 : Example
@@ -74,7 +74,7 @@ P12 = shows GraceVersion (givenFeathered 1 1 2 0) (enters 3 0) (Leave 0 ∷ Ente
 abbrev pub whole : Example
 whole = shows GraceVersion (givenFeathered 1 1 2 0) (enters 5 0 ++ tableFrom 0 1 100)
     (Swap 0 ∷ Look 0 1 ∷ Leave 0 ∷ Sync 0 ∷ Raise 0 ∷ Walk 0 1 ∷ Release 0 ∷ enters 5 0 ++ (Look 0 0 ∷ Look 0 1 ∷ Look 0 30 ∷ Look 0 31 ∷ []))
-    (Made ∷ Swapped 0 ∷ Pitch (pos 9000) ∷ Left ∷ Synced 1 ∷ Raised ∷ Walked (Returned 1 0) ∷ Freed 0 1 ∷ At 1 ∷ At 2 ∷ At 3 ∷ At 4 ∷ At 5
+    (Made ∷ Swapped 0 ∷ Pitch (pos 90000) ∷ Left ∷ Synced 1 ∷ Raised ∷ Walked (Returned 1 0) ∷ Freed 0 1 ∷ At 1 ∷ At 2 ∷ At 3 ∷ At 4 ∷ At 5
     ∷ Pitch (pos 100) ∷ Pitch (pos 101) ∷ Pitch (pos 130) ∷ Pitch (pos 131) ∷ [])
 
 -- A reader that enters after the RAISE loads and publishes the version raised: the walk does not wait for it.

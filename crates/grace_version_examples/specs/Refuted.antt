@@ -36,11 +36,11 @@ start : State
 unfolding small
 start = making rules small (lentFor small) .after
 
--- A LOOK that always says 9000.
+-- A LOOK that always says 90000.
 feathered : Reply → Reply
 feathered Made = Made
 feathered (At place) = At place
-feathered (Pitch v) = Pitch (pos 9000)
+feathered (Pitch v) = Pitch (pos 90000)
 feathered Left = Left
 feathered (Claimed slot) = Claimed slot
 feathered (Written n) = Written n
@@ -56,14 +56,14 @@ pub AlwaysFeathered : Machine
 unfolding feathered
 AlwaysFeathered = record { making = making rules; step = λ s c. outcome (feathered (step rules s c .reply)) (step rules s c .after) }
 
-other-pitch : (v : ℤ) → Pitch (pos 9000) ≡ Pitch v → some (pos 100) ≡ some v → ⊥
-other-pitch v e q = let same : _≡_ {A = ℕ} 9000 100 = cc in omega arith
+other-pitch : (v : ℤ) → Pitch (pos 90000) ≡ Pitch v → some (pos 100) ≡ some v → ⊥
+other-pitch v e q = let same : _≡_ {A = ℕ} 90000 100 = cc in omega arith
 
-pub always-9000-refuted : Demand3 AlwaysFeathered (λ z. z .table) → ⊥
+pub always-90000-refuted : Demand3 AlwaysFeathered (λ z. z .table) → ⊥
 unfolding AlwaysFeathered start small readerAt publisherAt withReader withPublisher withReaders freshWords anyBelow damaged onward looksFrom step making tables
-always-9000-refuted promise =
+always-90000-refuted promise =
     let cs : List Call = publication 0 1 (pos 100) ++ enters 5 0 in
-    let shown = promise start (record { arguments = small; lent = lentFor small; made = refl }) (cs ++ (Look 0 7 ∷ [])) .looks (events AlwaysFeathered start cs) [] 0 7 (Pitch (pos 9000)) refl refl in
+    let shown = promise start (record { arguments = small; lent = lentFor small; made = refl }) (cs ++ (Look 0 7 ∷ [])) .looks (events AlwaysFeathered start cs) [] 0 7 (Pitch (pos 90000)) refl refl in
     other-pitch (shown .0) (shown .1) (shown .2)
 
 -- A making that ignores the lent table: every slot is feathered.
@@ -78,7 +78,7 @@ unfolding IgnoresTable start small readerAt publisherAt withReader withPublisher
 table-ignored-refuted promise =
     let z : Given = given 1 1 2 0 (replicate TABLE (pos 100)) in
     let cs : List Call = enters 5 0 in
-    let shown = promise start (record { arguments = z; lent = lentFor z; made = refl }) (cs ++ (Look 0 7 ∷ [])) .looks (events IgnoresTable start cs) [] 0 7 (Pitch (pos 9000)) refl refl in
+    let shown = promise start (record { arguments = z; lent = lentFor z; made = refl }) (cs ++ (Look 0 7 ∷ [])) .looks (events IgnoresTable start cs) [] 0 7 (Pitch (pos 90000)) refl refl in
     other-pitch (shown .0) (shown .1) (shown .2)
 
 -- A making that puts the table into slot 0 alone. Demand 3 cannot tell: no reader picks another slot before it is written.
@@ -91,8 +91,8 @@ Slot0Alone = record { making = λ z s. slot0Alone z (making rules z s); step = s
 pub slot-0-alone-refuted : MakesFresh Slot0Alone → ⊥
 unfolding Slot0Alone small readerAt publisherAt withReader withPublisher withReaders freshWords anyBelow damaged step making tables
 slot-0-alone-refuted promise =
-    let found : pos 0 ≡ pos 9000 = promise (Slot0Alone .making small (lentFor small) .after) (record { arguments = small; lent = lentFor small; made = refl }) .entries-are 1 0 (omega arith) (omega arith) in
-    let same : _≡_ {A = ℕ} 0 9000 = cc in
+    let found : pos 0 ≡ pos 90000 = promise (Slot0Alone .making small (lentFor small) .after) (record { arguments = small; lent = lentFor small; made = refl }) .entries-are 1 0 (omega arith) (omega arith) in
+    let same : _≡_ {A = ℕ} 0 90000 = cc in
     omega arith
 
 -- A walk that passes every reader: it tests against 0 in place of its mark.

@@ -1,7 +1,9 @@
 -- Demands 1 and 3 on the steps, and the companions, for words of any kind: `store n` has the making of the kind with number n and the steps that
 -- the kind word tells, which are the steps that the contracts of `kinds` cite. Assumes nothing.
-use Prim.Native.Nat.{ℕ, _≤_}
-use mathlib.Core.Path.{_≡_, refl}
+use Prim.Native.Nat.{ℕ, _+_, _*_, _<_, _≤_}
+use native.Mathlib.Omega.{arith}
+use mathlib.Core.Path.{_≡_, refl, sym}
+use mathlib.Core.Logic.{_≢_}
 use mathlib.Core.Bool.{true, false}
 use mathlib.Core.List.{List}
 use lib.IntN.{ℤ, pos}
@@ -11,11 +13,11 @@ use Rattle.calls.specs.declared.Call.the-variants.{Enter, Leave, Claim, Sync, R
 use Rattle.calls.specs.declared.Reply.the-variants.{Walked, Refused}
 use Rattle.calls.specs.declared.WalkReply.the-variants.{Waiting, Spent}
 use Rattle.calls.specs.ReplyNumbersLaws.{PitchFitsWord, Representable}
-use Rattle.calls.specs.Numbers.{PLACE-PUBLISHED}
+use Rattle.calls.specs.Numbers.{FORMAT, DAMAGED, PLACE-PUBLISHED}
 use Rattle.calls.specs.Events.{accepted}
 use Rattle.calls.specs.Tally.{tallyOf}
 use Rattle.layout.specs.Layout.{WORDS, kindWord, indicator}
-use Rattle.statement.specs.Machine.{State, state, Given, Fresh, events, afterAll}
+use Rattle.statement.specs.Machine.{State, state, Given, outcome, Fresh, events, afterAll}
 use Rattle.statement.specs.Demand3.{Demand3}
 use Rattle.statement.specs.Frame.{Frame}
 use Rattle.statement.specs.Looks.{LooksInRange, FirstTableUntilSwap}
@@ -36,7 +38,7 @@ use Rattle.two_phase_law.specs.Promises as old-promises
 use Rattle.two_phase_law.specs.Readers as old-readers
 use Rattle.kinds_law.specs.Kinds.{Kind, tableOf, kindNumber, kindOfNumber, anyStep, anyMaking, store}
 use Rattle.kinds_law.specs.Kinds.Kind.{new, old}
-use Rattle.kinds_law.specs.Calls.{step-named, any-making-leaves}
+use Rattle.kinds_law.specs.Calls.{step-named, step-unknown, making-unknown, any-making-leaves}
 use Rattle.guarantees.specs.ByKind.{storeOf, traits, kind-promises, kind-demand3, alike, by-number, publishesOf, chosen-leaves, chosen-frame, chosen-representable, chosen-representable-making}
 
 -- Demand 3: after every list of calls from every accepted making, of whatever kind, looks, returns, slots and picks are as document 01 tells them.
@@ -56,9 +58,20 @@ first-table-until-swap = by-number (λ n. FirstTableUntilSwap (store n))
     (λ kind. first-table-until-swap-alike (storeOf kind) (store (kindNumber kind)) (alike kind) (kind-promises kind .first-table-until-swap))
     (λ n none s f. absurd (none s f))
 
--- The numbers of the kinds, and that none of them lacks a call.
-pub kind-numbers : (_≡_ {A = ℕ} (kindNumber new) 1) × (_≡_ {A = ℕ} (kindNumber old) 2)
+-- The numbers of the kinds: 16 times the format and 1, 2. None of them lacks a call.
+pub kind-numbers : (_≡_ {A = ℕ} (kindNumber new) 17) × (_≡_ {A = ℕ} (kindNumber old) 18)
 kind-numbers = (refl, refl)
+
+pub kind-numbers-of-format : (kindNumber new ≡ 16 * FORMAT + 1) × (kindNumber old ≡ 16 * FORMAT + 2)
+kind-numbers-of-format = (refl, refl)
+
+-- Words of another format, such as a store packed by a release before, get 1, and so does a making for one, as a caller compiled before asks for.
+module _ (format i : ℕ) (other : format ≢ FORMAT) (low : i < 16) where
+  pub other-format-refused : (s : State) (c : Call) → kindWord (s .words) ≡ 16 * format + i → anyStep s c ≡ outcome (Refused DAMAGED) s
+  other-format-refused s c e = sym (step-unknown s c (sym e) (λ new-number. other (omega arith)) (λ old-number. other (omega arith)))
+
+  pub other-format-not-made : (z : Given) (s : State) → anyMaking (16 * format + i) z s ≡ outcome (Refused DAMAGED) s
+  other-format-not-made z s = sym (making-unknown (16 * format + i) z s (λ new-number. other (omega arith)) (λ old-number. other (omega arith)))
 
 pub none-lacked : (kind : Kind) (c : Call) → traits kind .every .lacks c ≡ false
 none-lacked new c = refl

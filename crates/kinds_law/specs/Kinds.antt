@@ -28,7 +28,7 @@ abbrev pub kindNumber : Kind → ℕ
 kindNumber new = KIND-NEW
 kindNumber old = KIND-OLD
 
--- The kind that a number names: 1 new, 2 old, every other number none.
+-- The kind that a number names. Every other number names none, those of other formats among them.
 unfoldable pub kindOfNumber : ℕ → Option Kind
 kindOfNumber n = choose (eqb n KIND-NEW) (some new) (choose (eqb n KIND-OLD) (some old) none)
 

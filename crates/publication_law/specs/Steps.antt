@@ -179,7 +179,7 @@ release s p = outcome (Freed (publisher s p .held) (oneMore s)) (state
     (withReleases (withPublisher (s .words) p (publisher s p atPlace PLACE-IDLE)) (oneMore s))
     (s .entries))
 
--- The first table: 40 it has not 32 entries, 41 an entry is out of range, 42 two neighbours differ by more than 1500.
+-- The first table: 40 it has not 32 entries, 41 an entry is out of range, 42 two neighbours differ by more than STEP-MAX.
 abbrev pub tableTests : List ℤ → List Test
 tableTests table =
     (not (eqb (length table) TABLE) gives BAD-TABLE-LENGTH)

@@ -34,7 +34,7 @@ pub fn any_out_of_range(table: &[Pitch]) -> bool
     any
 }
 
-// Whether two pitches in range differ by more than 1500. Out of range their difference need not be a pitch.
+// Whether two pitches in range differ by more than STEP_MAX. Out of range their difference need not be a pitch.
 fn differ(v: Pitch, other: Pitch) -> bool
     requires { ⌜ (outOfRange v ≡ false) × (outOfRange other ≡ false) ⌝ }
     ensures { λ b. ⌜ b ≡ steep v other ⌝ }
@@ -44,7 +44,7 @@ fn differ(v: Pitch, other: Pitch) -> bool
     (up > STEP_MAX) | (down > STEP_MAX)
 }
 
-// Whether two neighbours of a table whose entries are in range differ by more than 1500.
+// Whether two neighbours of a table whose entries are in range differ by more than STEP_MAX.
 pub fn any_steep(table: &[Pitch]) -> bool
     requires { ⌜ anyOutOfRange (now table) ≡ false ⌝ }
     ensures { λ b. ⌜ b ≡ anySteep (now (table .entry)) ⌝ }

@@ -16,10 +16,11 @@ use calls::WalkReply;
 fn pitch_number(v: Pitch) -> u64
     ensures { λ n. ⌜ n ≡ pitchNumber v ⌝ }
 {
-    if v >= 0 {
-        return v as u64;
+    let w = v as i64;
+    if w >= 0 {
+        return w as u64;
     }
-    NUMBER_MAX - (-1 - v) as u64
+    NUMBER_MAX - (-1 - w) as u64
 }
 
 // Three numbers.
@@ -67,7 +68,7 @@ pub fn numbers_of(reply: Reply) -> ReplyNumbers
 }
 
 // How many numbers of each sort the header names.
-const LIMITS: usize = 15;
+const LIMITS: usize = 16;
 
 const REFUSALS: usize = 20;
 
@@ -105,6 +106,7 @@ fn limit(which: usize) -> u64
         grace_version_law::LAST,
         two_phase_law::LAST,
         step,
+        calls::PITCH_BYTES,
     ];
     numbers[which]
 }

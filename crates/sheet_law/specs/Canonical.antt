@@ -178,10 +178,13 @@ narrow-length n fits = decimal-length 5 n (omega arith) (omega arith)
 wide-length : (n : ℕ) → FitsWide n → length (decimal n) ≤ 20
 wide-length n fits = decimal-length 20 n (omega arith) (omega arith)
 
--- A pitch has at most 64 bits.
-pub angle-length : (v : ℤ) → FitsAngle v → length (angleText v) ≤ 21
-angle-length (pos n) fits = let d = wide-length n (omega arith) in omega arith
-angle-length (negsuc n) fits = let d = wide-length (suc n) (omega arith) in omega arith
+-- The longest text of a pitch: a minus and ten digits.
+abbrev pub PITCH-TEXT : ℕ
+PITCH-TEXT = 11
+
+pub angle-length : (v : ℤ) → FitsAngle v → length (angleText v) ≤ PITCH-TEXT
+angle-length (pos n) fits = let d = decimal-length (PITCH-TEXT - 1) n (omega arith) (omega arith) in omega arith
+angle-length (negsuc n) fits = let d = decimal-length (PITCH-TEXT - 1) (suc n) (omega arith) (omega arith) in omega arith
 
 kind-length : (kind : ℕ) → length (kindText kind) ≤ 3
 kind-length kind = choose-split (λ x. length x ≤ 3) (eqb kind KIND-NEW) (λ _. omega arith) (λ _. omega arith)
@@ -197,7 +200,7 @@ call-length (call.Enter r) f = omega (arith, narrow-length r f)
 call-length (call.Look r k) (f, g) = omega (arith, pair-length r k f g)
 call-length (call.Leave r) f = omega (arith, narrow-length r f)
 call-length (call.Claim p slot) (f, g) = omega (arith, pair-length p slot f g)
-call-length (call.Write p v) (f, g) = omega (arith, spaced-length 5 21 (decimal p) (angleText v) (narrow-length p f) (angle-length v g))
+call-length (call.Write p v) (f, g) = omega (arith, spaced-length 5 PITCH-TEXT (decimal p) (angleText v) (narrow-length p f) (angle-length v g))
 call-length (call.Swap p) f = omega (arith, narrow-length p f)
 call-length (call.Sync p) f = omega (arith, narrow-length p f)
 call-length (call.Raise p) f = omega (arith, narrow-length p f)

@@ -1,4 +1,4 @@
--- P1 as bytes: document 01's sheet, and what it prints with a first table of 32 times 9000, by computation. Assumes nothing.
+-- P1 as bytes: document 01's sheet, and what it prints with a first table of 32 times 90000, by computation. Assumes nothing.
 use Prim.Native.Nat.{ℕ}
 use mathlib.Core.Path.{_≡_, refl}
 use mathlib.Core.List.{List}
@@ -19,7 +19,7 @@ abbrev pub P1-sheet : List ℕ
 P1-sheet = text "(store new 1 1 2 0)\n(enter 0)\n(enter 0)\n(enter 0)\n(enter 0)\n(enter 0)\n(look 0 31)\n(claim 0 0)\n(claim 0 1)\n(leave 0)\n"
 
 abbrev pub P1-printed : List ℕ
-P1-printed = text "(1 made)\n(2 at 1)\n(3 at 2)\n(4 at 3)\n(5 at 4)\n(6 at 5)\n(7 pitch 9000)\n(8 refused 30)\n(9 claimed 1)\n(10 left)\n"
+P1-printed = text "(1 made)\n(2 at 1)\n(3 at 2)\n(4 at 3)\n(5 at 4)\n(6 at 5)\n(7 pitch 90000)\n(8 refused 30)\n(9 claimed 1)\n(10 left)\n"
 
 pub p1-bytes : sheet (replicate TABLE FEATHERED) P1-sheet ≡ P1-printed
 unfolding

@@ -50,7 +50,7 @@ pub record GraceTraits : Type 0 where
   -- whether readers publish versions, so that a LEAVE publishes too
   pub publishes : Bool
 
--- A table that a store may start with: 32 entries, each in range, and no two neighbours more than 1500 apart.
+-- A table that a store may start with: 32 entries, each in range, and no two neighbours more than STEP-MAX apart.
 pub record GoodTable (table : List ℤ) : Type 0 where
   pub long : length table ≡ TABLE
   pub in-range : (k : ℕ) → k < TABLE → outOfRange (entryOf table k) ≡ false

@@ -15,7 +15,7 @@ use Rattle.calls.specs.Events.{accepted}
 use Rattle.layout.specs.Layout.{WORDS}
 use Rattle.statement.specs.Machine.{State, state, Given, given, Machine, afterAll}
 
--- The first table of P1: 32 times 9000. Every other example that names none has it too.
+-- The first table of P1: 32 times 90000. Every other example that names none has it too.
 abbrev pub featheredTable : List ℤ
 featheredTable = replicate TABLE FEATHERED
 
@@ -89,10 +89,10 @@ abbrev pub tableFrom : ℕ → ℕ → ℕ → List Call
 tableFrom p slot v = Claim p slot ∷ writesFrom p v TABLE
 
 -- Examples that name no kind.
--- P9: pitches -500, 9500 accepted; -501, 9501 get 14.
+-- P9: pitches -5000, 95000 accepted; -5001, 95001 get 14.
 abbrev pub P9 : Machine → Example
 P9 M = shows M (givenFeathered 1 1 2 0) (Claim 0 1 ∷ [])
-    (Write 0 (negℤ (pos 500)) ∷ Write 0 (pos 9500) ∷ Write 0 (negℤ (pos 501)) ∷ Write 0 (pos 9501) ∷ [])
+    (Write 0 (negℤ (pos 5000)) ∷ Write 0 (pos 95000) ∷ Write 0 (negℤ (pos 5001)) ∷ Write 0 (pos 95001) ∷ [])
     (Made ∷ Written 1 ∷ Written 2 ∷ Refused 14 ∷ Refused 14 ∷ [])
 
 -- P10: SWAP with 31 written and a 33rd WRITE get 21.

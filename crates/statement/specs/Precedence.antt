@@ -27,7 +27,7 @@ thenAll v v′ n = v ∷ replicate n v′
 -- At first nothing is as it must be: words, readers, publishers, slots, entries, version, and a table of 31 entries with one out of range and far from its neighbour.
 abbrev pub makingRows : Machine → ℕ → List Example
 makingRows M last =
-    let short = thenAll (pos 9501) (pos 0) 30 in
+    let short = thenAll (pos 95001) (pos 0) 30 in
     makes M (given 0 0 1 (last + 1) short) (lent 424 31) (Refused 1)
     ∷ makes M (given 0 0 1 (last + 1) short) (lent WORDS 31) (Refused 2)
     ∷ makes M (given 1 0 1 (last + 1) short) (lent WORDS 31) (Refused 3)
@@ -35,9 +35,9 @@ makingRows M last =
     ∷ makes M (given 1 1 2 (last + 1) short) (lent WORDS 31) (Refused 5)
     ∷ makes M (given 1 1 2 (last + 1) short) (lent WORDS 64) (Refused 6)
     ∷ makes M (given 1 1 2 last short) (lent WORDS 64) (Refused 40)
-    ∷ makes M (given 1 1 2 last (thenAll (pos 9501) (pos 0) 31)) (lent WORDS 64) (Refused 41)
-    ∷ makes M (given 1 1 2 last (thenAll (pos 9500) (pos 0) 31)) (lent WORDS 64) (Refused 42)
-    ∷ makes M (given 1 1 2 last (thenAll (pos 1500) (pos 0) 31)) (lent WORDS 64) Made
+    ∷ makes M (given 1 1 2 last (thenAll (pos 95001) (pos 0) 31)) (lent WORDS 64) (Refused 41)
+    ∷ makes M (given 1 1 2 last (thenAll (pos 95000) (pos 0) 31)) (lent WORDS 64) (Refused 42)
+    ∷ makes M (given 1 1 2 last (thenAll (pos 15000) (pos 0) 31)) (lent WORDS 64) Made
     ∷ []
 
 -- A first table of n pairs v, v′; and one of n entries from v up by steps.
@@ -49,21 +49,21 @@ abbrev ramp : ℕ → ℕ → ℕ → List ℤ
 ramp zero v by = []
 ramp (suc n) v by = pos v ∷ ramp n (v + by) by
 
--- The ends of a first table. No entries get 40, and 33; with a first version above the last they get 6. -501 as the last entry and 9501 as entry 16 get 41.
--- Steps of 1500 are made, up and down; 1501 gets 42, up between entries 15 and 16 and down at the last pair. Entries 31 and 0 are no neighbours.
+-- The ends of a first table. No entries get 40, and 33; with a first version above the last they get 6. -5001 as the last entry and 95001 as entry 16 get 41.
+-- Steps of 15000 are made, up and down; 15001 gets 42, up between entries 15 and 16 and down at the last pair. Entries 31 and 0 are no neighbours.
 abbrev pub tableEnds : Machine → ℕ → List Example
 tableEnds M last =
     makes M (given 1 1 2 last []) (lent WORDS 64) (Refused 40)
     ∷ makes M (given 1 1 2 last (replicate 33 (pos 0))) (lent WORDS 64) (Refused 40)
     ∷ makes M (given 1 1 2 (last + 1) []) (lent WORDS 64) (Refused 6)
-    ∷ makes M (given 1 1 2 last (replicate 31 (negℤ (pos 500)) ++ (negℤ (pos 501) ∷ []))) (lent WORDS 64) (Refused 41)
-    ∷ makes M (given 1 1 2 last (replicate 16 (pos 9500) ++ thenAll (pos 9501) (pos 9500) 15)) (lent WORDS 64) (Refused 41)
-    ∷ makes M (given 1 1 2 last (replicate 32 (negℤ (pos 500)))) (lent WORDS 64) Made
-    ∷ makes M (given 1 1 2 last (replicate 32 (pos 9500))) (lent WORDS 64) Made
-    ∷ makes M (given 1 1 2 last (pairs 16 (negℤ (pos 500)) (pos 1000))) (lent WORDS 64) Made
-    ∷ makes M (given 1 1 2 last (replicate 16 (negℤ (pos 500)) ++ replicate 16 (pos 1001))) (lent WORDS 64) (Refused 42)
-    ∷ makes M (given 1 1 2 last (replicate 31 (pos 1501) ++ (pos 0 ∷ []))) (lent WORDS 64) (Refused 42)
-    ∷ makes M (given 1 1 2 last (ramp 32 0 300)) (lent WORDS 64) Made
+    ∷ makes M (given 1 1 2 last (replicate 31 (negℤ (pos 5000)) ++ (negℤ (pos 5001) ∷ []))) (lent WORDS 64) (Refused 41)
+    ∷ makes M (given 1 1 2 last (replicate 16 (pos 95000) ++ thenAll (pos 95001) (pos 95000) 15)) (lent WORDS 64) (Refused 41)
+    ∷ makes M (given 1 1 2 last (replicate 32 (negℤ (pos 5000)))) (lent WORDS 64) Made
+    ∷ makes M (given 1 1 2 last (replicate 32 (pos 95000))) (lent WORDS 64) Made
+    ∷ makes M (given 1 1 2 last (pairs 16 (negℤ (pos 5000)) (pos 10000))) (lent WORDS 64) Made
+    ∷ makes M (given 1 1 2 last (replicate 16 (negℤ (pos 5000)) ++ replicate 16 (pos 10001))) (lent WORDS 64) (Refused 42)
+    ∷ makes M (given 1 1 2 last (replicate 31 (pos 15001) ++ (pos 0 ∷ []))) (lent WORDS 64) (Refused 42)
+    ∷ makes M (given 1 1 2 last (ramp 32 0 3000)) (lent WORDS 64) Made
     ∷ []
 
 -- The ends of making: 64 readers, 16 publishers and 32 slots on 425 words and 1024 entries are made; one more of each gets 2, 3, 4 and 1.
@@ -97,7 +97,7 @@ claimRows M = shows M (givenFeathered 1 2 3 0) (Claim 0 1 ∷ []) (Claim 2 3 ∷
 -- WRITE at place 0: 11 before 14, 14 before 21.
 abbrev pub writeRows : Machine → Example
 writeRows M = shows M (givenFeathered 1 1 2 0) []
-    (Write 1 (pos 9501) ∷ Write 0 (pos 9501) ∷ Write 0 (pos 9500) ∷ [])
+    (Write 1 (pos 95001) ∷ Write 0 (pos 95001) ∷ Write 0 (pos 95000) ∷ [])
     (Made ∷ Refused 11 ∷ Refused 14 ∷ Refused 21 ∷ [])
 
 -- SYNC at the last version, at place 33 and at 34: 21 before 32.

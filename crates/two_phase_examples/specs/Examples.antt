@@ -40,7 +40,7 @@ P11 = shows TwoPhase (givenFeathered 1 2 3 0) (enters 2 0 ++ publication 0 1 (po
 abbrev pub whole : Example
 whole = shows TwoPhase (givenFeathered 1 1 2 0) (enters 3 0 ++ tableFrom 0 1 100)
     (Swap 0 ∷ Look 0 1 ∷ Leave 0 ∷ Sync 0 ∷ Walk 0 1 ∷ Raise 0 ∷ Walk 0 1 ∷ Release 0 ∷ enters 3 0 ++ (Look 0 0 ∷ Look 0 1 ∷ Look 0 30 ∷ Look 0 31 ∷ []))
-    (Made ∷ Swapped 0 ∷ Pitch (pos 9000) ∷ Left ∷ Synced 1 ∷ Walked Quiet ∷ Raised ∷ Walked (Returned 2 0) ∷ Freed 0 1 ∷ At 1 ∷ At 4 ∷ At 5
+    (Made ∷ Swapped 0 ∷ Pitch (pos 90000) ∷ Left ∷ Synced 1 ∷ Walked Quiet ∷ Raised ∷ Walked (Returned 2 0) ∷ Freed 0 1 ∷ At 1 ∷ At 4 ∷ At 5
     ∷ Pitch (pos 100) ∷ Pitch (pos 101) ∷ Pitch (pos 130) ∷ Pitch (pos 131) ∷ [])
 
 -- A reader that enters after the RAISE loads the version raised and adds to its indicator: the walk does not wait for it.
