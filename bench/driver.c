@@ -27,6 +27,18 @@ static uint64_t below(uint64_t n)
     return state % n;
 }
 
+static rahuvyte_pitch pitch(void)
+{
+    return (rahuvyte_pitch)below(RAHUVYTE_PITCH_HIGH - RAHUVYTE_PITCH_LOW + 1) + RAHUVYTE_PITCH_LOW;
+}
+
+/* Any number of 32 bits, of each number of bits as often. */
+static rahuvyte_pitch any_number(void)
+{
+    const uint64_t half = UINT64_C(1) << below(32);
+    return (rahuvyte_pitch)((int64_t)below(2 * half) - (int64_t)half);
+}
+
 static void compare(const char *call, struct rahuvyte_reply ours, struct rahuvyte_reply theirs)
 {
     if (memcmp(&ours, &theirs, sizeof ours) != 0 || memcmp(words[0], words[1], sizeof words[0]) != 0 || memcmp(entries[0], entries[1], sizeof entries[0]) != 0) {
@@ -58,7 +70,7 @@ static void reader_goes_on(uint16_t r)
 static void publisher_goes_on(uint16_t p, uint16_t slots)
 {
     const uint16_t slot = (uint16_t)below(slots), b = (uint16_t)below(9);
-    const rahuvyte_pitch v = (rahuvyte_pitch)((int)below(RAHUVYTE_PITCH_HIGH - RAHUVYTE_PITCH_LOW + 1) + RAHUVYTE_PITCH_LOW);
+    const rahuvyte_pitch v = pitch();
     switch (words[1][FIRST_PUBLISHER + PUBLISHER_WORDS * p]) {
     case RAHUVYTE_PLACE_IDLE:
         BOTH(claim, p, slot);
@@ -92,20 +104,20 @@ static void publisher_goes_on(uint16_t p, uint16_t slots)
 /* A good first table, whose neighbours differ by anything that is allowed. */
 static void draw_table(void)
 {
-    int v = (int)below(RAHUVYTE_PITCH_HIGH - RAHUVYTE_PITCH_LOW + 1) + RAHUVYTE_PITCH_LOW;
+    rahuvyte_pitch v = pitch();
     for (int k = 0; k < TABLE; k++) {
-        const int next = v + (int)below(2 * RAHUVYTE_STEP_MAX + 1) - RAHUVYTE_STEP_MAX;
+        const rahuvyte_pitch next = v + (rahuvyte_pitch)below(2 * RAHUVYTE_STEP_MAX + 1) - RAHUVYTE_STEP_MAX;
         if (next >= RAHUVYTE_PITCH_LOW && next <= RAHUVYTE_PITCH_HIGH)
             v = next;
-        table[k] = (rahuvyte_pitch)v;
+        table[k] = v;
     }
 }
 
 /* A first table with one step, behind entry k. */
-static void draw_step(int k, int step)
+static void draw_step(int k, rahuvyte_pitch step)
 {
     for (int i = 0; i < TABLE; i++)
-        table[i] = (rahuvyte_pitch)(i <= k ? RAHUVYTE_STEP_MAX + 1 : RAHUVYTE_STEP_MAX + 1 + step);
+        table[i] = i <= k ? RAHUVYTE_STEP_MAX + 1 : RAHUVYTE_STEP_MAX + 1 + step;
 }
 
 #define BOTH_MAKE(kind, table_len) BOTH(make, table, table_len, kind, 1, 1, 2, 0)
@@ -113,19 +125,19 @@ static void draw_step(int k, int step)
 /* Every length up to one too many; an entry that is just out of range or any number, at each index; a step that is just too far or just not, at each pair. */
 static void compare_refused(uint16_t kind)
 {
-    static const int out[] = { RAHUVYTE_PITCH_LOW - 1, RAHUVYTE_PITCH_HIGH + 1, INT16_MIN, INT16_MAX };
-    static const int steps[] = { RAHUVYTE_STEP_MAX, RAHUVYTE_STEP_MAX + 1, -RAHUVYTE_STEP_MAX, -RAHUVYTE_STEP_MAX - 1 };
+    static const rahuvyte_pitch out[] = { RAHUVYTE_PITCH_LOW - 1, RAHUVYTE_PITCH_HIGH + 1, INT32_MIN, INT32_MAX };
+    static const rahuvyte_pitch steps[] = { RAHUVYTE_STEP_MAX, RAHUVYTE_STEP_MAX + 1, -RAHUVYTE_STEP_MAX, -RAHUVYTE_STEP_MAX - 1 };
     entries_len = 2 * TABLE;
     for (size_t len = 0; len <= TABLE + 1; len++)
         BOTH_MAKE(kind, len);
     for (int k = 0; k < TABLE; k++)
         for (int i = 0; i < 4; i++) {
             draw_table();
-            table[k] = (rahuvyte_pitch)out[i];
+            table[k] = out[i];
             BOTH_MAKE(kind, TABLE);
             draw_step(k, steps[i]);
             BOTH_MAKE(kind, TABLE);
-            table[below(TABLE)] = (rahuvyte_pitch)below(UINT16_MAX + 1);
+            table[below(TABLE)] = any_number();
             BOTH_MAKE(kind, TABLE);
         }
 }

@@ -3,7 +3,7 @@
    baseline.c includes it. */
 #define NAMED(call) new_##call
 #define KIND RAHUVYTE_KIND_NEW
-#define LAST (UINT64_MAX - 1)
+#define LAST RAHUVYTE_LAST_NEW
 
 static inline bool NAMED(damaged)(const struct store *s, size_t words_len, size_t entries_len)
 {

@@ -30,18 +30,18 @@ static size_t table_len;
 static inline bool decimal(const char **at, uint32_t max, uint32_t *n)
 {
     const char *p = *at;
-    uint32_t value = (uint32_t)(*p++ - '0'), digit;
+    uint64_t value = (uint64_t)(*p++ - '0'), digit;
     if (value > 9)
         return false;
     if (value != 0) {
-        for (; (digit = (uint32_t)(*p - '0')) <= 9; p++) {
+        for (; (digit = (uint64_t)(*p - '0')) <= 9; p++) {
             value = value * 10 + digit;
             if (value > max)
                 return false;
         }
     }
     *at = p;
-    *n = value;
+    *n = (uint32_t)value;
     return true;
 }
 
@@ -62,15 +62,15 @@ static bool version_of(const char **at, uint64_t *n)
     return true;
 }
 
-/* A pitch of 16 bits; -0 is none. */
-static inline bool pitch_of(const char **at, int32_t *v)
+/* A pitch of 32 bits; -0 is none. */
+static inline bool pitch_of(const char **at, rahuvyte_pitch *v)
 {
     const bool negative = **at == '-';
     uint32_t n;
     *at += negative;
-    if (!decimal(at, negative ? -INT16_MIN : INT16_MAX, &n) || (negative && n == 0))
+    if (!decimal(at, negative ? UINT32_C(0x80000000) : INT32_MAX, &n) || (negative && n == 0))
         return false;
-    *v = negative ? -(int32_t)n : (int32_t)n;
+    *v = (rahuvyte_pitch)(negative ? -(int64_t)n : n);
     return true;
 }
 
@@ -79,7 +79,7 @@ static size_t read_lines(const char *text, size_t size, size_t *bad)
 {
     const char *at = text, *const end = text + size;
     size_t lines = 0;
-    int32_t v;
+    rahuvyte_pitch v;
     while (at != end) {
         lines++;
         if (!pitch_of(&at, &v) || (at != end && *at++ != '\n')) {
@@ -87,7 +87,7 @@ static size_t read_lines(const char *text, size_t size, size_t *bad)
             return 0;
         }
         if (lines <= RAHUVYTE_TABLE)
-            table[lines - 1] = (rahuvyte_pitch)v;
+            table[lines - 1] = v;
     }
     return lines;
 }
@@ -219,7 +219,7 @@ static bool played(const char *line, struct rahuvyte_reply *reply)
     const char *at;
     enum call call;
     uint32_t name, second = 0;
-    int32_t pitch = 0;
+    rahuvyte_pitch pitch = 0;
     if (!named(line, &call, &at))
         return memcmp(line, "(store ", 7) == 0 && made(line + 7, reply);
     if (!decimal(&at, UINT16_MAX, &name))
@@ -232,7 +232,7 @@ static bool played(const char *line, struct rahuvyte_reply *reply)
     }
     if (!closed(at))
         return false;
-    *reply = called(call, (uint16_t)name, (uint16_t)second, (rahuvyte_pitch)pitch);
+    *reply = called(call, (uint16_t)name, (uint16_t)second, pitch);
     return true;
 }
 
@@ -245,7 +245,7 @@ static void print(uint64_t n, const struct rahuvyte_reply *reply)
     switch (reply->code) {
     case RAHUVYTE_MADE: printf(N "made)\n", n); break;
     case RAHUVYTE_AT: printf(N "at" VALUE ")\n", n, first); break;
-    case RAHUVYTE_PITCH: printf(N "pitch %d)\n", n, rahuvyte_pitch_of(*reply)); break;
+    case RAHUVYTE_PITCH: printf(N "pitch %" PRId32 ")\n", n, rahuvyte_pitch_of(*reply)); break;
     case RAHUVYTE_LEFT: printf(N "left)\n", n); break;
     case RAHUVYTE_CLAIMED: printf(N "claimed" VALUE ")\n", n, first); break;
     case RAHUVYTE_WRITTEN: printf(N "written" VALUE ")\n", n, first); break;

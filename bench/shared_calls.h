@@ -42,7 +42,7 @@ static struct rahuvyte_reply NAMED(look)(const uint64_t *words, size_t words_len
     const struct reader *x = &s->reader[r];
     if (x->place != 5)
         return refused(20);
-    return accepted(102, (uint64_t)(int64_t)entries[x->picked * TABLE + k], 0);
+    return accepted(102, (uint64_t)entries[x->picked * TABLE + k], 0);
 }
 
 static struct rahuvyte_reply NAMED(write)(uint64_t *words, size_t words_len, rahuvyte_pitch *entries, size_t entries_len, uint16_t p, rahuvyte_pitch v)

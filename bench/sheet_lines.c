@@ -20,17 +20,22 @@ static uint64_t state;
 #define ONE(call, a) (printf("(" #call " %d)\n", a), (void)c_##call(words, RAHUVYTE_WORDS, entries, entries_len, a))
 #define TWO(call, a, b) (printf("(" #call " %d %d)\n", a, b), (void)c_##call(words, RAHUVYTE_WORDS, entries, entries_len, a, b))
 
-static uint16_t below(uint64_t n)
+static uint64_t drawn(uint64_t n)
 {
     state ^= state << 13;
     state ^= state >> 7;
     state ^= state << 17;
-    return (uint16_t)(state % n);
+    return state % n;
+}
+
+static uint16_t below(uint16_t n)
+{
+    return (uint16_t)drawn(n);
 }
 
 static rahuvyte_pitch pitch(void)
 {
-    return (rahuvyte_pitch)(below(RAHUVYTE_PITCH_HIGH - RAHUVYTE_PITCH_LOW + 1) + RAHUVYTE_PITCH_LOW);
+    return (rahuvyte_pitch)drawn(RAHUVYTE_PITCH_HIGH - RAHUVYTE_PITCH_LOW + 1) + RAHUVYTE_PITCH_LOW;
 }
 
 /* A reader goes on: it enters, looks a few times, and leaves. */
@@ -94,7 +99,7 @@ static uint16_t publisher_in_turn(void)
 static void stray(void)
 {
     const uint16_t name = below(80), second = below(40);
-    const rahuvyte_pitch v = (rahuvyte_pitch)(pitch() * 3);
+    const rahuvyte_pitch v = pitch() * 3;
     switch (below(11)) {
     case 0: ONE(enter, name); break;
     case 1: TWO(look, name, second); break;
@@ -114,7 +119,7 @@ static void unread(void)
 {
     static const char *const lines[] = {
         "", "(enter 3", "(enter  3)", "(enter 03)", "(enter 65536)", "enter 3", "(Enter 3)", "(look 3)", "(look 3 4 5)", "(leave -1)", "(leave 3) ",
-        "(claim 1, 2)", "(write 1 -0)", "(write 1 90.00)", "(write 1 32768)", "(walk 2 100000)", "(swap)", "(publish 1)", "(store rest 3 3 4 0)",
+        "(claim 1, 2)", "(write 1 -0)", "(write 1 90.000)", "(write 1 2147483648)", "(walk 2 100000)", "(swap)", "(publish 1)", "(store rest 3 3 4 0)",
         "; blade 1 at 12 m/s", "; ---------------------------------------------------------------------------------------------------- second visit",
     };
     puts(lines[below(sizeof lines / sizeof lines[0])]);

@@ -7,9 +7,9 @@
 #include <stdbool.h>
 #include <string.h>
 
-enum { WORDS = 425, TABLE = 32, READERS_MAX = 64, PUBLISHERS_MAX = 16, SLOTS_MAX = 32 };
+enum { WORDS = RAHUVYTE_WORDS, TABLE = RAHUVYTE_TABLE, READERS_MAX = RAHUVYTE_READERS_MAX, PUBLISHERS_MAX = RAHUVYTE_PUBLISHERS_MAX, SLOTS_MAX = RAHUVYTE_SLOTS_MAX };
 
-#define NOT_READING UINT64_MAX
+#define NOT_READING RAHUVYTE_NOT_READING
 
 struct reader {
     uint64_t place, first, second, published, picked;
@@ -38,34 +38,40 @@ static struct rahuvyte_reply accepted(uint64_t code, uint64_t first, uint64_t se
     return (struct rahuvyte_reply){ code, first, second };
 }
 
-static inline bool out_of_range(int v)
+/* How far a pitch is above the lowest one, modulo 2^32: a lower one is far above. */
+static inline uint32_t above_low(rahuvyte_pitch v)
 {
-    return (unsigned)(v - RAHUVYTE_PITCH_LOW) > RAHUVYTE_PITCH_HIGH - RAHUVYTE_PITCH_LOW;
+    return (uint32_t)v - (uint32_t)RAHUVYTE_PITCH_LOW;
 }
 
-static inline bool steep(int v, int next)
+static inline bool out_of_range(uint32_t above)
 {
-    return (unsigned)(next - v + RAHUVYTE_STEP_MAX) > 2 * RAHUVYTE_STEP_MAX;
+    return above > RAHUVYTE_PITCH_HIGH - RAHUVYTE_PITCH_LOW;
 }
 
-/* Why this cannot be a first table, or 0. One pass, two entries a turn; from a steep pair on only entries out of range are looked for, which are tested before pairs. */
+static inline bool steep(uint32_t above, uint32_t next)
+{
+    return next - above + RAHUVYTE_STEP_MAX > 2 * RAHUVYTE_STEP_MAX;
+}
+
+/* Why this cannot be a first table, or 0. One pass, four entries a turn; from a steep pair on only entries out of range are looked for, which are tested before pairs. */
 static inline uint64_t table_refusal(const rahuvyte_pitch *table, size_t table_len)
 {
     if (table_len != TABLE)
         return 40;
     const rahuvyte_pitch *x = table, *end = table + TABLE;
-    for (int last = *x; x != end; x += 2) {
-        const int v = x[0], next = x[1];
-        if (out_of_range(v) || out_of_range(next))
+    for (uint32_t last = above_low(*x); x != end; x += 4) {
+        const uint32_t a = above_low(x[0]), b = above_low(x[1]), c = above_low(x[2]), d = above_low(x[3]);
+        if (out_of_range(a) || out_of_range(b) || out_of_range(c) || out_of_range(d))
             return 41;
-        if (steep(last, v) || steep(v, next))
+        if (steep(last, a) || steep(a, b) || steep(b, c) || steep(c, d))
             break;
-        last = next;
+        last = d;
     }
     if (x == end)
         return 0;
     for (; x != end; x++)
-        if (out_of_range(*x))
+        if (out_of_range(above_low(*x)))
             return 41;
     return 42;
 }

@@ -3,7 +3,7 @@
    baseline.c includes it. */
 #define NAMED(call) old_##call
 #define KIND RAHUVYTE_KIND_OLD
-#define LAST (UINT64_MAX / 2)
+#define LAST RAHUVYTE_LAST_OLD
 
 static inline bool NAMED(damaged)(const struct store *s, size_t words_len, size_t entries_len)
 {

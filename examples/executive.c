@@ -136,8 +136,8 @@ static void publisher_claims(struct cabinet *c, uint16_t p)
     switch (reply.code) {
     case RAHUVYTE_CLAIMED:
         TOLD(c, p, "claims slot %u", (unsigned)reply.first);
-        y->start = (int)below(c, 200) + RAHUVYTE_PITCH_LOW;
-        y->slope = 200 + (int)below(c, 100);
+        y->start = (int)below(c, 2000) + RAHUVYTE_PITCH_LOW;
+        y->slope = 2000 + (int)below(c, 1000);
         y->written = 0;
         y->step = WRITE;
         y->noted = 0;

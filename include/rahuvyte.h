@@ -3,6 +3,9 @@
    A table has 32 pitches. PUBLISHERS (tower door, supervisor, ice detector) write a new table and swap it in;
    READERS (the blade loops) look pitches up. A reader never waits, and never sees parts of two tables.
 
+   A PITCH IS IN THOUSANDTHS OF A DEGREE, in 32 bits. Until 0.2.0 it was in hundredths, in 16 bits: MULTIPLY EVERY TABLE AND EVERY CARD BY TEN.
+   No call can notice a factor that was forgotten: 9000 was 90 degrees, and is a good pitch of 9 degrees now.
+
    You lend the store two arrays and keep them for as long as you use it:
      uint64_t store[RAHUVYTE_WORDS]                          its numbers; no need to look inside
      rahuvyte_pitch entries[RAHUVYTE_ENTRIES(slots)]         its tables, one for each slot
@@ -21,8 +24,9 @@
    interrupt that came in the middle of another call). Every pointer must be good for the length given with it,
    no two of the lent arrays may overlap, and a null pointer is allowed only with length 0.
 
-   Recompile what was compiled with the header of 0.1.0, whose rahuvyte_make had no first table. An object from then still links,
-   but its arguments arrive shifted: the kind as the table's address, the readers as its length, the publishers as the kind.
+   Recompile whatever includes this header: an object compiled with the header of 0.2.0 or 0.1.0 still links. Its making gets 1, since its kind,
+   or from 0.1.0 its publishers (1 to 16) in that place, is none of today's. The ten calls on a store that these releases made get 1 too. Nothing is changed.
+   But an object from then that makes no store, and looks or writes in one that a recompiled object made, is not noticed: its pitches are cut to 16 bits.
 
    In the project's folder docs/C-INTERFACE.md has an example, tables and questions, and docs/LAYOUT.md the words of a store one by one.
 
@@ -34,9 +38,9 @@
 #include <stdint.h>
 
 #define RAHUVYTE_VERSION_MAJOR 0
-#define RAHUVYTE_VERSION_MINOR 2
+#define RAHUVYTE_VERSION_MINOR 3
 #define RAHUVYTE_VERSION_PATCH 0
-#define RAHUVYTE_VERSION "0.2.0"
+#define RAHUVYTE_VERSION "0.3.0"
 
 #ifdef __cplusplus
 extern "C" {
@@ -44,15 +48,15 @@ extern "C" {
 
 /* ---- Numbers ---- */
 
-/* A pitch, in hundredths of a degree: 9000 is 90 degrees. */
-typedef int16_t rahuvyte_pitch;
+/* A pitch, in thousandths of a degree: 90000 is 90 degrees. */
+typedef int32_t rahuvyte_pitch;
 
-#define RAHUVYTE_PITCH_LOW (-500)
-#define RAHUVYTE_PITCH_HIGH 9500
+#define RAHUVYTE_PITCH_LOW (-5000)
+#define RAHUVYTE_PITCH_HIGH 95000
 /* The pitch of a feathered blade. No store starts with it by itself: a first table may have it. */
-#define RAHUVYTE_FEATHERED 9000
+#define RAHUVYTE_FEATHERED 90000
 /* Two neighbours of a first table may differ by so much. */
-#define RAHUVYTE_STEP_MAX 1500
+#define RAHUVYTE_STEP_MAX 15000
 
 /* Words of a store, of either kind and any size. */
 #define RAHUVYTE_WORDS 425
@@ -66,9 +70,10 @@ typedef int16_t rahuvyte_pitch;
 #define RAHUVYTE_SLOTS_MIN 2
 #define RAHUVYTE_SLOTS_MAX 32
 
-/* The kinds of store. New: publishers publish side by side. Old: one at a time, any other is refused as busy. */
-#define RAHUVYTE_KIND_NEW 1
-#define RAHUVYTE_KIND_OLD 2
+/* The kinds of store. New: publishers publish side by side. Old: one at a time, any other is refused as busy.
+   A kind's number carries the format of words and entries: 16 x format + 1 new, + 2 old. This is format 1; 0.1.0 and 0.2.0 had format 0. */
+#define RAHUVYTE_KIND_NEW 17
+#define RAHUVYTE_KIND_OLD 18
 
 /* The last version of each kind: the greatest first version at making, and the one at which SYNC is refused. */
 #define RAHUVYTE_LAST_NEW (UINT64_MAX - 1)
@@ -141,7 +146,7 @@ enum {
     RAHUVYTE_NO_SUCH_PUBLISHER = 11,
     RAHUVYTE_NO_SUCH_SLOT = 12,
     RAHUVYTE_NO_SUCH_ENTRY = 13,     /* entry above 31 */
-    RAHUVYTE_BAD_PITCH = 14,         /* pitch not -500 to 9500 */
+    RAHUVYTE_BAD_PITCH = 14,         /* pitch not -5000 to 95000 */
     RAHUVYTE_READER_TURN = 20,       /* the reader is at a place where this call is not allowed */
     RAHUVYTE_PUBLISHER_TURN = 21,    /* the publisher is at a place where this call is not allowed */
     RAHUVYTE_SLOT_IN_USE = 30,       /* CLAIM: the slot is current, or a publisher holds it */
@@ -149,8 +154,8 @@ enum {
     RAHUVYTE_VERSION_IS_LAST = 32,   /* SYNC: no version is left */
     RAHUVYTE_TOO_MANY_LOOKS = 33,    /* WALK: looks + b would pass 2^64 - 1 */
     RAHUVYTE_BAD_TABLE_LENGTH = 40,  /* making: the first table has not 32 entries */
-    RAHUVYTE_BAD_TABLE_PITCH = 41,   /* making: an entry of the first table is not -500 to 9500 */
-    RAHUVYTE_BAD_TABLE_STEP = 42     /* making: two neighbours of the first table differ by more than 1500 */
+    RAHUVYTE_BAD_TABLE_PITCH = 41,   /* making: an entry of the first table is not -5000 to 95000 */
+    RAHUVYTE_BAD_TABLE_STEP = 42     /* making: two neighbours of the first table differ by more than 15000 */
 };
 
 /* 1 if the call was accepted, 0 if it was refused. */
@@ -160,10 +165,10 @@ static inline int rahuvyte_accepted(struct rahuvyte_reply reply)
 }
 
 /* The pitch of a reply RAHUVYTE_PITCH, its sign restored. Means nothing for other replies. */
-static inline int rahuvyte_pitch_of(struct rahuvyte_reply reply)
+static inline rahuvyte_pitch rahuvyte_pitch_of(struct rahuvyte_reply reply)
 {
-    const int low = reply.first & 0xffff;
-    return low < 0x8000 ? low : low - 0x10000;
+    const uint32_t low = (uint32_t)(reply.first & UINT32_MAX);
+    return low <= INT32_MAX ? (rahuvyte_pitch)low : -(rahuvyte_pitch)(UINT32_MAX - low) - 1;
 }
 
 /* A code in words, accepted or refused. Never null; a fixed text that nobody has to free. */
@@ -212,7 +217,7 @@ static inline const char *rahuvyte_meaning(uint64_t code)
 /* ---- Making ---- */
 
 /* Makes a fresh store in the lent arrays, whatever they held: every slot has the first table, slot 0 is current, everyone is out.
-   table is the first table, such as the blade maker's card: table_len is RAHUVYTE_TABLE, each pitch -500 to 9500, and neighbours, entries k
+   table is the first table, such as the blade maker's card: table_len is RAHUVYTE_TABLE, each pitch -5000 to 95000, and neighbours, entries k
    and k + 1, differ by at most RAHUVYTE_STEP_MAX. It is read during this call alone and not kept; afterwards you may change it or let it go.
    It must not overlap store or entries: lending entries itself as the table is the likely mistake.
    kind is RAHUVYTE_KIND_NEW or RAHUVYTE_KIND_OLD; version is the first version, 0 unless you have a reason.
@@ -239,7 +244,7 @@ struct rahuvyte_reply rahuvyte_make(uint64_t *store, size_t store_len, rahuvyte_
 struct rahuvyte_reply rahuvyte_enter(uint64_t *store, size_t store_len, const rahuvyte_pitch *entries, size_t entries_len, uint16_t r);
 
 /* LOOK: entry k, 0 to 31, of the table that reader r picked. Changes nothing; allowed any number of times at PLACE_PICKED.
-   Reply: PITCH with the pitch; rahuvyte_pitch_of(reply) has it as an int.
+   Reply: PITCH with the pitch; rahuvyte_pitch_of(reply) has it with its sign.
    Refused: DAMAGED, NO_SUCH_READER, NO_SUCH_ENTRY, READER_TURN (not at PLACE_PICKED). */
 struct rahuvyte_reply rahuvyte_look(const uint64_t *store, size_t store_len, const rahuvyte_pitch *entries, size_t entries_len, uint16_t r,
                                     uint16_t k);

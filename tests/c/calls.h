@@ -3,14 +3,13 @@
 #define CALLS_H
 
 #include "rahuvyte.h"
+#include "words.h"
 
 #include <stdio.h>
 #include <stdlib.h>
 #include <string.h>
 #include <sys/mman.h>
 #include <unistd.h>
-
-enum word { ENTER, LOOK, LEAVE, CLAIM, WRITE, SWAP, SYNC, RAISE, WALK, RELEASE, TEN_CALLS };
 
 static const char *const names[TEN_CALLS] = { "enter", "look", "leave", "claim", "write", "swap", "sync", "raise", "walk", "release" };
 
@@ -31,7 +30,7 @@ struct lent {
 enum edge { AT_BEGIN, AT_END };
 
 /* size bytes between two pages that cannot be touched, right behind the first or right before the second: one byte too far there ends the program. Null for none. */
-static void *lend_bytes(size_t size, enum edge edge)
+static inline void *lend_bytes(size_t size, enum edge edge)
 {
     if (size == 0)
         return NULL;
@@ -42,11 +41,11 @@ static void *lend_bytes(size_t size, enum edge edge)
     return edge == AT_BEGIN ? start + page : start + page + room - size;
 }
 
-/* Entry k of a good first table. All entries differ, and the last and the first by far more than neighbours may. */
-#define FIRST_PITCH(k) (8500 - 290 * (k))
+/* Entry k of a good first table. All entries differ, also in their low 16 bits, and the last and the first by far more than neighbours may. */
+#define FIRST_PITCH(k) (85003 - 2903 * (k))
 
 /* So many entries of that table, also beyond the 32nd; in range up to the 32nd. */
-static rahuvyte_pitch *lend_table(size_t len, enum edge edge)
+static inline rahuvyte_pitch *lend_table(size_t len, enum edge edge)
 {
     rahuvyte_pitch *table = (rahuvyte_pitch *)lend_bytes(len * sizeof(rahuvyte_pitch), edge);
     for (size_t k = 0; k < len; k++)
@@ -55,7 +54,7 @@ static rahuvyte_pitch *lend_table(size_t len, enum edge edge)
 }
 
 /* Arrays of these lengths, and a good first table. */
-static struct lent lend_arrays(size_t store_len, size_t entries_len)
+static inline struct lent lend_arrays(size_t store_len, size_t entries_len)
 {
     const struct lent l = { (uint64_t *)lend_bytes(store_len * sizeof(uint64_t), AT_END), store_len,
                             (rahuvyte_pitch *)lend_bytes(entries_len * sizeof(rahuvyte_pitch), AT_END), entries_len,
@@ -64,7 +63,7 @@ static struct lent lend_arrays(size_t store_len, size_t entries_len)
 }
 
 /* Whether every slot has the first table. */
-static int has_first_table(struct lent l)
+static inline int has_first_table(struct lent l)
 {
     for (size_t i = 0; i < l.entries_len; i++)
         if (l.entries[i] != l.table[i % RAHUVYTE_TABLE])
@@ -73,7 +72,7 @@ static int has_first_table(struct lent l)
 }
 
 /* One of the ten calls; second is the entry, slot, pitch or b, if it has one. */
-static struct rahuvyte_reply make_call(struct lent l, enum word word, uint16_t first, int second)
+static inline struct rahuvyte_reply make_call(struct lent l, enum word word, uint16_t first, int second)
 {
     switch (word) {
     case ENTER: return rahuvyte_enter(LENT(l), first);
@@ -90,12 +89,12 @@ static struct rahuvyte_reply make_call(struct lent l, enum word word, uint16_t f
     }
 }
 
-static int same_reply(struct rahuvyte_reply reply, uint64_t code, uint64_t first, uint64_t second)
+static inline int same_reply(struct rahuvyte_reply reply, uint64_t code, uint64_t first, uint64_t second)
 {
     return reply.code == code && reply.first == first && reply.second == second;
 }
 
-static void report_failure(const char *test, const char *call, struct rahuvyte_reply reply, uint64_t code, const char *what)
+static inline void report_failure(const char *test, const char *call, struct rahuvyte_reply reply, uint64_t code, const char *what)
 {
     fprintf(stderr, "%s: %s replies %llu %llu %llu; expected %llu%s\n", test, call, (unsigned long long)reply.code, (unsigned long long)reply.first,
             (unsigned long long)reply.second, (unsigned long long)code, what);
@@ -109,7 +108,7 @@ struct copies {
     rahuvyte_pitch table[2 * RAHUVYTE_TABLE];
 };
 
-static void copy_lent(struct copies *to, struct lent l)
+static inline void copy_lent(struct copies *to, struct lent l)
 {
     if (l.store_len > 0)
         memcpy(to->store, l.store, l.store_len * sizeof(uint64_t));
@@ -119,12 +118,12 @@ static void copy_lent(struct copies *to, struct lent l)
         memcpy(to->table, l.table, l.table_len * sizeof(rahuvyte_pitch));
 }
 
-static int unchanged_table(const struct copies *before, struct lent l)
+static inline int unchanged_table(const struct copies *before, struct lent l)
 {
     return l.table_len == 0 || memcmp(before->table, l.table, l.table_len * sizeof(rahuvyte_pitch)) == 0;
 }
 
-static int unchanged(const struct copies *before, struct lent l)
+static inline int unchanged(const struct copies *before, struct lent l)
 {
     return (l.store_len == 0 || memcmp(before->store, l.store, l.store_len * sizeof(uint64_t)) == 0)
         && (l.entries_len == 0 || memcmp(before->entries, l.entries, l.entries_len * sizeof(rahuvyte_pitch)) == 0) && unchanged_table(before, l);

@@ -22,7 +22,7 @@ static void expect_ten_damaged(struct lent l)
     copy_lent(&before, l);
     for (int w = ENTER; w < TEN_CALLS; w++) {
         expect_refused(names[w], make_call(l, (enum word)w, 0, 1), RAHUVYTE_DAMAGED, l);
-        expect_refused(names[w], make_call(l, (enum word)w, UINT16_MAX, INT16_MAX), RAHUVYTE_DAMAGED, l);
+        expect_refused(names[w], make_call(l, (enum word)w, UINT16_MAX, INT32_MAX), RAHUVYTE_DAMAGED, l);
     }
 }
 
@@ -73,7 +73,7 @@ static void try_store_lengths(uint16_t kind)
 
 static void try_entries_lengths(uint16_t kind)
 {
-    static const size_t lengths[] = { 0, 1, 64, 95, 97, 128, 1024 };
+    static const size_t lengths[] = { 0, 1, 48, 64, 95, 97, 128, 192, 1024 };
     for (size_t i = 0; i < sizeof lengths / sizeof lengths[0]; i++) {
         const struct lent l = make_lent_store(kind, RAHUVYTE_WORDS, lengths[i]);
         expect_ten_damaged(l);
@@ -81,11 +81,11 @@ static void try_entries_lengths(uint16_t kind)
     }
 }
 
-/* Words that are no kind, among them some whose low bits are one. */
+/* Words that are no kind: those of the format before (1, 2) and of one to come, numbers beside a kind, and some whose low bits are one. */
 static void try_unknown_kinds(uint16_t kind)
 {
     static const uint64_t kinds[] = {
-        0, 3, 255, UINT64_MAX,
+        0, 1, 2, 3, 16, 19, 20, 33, 34, 255, UINT16_MAX, UINT64_MAX,
         UINT64_C(0x100) + RAHUVYTE_KIND_NEW, UINT64_C(0x100) + RAHUVYTE_KIND_OLD,
         UINT64_C(0x10000) + RAHUVYTE_KIND_NEW, UINT64_C(0x10000) + RAHUVYTE_KIND_OLD,
         UINT64_C(0x100000000) + RAHUVYTE_KIND_NEW, UINT64_C(0x100000000) + RAHUVYTE_KIND_OLD,
@@ -145,7 +145,7 @@ static void put_step(struct lent l, int k, int v, int behind)
 /* One entry out of range, in a table that is flat but for it, and in one whose other neighbours are too far apart. */
 static void try_table_pitches(uint16_t kind)
 {
-    static const int out[] = { RAHUVYTE_PITCH_LOW - 1, RAHUVYTE_PITCH_HIGH + 1, INT16_MIN, INT16_MAX };
+    static const int out[] = { RAHUVYTE_PITCH_LOW - 1, RAHUVYTE_PITCH_HIGH + 1, INT32_MIN, INT32_MAX };
     const struct lent l = make_lent_store(kind, RAHUVYTE_WORDS, RAHUVYTE_ENTRIES(3));
     for (int k = 0; k < RAHUVYTE_TABLE; k++)
         for (size_t i = 0; i < sizeof out / sizeof out[0]; i++) {

@@ -49,13 +49,16 @@ static void make(struct lent l, uint16_t kind, uint16_t readers, uint16_t publis
         report_failure("replies", "make", reply, code, ", the first table in every slot and unchanged");
 }
 
-/* CLAIM, 32 WRITEs of k times step - 500, SWAP. */
+/* Entry k of the tables that are written, by their step. */
+#define WRITTEN_PITCH(k, step) (RAHUVYTE_PITCH_LOW + (k) * (step))
+
+/* CLAIM, 32 WRITEs, SWAP. */
 static void swap_in(struct lent l, uint16_t p, uint16_t slot, int step, uint64_t former)
 {
     const struct line claim = { CLAIM, p, slot, RAHUVYTE_CLAIMED, slot, 0 }, swap = { SWAP, p, 0, RAHUVYTE_SWAPPED, former, 0 };
     play(l, claim);
     for (int k = 0; k < RAHUVYTE_TABLE; k++) {
-        const struct line write = { WRITE, p, k * step - 500, RAHUVYTE_WRITTEN, (uint64_t)k + 1, 0 };
+        const struct line write = { WRITE, p, WRITTEN_PITCH(k, step), RAHUVYTE_WRITTEN, (uint64_t)k + 1, 0 };
         play(l, write);
     }
     play(l, swap);
@@ -108,9 +111,11 @@ static const struct line names_refused[] = {
     { LOOK, 1, 32, RAHUVYTE_NO_SUCH_ENTRY, 0, 0 },       { LOOK, 1, 31, RAHUVYTE_READER_TURN, 0, 0 },
     { LEAVE, 2, 0, RAHUVYTE_NO_SUCH_READER, 0, 0 },      { LEAVE, 1, 0, RAHUVYTE_READER_TURN, 0, 0 },
     { CLAIM, 2, 3, RAHUVYTE_NO_SUCH_PUBLISHER, 0, 0 },   { CLAIM, 1, 3, RAHUVYTE_NO_SUCH_SLOT, 0, 0 },
-    { CLAIM, 1, 0, RAHUVYTE_SLOT_IN_USE, 0, 0 },         { WRITE, 2, 9501, RAHUVYTE_NO_SUCH_PUBLISHER, 0, 0 },
-    { WRITE, 1, 9501, RAHUVYTE_BAD_PITCH, 0, 0 },        { WRITE, 1, -501, RAHUVYTE_BAD_PITCH, 0, 0 },
-    { WRITE, 1, 9500, RAHUVYTE_PUBLISHER_TURN, 0, 0 },   { SWAP, 2, 0, RAHUVYTE_NO_SUCH_PUBLISHER, 0, 0 },
+    { CLAIM, 1, 0, RAHUVYTE_SLOT_IN_USE, 0, 0 },         { WRITE, 2, RAHUVYTE_PITCH_HIGH + 1, RAHUVYTE_NO_SUCH_PUBLISHER, 0, 0 },
+    { WRITE, 1, RAHUVYTE_PITCH_HIGH + 1, RAHUVYTE_BAD_PITCH, 0, 0 }, { WRITE, 1, RAHUVYTE_PITCH_LOW - 1, RAHUVYTE_BAD_PITCH, 0, 0 },
+    { WRITE, 1, INT32_MAX, RAHUVYTE_BAD_PITCH, 0, 0 },   { WRITE, 1, INT32_MIN, RAHUVYTE_BAD_PITCH, 0, 0 },
+    { WRITE, 1, RAHUVYTE_PITCH_HIGH, RAHUVYTE_PUBLISHER_TURN, 0, 0 }, { WRITE, 1, RAHUVYTE_PITCH_LOW, RAHUVYTE_PUBLISHER_TURN, 0, 0 },
+    { SWAP, 2, 0, RAHUVYTE_NO_SUCH_PUBLISHER, 0, 0 },
     { SWAP, 1, 0, RAHUVYTE_PUBLISHER_TURN, 0, 0 },       { SYNC, 2, 0, RAHUVYTE_NO_SUCH_PUBLISHER, 0, 0 },
     { SYNC, 1, 0, RAHUVYTE_PUBLISHER_TURN, 0, 0 },       { RAISE, 2, 0, RAHUVYTE_NO_SUCH_PUBLISHER, 0, 0 },
     { RAISE, 1, 0, RAHUVYTE_PUBLISHER_TURN, 0, 0 },      { WALK, 2, 1, RAHUVYTE_NO_SUCH_PUBLISHER, 0, 0 },
@@ -137,8 +142,8 @@ static const struct line new_waits[] = {
 static const struct line new_looks[] = {
     { ENTER, 1, 0, RAHUVYTE_AT, RAHUVYTE_PLACE_LOADED, 0 }, { ENTER, 1, 0, RAHUVYTE_AT, RAHUVYTE_PLACE_PUBLISHED, 0 },
     { ENTER, 1, 0, RAHUVYTE_AT, RAHUVYTE_PLACE_LOADED_AGAIN, 0 }, { ENTER, 1, 0, RAHUVYTE_AT, RAHUVYTE_PLACE_OPEN, 0 },
-    { ENTER, 1, 0, RAHUVYTE_AT, RAHUVYTE_PLACE_PICKED, 0 }, { LOOK, 1, 0, RAHUVYTE_PITCH, UINT64_MAX - 499, 0 },
-    { LOOK, 1, 31, RAHUVYTE_PITCH, 5700, 0 }, { LEAVE, 1, 0, RAHUVYTE_LEFT, 0, 0 },
+    { ENTER, 1, 0, RAHUVYTE_AT, RAHUVYTE_PLACE_PICKED, 0 }, { LOOK, 1, 0, RAHUVYTE_PITCH, UINT64_MAX - 4999, 0 },
+    { LOOK, 1, 31, RAHUVYTE_PITCH, WRITTEN_PITCH(31, 3001), 0 }, { LEAVE, 1, 0, RAHUVYTE_LEFT, 0, 0 },
 };
 
 static void play_new_lists(void)
@@ -147,8 +152,8 @@ static void play_new_lists(void)
     make(l, RAHUVYTE_KIND_NEW, 2, 2, 3, 0, RAHUVYTE_MADE);
     PLAY(l, names_refused);
     PLAY(l, new_enters);
-    swap_in(l, 0, 1, 100, 0);
-    swap_in(l, 1, 2, 200, 1);
+    swap_in(l, 0, 1, 1001, 0);
+    swap_in(l, 1, 2, 3001, 1);
     PLAY(l, new_waits);
     PLAY(l, new_looks);
 }
@@ -168,8 +173,8 @@ static const struct line old_waits[] = {
 };
 static const struct line old_looks[] = {
     { ENTER, 1, 0, RAHUVYTE_AT, RAHUVYTE_PLACE_LOADED, 0 }, { ENTER, 1, 0, RAHUVYTE_AT, RAHUVYTE_PLACE_OPEN, 0 },
-    { ENTER, 1, 0, RAHUVYTE_AT, RAHUVYTE_PLACE_PICKED, 0 }, { LOOK, 1, 0, RAHUVYTE_PITCH, UINT64_MAX - 499, 0 },
-    { LOOK, 1, 31, RAHUVYTE_PITCH, 2600, 0 }, { LEAVE, 1, 0, RAHUVYTE_LEFT, 0, 0 },
+    { ENTER, 1, 0, RAHUVYTE_AT, RAHUVYTE_PLACE_PICKED, 0 }, { LOOK, 1, 0, RAHUVYTE_PITCH, UINT64_MAX - 4999, 0 },
+    { LOOK, 1, 31, RAHUVYTE_PITCH, WRITTEN_PITCH(31, 1001), 0 }, { LEAVE, 1, 0, RAHUVYTE_LEFT, 0, 0 },
 };
 
 static void play_old_lists(void)
@@ -178,7 +183,7 @@ static void play_old_lists(void)
     make(l, RAHUVYTE_KIND_OLD, 2, 2, 3, 0, RAHUVYTE_MADE);
     PLAY(l, names_refused);
     PLAY(l, old_enters);
-    swap_in(l, 0, 1, 100, 0);
+    swap_in(l, 0, 1, 1001, 0);
     PLAY(l, old_waits);
     PLAY(l, old_looks);
 }

@@ -26,7 +26,8 @@ static uint16_t kind;
 
 /* The call to make, its reply, and the stack pointer just before it. */
 static enum word word;
-static uint16_t first, second;
+static uint16_t first;
+static int second;
 static struct rahuvyte_reply reply;
 static unsigned char *pointer;
 
@@ -48,14 +49,14 @@ static void call(void)
     switch (word) {
     case MAKE: CALLED(rahuvyte_make(LENT, table, RAHUVYTE_TABLE, kind, first, PUBLISHERS, SLOTS, 0)); break;
     case ENTER: CALLED(rahuvyte_enter(LENT, first)); break;
-    case LOOK: CALLED(rahuvyte_look(LENT, first, second)); break;
+    case LOOK: CALLED(rahuvyte_look(LENT, first, (uint16_t)second)); break;
     case LEAVE: CALLED(rahuvyte_leave(LENT, first)); break;
-    case CLAIM: CALLED(rahuvyte_claim(LENT, first, second)); break;
+    case CLAIM: CALLED(rahuvyte_claim(LENT, first, (uint16_t)second)); break;
     case WRITE: CALLED(rahuvyte_write(LENT, first, (rahuvyte_pitch)second)); break;
     case SWAP: CALLED(rahuvyte_swap(LENT, first)); break;
     case SYNC: CALLED(rahuvyte_sync(LENT, first)); break;
     case RAISE: CALLED(rahuvyte_raise(LENT, first)); break;
-    case WALK: CALLED(rahuvyte_walk(LENT, first, second)); break;
+    case WALK: CALLED(rahuvyte_walk(LENT, first, (uint16_t)second)); break;
     case RELEASE: CALLED(rahuvyte_release(LENT, first)); break;
     default: abort();
     }
@@ -80,7 +81,7 @@ static size_t measure_stack(unsigned char paint)
 }
 
 /* Makes a call twice from the same store, under two paints (a byte may be stored that is just the paint), and notes the more of the two. */
-static void expect(uint64_t code, enum word w, uint16_t a, uint16_t b)
+static void expect(uint64_t code, enum word w, uint16_t a, int b)
 {
     static uint64_t store_before[RAHUVYTE_WORDS];
     static rahuvyte_pitch entries_before[SLOTS * RAHUVYTE_TABLE];
@@ -99,7 +100,7 @@ static void expect(uint64_t code, enum word w, uint16_t a, uint16_t b)
         exit(1);
     }
     if (reply.code != code) {
-        fprintf(stderr, "stack: %s %u %u replies %llu, not %llu\n", names[w], a, b, (unsigned long long)reply.code, (unsigned long long)code);
+        fprintf(stderr, "stack: %s %u %d replies %llu, not %llu\n", names[w], a, b, (unsigned long long)reply.code, (unsigned long long)code);
         exit(1);
     }
     size_t *deepest = &most[w][rahuvyte_accepted(reply) ? 0 : 1];
@@ -132,12 +133,13 @@ static void leave_readers(void)
 /* A publisher writes a table and swaps it in. */
 static void swap_in(uint16_t p, uint16_t slot)
 {
-    expect(RAHUVYTE_SLOT_IN_USE, CLAIM, p, (uint16_t)store[4]);
+    expect(RAHUVYTE_SLOT_IN_USE, CLAIM, p, (int)store[4]);
     expect(RAHUVYTE_CLAIMED, CLAIM, p, slot);
     expect(RAHUVYTE_PUBLISHER_TURN, CLAIM, p, slot);
     expect(RAHUVYTE_BAD_PITCH, WRITE, p, RAHUVYTE_PITCH_HIGH + 1);
-    for (uint16_t k = 0; k < RAHUVYTE_TABLE; k++)
-        expect(RAHUVYTE_WRITTEN, WRITE, p, (uint16_t)(100 * k));
+    expect(RAHUVYTE_BAD_PITCH, WRITE, p, RAHUVYTE_PITCH_LOW - 1);
+    for (int k = 0; k < RAHUVYTE_TABLE; k++)
+        expect(RAHUVYTE_WRITTEN, WRITE, p, RAHUVYTE_PITCH_LOW + 3001 * k);
     expect(RAHUVYTE_PUBLISHER_TURN, WRITE, p, 0);
     expect(RAHUVYTE_SWAPPED, SWAP, p, 0);
     expect(RAHUVYTE_PUBLISHER_TURN, SWAP, p, 0);
