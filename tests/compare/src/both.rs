@@ -161,13 +161,17 @@ impl Both {
         unsafe { library::call(self.library.lent(), call) }
     }
 
-    /// The kind given to a making, or the kind in word 0.
-    fn kind_called(&self, call: &Call) -> Option<Kind> {
+    /// The kind's number given to a making, or that in word 0.
+    fn number_called(&self, call: &Call) -> Option<u64> {
         let words = self.words()?;
         match call {
-            Call::Make { kind, .. } => Kind::from_number(u64::from(*kind)),
-            _ => Kind::from_number(words[KIND]),
+            Call::Make { kind, .. } => Some(u64::from(*kind)),
+            _ => Some(words[KIND]),
         }
+    }
+
+    fn kind_called(&self, call: &Call) -> Option<Kind> {
+        self.number_called(call).and_then(Kind::from_number)
     }
 
     /// The place, before the call, of the reader or publisher that it names.
@@ -192,8 +196,39 @@ impl Both {
             self.seen.note_unusual(Unusual::StoreLength, call);
         } else if kind.is_none() {
             self.seen.note_unusual(Unusual::UnknownKind, call);
+            self.note_before(call);
         } else if self.library.entries.is_null() {
             self.seen.note_unusual(Unusual::NullEntries, call);
+        }
+    }
+
+    /// Notes a kind's number of the format before if all else is right: with
+    /// the number of today the making is accepted, and another call does not
+    /// get 1. The refused call left all as lent.
+    fn note_before(&mut self, call: &Call) {
+        let number = self.number_called(call);
+        let Some(kind) = number.and_then(Kind::from_number_before) else {
+            return;
+        };
+        let side = &self.second;
+        let (mut words, mut entries) = (side.words.lent().to_vec(), side.entries.lent().to_vec());
+        let mut today = *call;
+        match &mut today {
+            Call::Make { kind: number, .. } => *number = kind.number() as u16,
+            _ => words[KIND] = kind.number(),
+        }
+        let table = side.table.lent();
+        let reply = lent::call(&mut words, &mut entries, table, &today, Rules::AS_WRITTEN);
+        let right = match call {
+            Call::Make { .. } => reply == Reply::Made,
+            _ => reply != Reply::Refused(1),
+        };
+        let unusual = match kind {
+            Kind::New => Unusual::NewBefore,
+            Kind::Old => Unusual::OldBefore,
+        };
+        if right {
+            self.seen.note_unusual(unusual, call);
         }
     }
 

@@ -10,7 +10,7 @@ use second::demand3::Demand3;
 use second::layout::WORDS;
 use second::making::Making;
 use second::rules::{Alteration, Rules};
-use second::store::{Kind, Pitch, STEP_MOST, TABLE};
+use second::store::{Kind, Pitch, KINDS, TABLE};
 
 const MAKE: Call = Call::Make {
     kind: Kind::New.number() as u16,
@@ -20,7 +20,7 @@ const MAKE: Call = Call::Make {
     version: 0,
 };
 
-const FIRST: [Pitch; TABLE] = [1200; TABLE];
+const FIRST: [Pitch; TABLE] = [12_000; TABLE];
 
 fn lent(rules: Rules) -> Both {
     let mut both = Both::new(rules, 4, 100);
@@ -73,7 +73,7 @@ fn the_first_table_is_compared() {
     assert!(!one.alike(&other));
     assert_eq!(
         one.table.first_unlike(&other.table),
-        Some((Some(31), 0, 1200))
+        Some((Some(31), 0, 12_000))
     );
     other.table.set_null();
     assert!(other.lent().table.is_null() && other.lent().table_length == 0);
@@ -95,8 +95,9 @@ fn a_run_that_saw_nothing_lacks_every_number() {
     assert!(lacks("old walk: reply 112") && !lacks("new walk: reply 112"));
     assert!(lacks("new store: refusal 6") && lacks("old store: reply 100"));
     assert!(lacks("new store: refusal 40") && lacks("old store: refusal 42"));
-    assert!(lacks("old store: a first table with -501 in entry 31"));
+    assert!(lacks("old store: a first table with -5001 in entry 31"));
     assert!(lacks("store with NullTable") && !lacks("enter with NullTable"));
+    assert!(lacks("store with NewBefore") && lacks("walk with OldBefore"));
     assert!(lacks("old write: from place 36") && !lacks("new write: from place 36"));
 }
 
@@ -127,16 +128,54 @@ fn first_tables_show_their_borders() {
         table
     };
     assert!(shows(&[], 40, Border::Length(0)));
-    assert!(shows(&with(31, -501), 41, Border::Entry(31, -501)));
-    assert!(!shows(&with(31, -501), 100, Border::Entry(31, -501)));
-    assert!(shows(&with(0, -301), 42, Border::Step(0, STEP_MOST + 1)));
-    assert!(shows(&with(31, 2700), 100, Border::Step(30, STEP_MOST)));
-    assert!(!shows(&with(7, 9000), 42, Border::Step(7, -7800)));
-    let (mut steep, mut short) = (with(2, -501), with(2, -501)[..31].to_vec());
-    (steep[20], short[20]) = (9000, 9000);
+    assert!(shows(&with(31, -5001), 41, Border::Entry(31, -5001)));
+    assert!(!shows(&with(31, -5001), 100, Border::Entry(31, -5001)));
+    assert!(shows(&with(0, -3001), 42, Border::Step(0, 15_001)));
+    assert!(shows(&with(31, 27_000), 100, Border::Step(30, 15_000)));
+    assert!(!shows(&with(7, 90_000), 42, Border::Step(7, -78_000)));
+    assert!(shows(&with(31, 77_536), 42, Border::Step(30, 65_536)));
+    let widest = with(0, Pitch::MIN);
+    assert!(shows(&widest, 41, Border::Entry(0, Pitch::MIN)));
+    let (mut steep, mut short) = (with(2, -5001), with(2, -5001)[..31].to_vec());
+    (steep[20], short[20]) = (90_000, 90_000);
     assert!(shows(&steep, 41, Border::DoublyWrong));
     assert!(shows(&short, 40, Border::TriplyWrong));
-    assert_eq!(borders().count(), 6 + 6 * 32 + 4 * 31 + 3);
+    assert_eq!(borders().count(), 6 + 12 * 32 + 8 * 31 + 3);
+}
+
+/// A kind's number of the format before is seen where it alone is wrong.
+#[test]
+fn kinds_before_are_seen_if_all_else_is_right() {
+    for (kind, name) in KINDS.into_iter().zip(["NewBefore", "OldBefore"]) {
+        let mut both = lent(Rules::AS_WRITTEN);
+        let lacks = |both: &Both, call: &str| {
+            let what = format!("{call} with {name}");
+            both.seen.missing().contains(&what)
+        };
+        let make = |number: u64, readers| Call::Make {
+            kind: number as u16,
+            readers,
+            publishers: 1,
+            slots: 3,
+            version: 0,
+        };
+        let enter = Call::Enter { r: 0 };
+        assert_eq!(report(both.call(&make(kind.number_before(), 0))), "alike");
+        assert!(lacks(&both, "store"));
+        assert_eq!(report(both.call(&make(kind.number_before(), 1))), "alike");
+        assert!(!lacks(&both, "store"));
+        assert_eq!(report(both.call(&make(kind.number(), 1))), "alike");
+        let mut words = *both.words().expect("a store");
+        assert_eq!(report(both.call(&enter)), "alike");
+        words[0] = kind.number_before();
+        both.set_words(&words);
+        both.set_entries(&[7; 95]);
+        assert_eq!(report(both.call(&enter)), "alike");
+        assert!(lacks(&both, "enter"));
+        both.set_entries(&[7; 96]);
+        assert_eq!(report(both.call(&enter)), "alike");
+        assert!(!lacks(&both, "enter") && lacks(&both, "leave"));
+    }
 }
 
 #[test]
@@ -147,7 +186,7 @@ fn a_difference_is_told_by_name() {
     assert!(text.contains("seed:     4, call number 1"), "{text}");
     assert!(text.contains("(store new 2 2 3 0)"), "{text}");
     assert!(
-        text.contains("entry 0, slot 0 entry 0: library 1200, second 0"),
+        text.contains("entry 0, slot 0 entry 0: library 12000, second 0"),
         "{text}"
     );
 

@@ -7,7 +7,7 @@ use crate::slices::MOST_TABLE;
 use second::layout::WORDS;
 use second::random::Random;
 use second::store::{Kind, Pitch, KINDS, PITCH_HIGH, PITCH_LOW, STEP_MOST, TABLE};
-use second::tables::{self, ENDS, PAIRS};
+use second::tables::{self, ENDS, NARROW, PAIRS};
 use std::fmt;
 
 /// What a run must show of first tables, of both kinds.
@@ -20,7 +20,7 @@ pub enum Border {
     Entry(usize, Pitch),
     /// This step at this pair. A steep one is the only one, and refused with
     /// 42; another is made.
-    Step(usize, i32),
+    Step(usize, i64),
     /// Entries 31 and 0 further apart than neighbours may be, and made.
     EndsApart,
     /// Steep and out of range, refused with 41.
@@ -30,13 +30,30 @@ pub enum Border {
 }
 
 const LENGTHS: [usize; 6] = [0, 1, 31, 33, 64, MOST_TABLE];
-const STEPS: [i32; 4] = [STEP_MOST, STEP_MOST + 1, -STEP_MOST, -STEP_MOST - 1];
+/// At the limit and above it, above that of hundredths, and such as look like
+/// no step by 16 bits.
+const STEPS: [Pitch; 8] = [
+    STEP_MOST,
+    STEP_MOST + 1,
+    -STEP_MOST,
+    -STEP_MOST - 1,
+    1501,
+    -1501,
+    1 << 16,
+    -1 << 16,
+];
 
 /// Every border.
 pub fn borders() -> impl Iterator<Item = Border> {
     let lengths = LENGTHS.into_iter().map(Border::Length);
-    let entry = |k| ENDS.into_iter().map(move |v| Border::Entry(k, v));
-    let step = |pair| STEPS.into_iter().map(move |step| Border::Step(pair, step));
+    let entry = |k| {
+        let entries = ENDS.into_iter().chain(NARROW);
+        entries.map(move |v| Border::Entry(k, v))
+    };
+    let step = |pair| {
+        let steps = STEPS.into_iter().map(i64::from);
+        steps.map(move |step| Border::Step(pair, step))
+    };
     lengths
         .chain((0..TABLE).flat_map(entry))
         .chain((0..PAIRS).flat_map(step))
@@ -47,12 +64,17 @@ fn in_range(entry: Pitch) -> bool {
     (PITCH_LOW..=PITCH_HIGH).contains(&entry)
 }
 
-fn step(table: &[Pitch], pair: usize) -> i32 {
-    i32::from(table[pair + 1]) - i32::from(table[pair])
+/// Wider than a pitch, so that no difference overflows.
+fn apart(one: Pitch, other: Pitch) -> i64 {
+    i64::from(other) - i64::from(one)
 }
 
-fn steep(table: &[Pitch], pair: usize) -> bool {
-    step(table, pair).abs() > STEP_MOST
+fn step(table: &[Pitch], pair: usize) -> i64 {
+    apart(table[pair], table[pair + 1])
+}
+
+fn steep(step: i64) -> bool {
+    step.abs() > i64::from(STEP_MOST)
 }
 
 impl Border {
@@ -60,7 +82,9 @@ impl Border {
     pub fn shown_by(table: &[Pitch], code: u64) -> Vec<Border> {
         let outside: Vec<usize> = (0..table.len()).filter(|&k| !in_range(table[k])).collect();
         let pairs = table.len().saturating_sub(1);
-        let steeps: Vec<usize> = (0..pairs).filter(|&pair| steep(table, pair)).collect();
+        let steeps: Vec<usize> = (0..pairs)
+            .filter(|&pair| steep(step(table, pair)))
+            .collect();
         match (code, &outside[..], &steeps[..]) {
             (40, [], []) => vec![Border::Length(table.len())],
             (40, [_, ..], [_, ..]) => vec![Border::Length(table.len()), Border::TriplyWrong],
@@ -78,8 +102,7 @@ impl Border {
     fn shown_by_made(table: &[Pitch]) -> Vec<Border> {
         let entries = (0..TABLE).map(|k| Border::Entry(k, table[k]));
         let steps = (0..PAIRS).map(|pair| Border::Step(pair, step(table, pair)));
-        let apart = (i32::from(table[31]) - i32::from(table[0])).abs() > STEP_MOST;
-        let ends = apart.then_some(Border::EndsApart);
+        let ends = steep(apart(table[0], table[31])).then_some(Border::EndsApart);
         entries.chain(steps).chain(ends).collect()
     }
 
@@ -88,8 +111,8 @@ impl Border {
         match self {
             Border::Length(length) => tables::of_length(length, random),
             Border::Entry(k, entry) => tables::with_entry(k, entry, random),
-            Border::Step(pair, step) => tables::with_step(pair, step, random),
-            Border::EndsApart => (0..TABLE as Pitch).map(|k| 310 * k - 500).collect(),
+            Border::Step(pair, step) => tables::with_step(pair, step as Pitch, random),
+            Border::EndsApart => (0..TABLE as Pitch).map(|k| 3100 * k - 5000).collect(),
             Border::DoublyWrong => tables::doubly_wrong(random),
             Border::TriplyWrong => {
                 let length = random.pick(&[2, 31, 33]);

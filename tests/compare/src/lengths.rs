@@ -78,19 +78,8 @@ fn lived_in(kind: Kind, random: &mut Random) -> [u64; WORDS] {
 
 fn making(kind: Kind, words: &[u64; WORDS], unknown: bool, random: &mut Random) -> Call {
     let kind = if unknown {
-        let number = random.pick(&[
-            0,
-            3,
-            4,
-            5,
-            255,
-            256,
-            256 + NEW,
-            256 + OLD,
-            32_768 + NEW,
-            65_535,
-        ]);
-        number as u16
+        let others = [255, 256, 256 + NEW, 256 + OLD, 32_768 + NEW, 65_535];
+        unknown_kind(&others, random) as u16
     } else {
         kind.number() as u16
     };
@@ -154,9 +143,6 @@ fn lend_wrong_entries(both: &mut Both, entries: &[Pitch], random: &mut Random) {
 fn with_unknown_kind(words: &[u64; WORDS], random: &mut Random) -> [u64; WORDS] {
     let mut words = *words;
     let kinds = [
-        0,
-        3,
-        4,
         65_535,
         1 << 63,
         255,
@@ -169,6 +155,16 @@ fn with_unknown_kind(words: &[u64; WORDS], random: &mut Random) -> [u64; WORDS] 
         (1 << 63) + OLD,
         u64::MAX,
     ];
-    words[KIND] = random.pick(&kinds);
+    words[KIND] = unknown_kind(&kinds, random);
     words
+}
+
+/// A number that no kind has: one of the format before, one near those of
+/// this format or of the next, or one of these.
+fn unknown_kind(others: &[u64], random: &mut Random) -> u64 {
+    match random.below(4) {
+        0 => random.pick(&KINDS).number_before(),
+        1 => random.pick(&[0, 3, 4, NEW - 1, OLD + 1, 16 + NEW, 16 + OLD]),
+        _ => random.pick(others),
+    }
 }

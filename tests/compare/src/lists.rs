@@ -7,7 +7,7 @@ use second::demand3::Demand3;
 use second::layout::{KIND, PUBLISHERS, READERS, SLOTS, WORDS};
 use second::making::Making;
 use second::random::Random;
-use second::store::{Kind, Pitch, KINDS};
+use second::store::{Kind, Pitch, KINDS, PITCH_LOW, STEP_MOST};
 use second::tables;
 use second::turns::Scheduler;
 
@@ -64,7 +64,8 @@ fn lend_anything(both: &mut Both, random: &mut Random) {
 
 /// The number of a kind, or one that no kind has.
 fn kind_or_none(random: &mut Random) -> u64 {
-    random.pick(&[0, Kind::New.number(), Kind::Old.number(), 3])
+    let kind = random.pick(&KINDS);
+    random.pick(&[0, kind.number(), kind.number(), kind.number_before(), 3])
 }
 
 /// A making with one argument wrong, or with wrong ones in any mixture.
@@ -238,8 +239,8 @@ fn refused_table(both: &mut Both, random: &mut Random) -> Option<Call> {
     let kind = Kind::from_number(words[KIND])?;
     let table = match random.below(3) {
         0 => tables::of_length(random.pick(&[0, 31, 33]), random),
-        1 => tables::with_entry(random.below(32) as usize, -501, random),
-        _ => tables::with_step(random.below(31) as usize, -1501, random),
+        1 => tables::with_entry(random.below(32) as usize, PITCH_LOW - 1, random),
+        _ => tables::with_step(random.below(31) as usize, -STEP_MOST - 1, random),
     };
     both.set_table(&table);
     Some(sizes.making(kind, random.below(100)))

@@ -19,15 +19,21 @@ pub enum Unusual {
     NullStore,
     NullEntries,
     UnknownKind,
+    /// A kind's number of the format before, in word 0 or in a making, and
+    /// all else as it must be.
+    NewBefore,
+    OldBefore,
     /// Lent to makings alone.
     NullTable,
 }
 
-const UNUSUAL: [Unusual; 5] = [
+const UNUSUAL: [Unusual; 7] = [
     Unusual::StoreLength,
     Unusual::NullStore,
     Unusual::NullEntries,
     Unusual::UnknownKind,
+    Unusual::NewBefore,
+    Unusual::OldBefore,
     Unusual::NullTable,
 ];
 

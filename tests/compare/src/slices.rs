@@ -28,8 +28,8 @@ impl Side {
     pub fn with_room(words: usize, entries: usize) -> Side {
         Side {
             words: Guarded::with_room(words, 0xa5a5_a5a5_a5a5_a5a5),
-            entries: Guarded::with_room(entries, 0x5a5a),
-            table: Guarded::with_room(MOST_TABLE, 0x3c3c),
+            entries: Guarded::with_room(entries, 0x5a5a_5a5a),
+            table: Guarded::with_room(MOST_TABLE, 0x3c3c_3c3c),
         }
     }
 

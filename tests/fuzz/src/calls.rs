@@ -1,7 +1,7 @@
 //! Surface A: an input as words, lengths and calls, on the library and on
 //! the second implementation.
 
-use crate::bytes::Bytes;
+use crate::bytes::{kind_number, Bytes, Form};
 use crate::seen::Cell;
 use crate::slices::{Lent, Side};
 use second::call::{Call, Numbers, Reply, CALL_NAMES};
@@ -14,16 +14,28 @@ use second::layout::{
 use second::lent;
 use second::making::Making;
 use second::rules::Rules;
-use second::store::{Kind, Pitch, FEATHERED, KINDS, PITCHES, PITCH_HIGH, PITCH_LOW, TABLE};
+use second::store::{Kind, Pitch, FEATHERED, KINDS, PITCH_HIGH, PITCH_LOW, STEP_MOST, TABLE};
 use std::fmt;
 
 /// The library: the lent slices and a call.
 pub type Library = unsafe fn(Lent, &Call) -> Numbers;
 
 /// In an input that begins so, the step `LEND_TABLE` lends a first table.
-/// Without it every making is lent 32 times 9000.
-pub const CARD: &[u8] = b"card";
+/// Without it every making is lent 32 times 90000.
+const CARD: &[u8] = b"card";
+/// The same, and its pitches are given in thousandths.
+const WIDE: &[u8] = b"wide";
 const LEND_TABLE: u8 = 255;
+
+/// What follows the marker, with the form of its pitches, and whether first
+/// tables are lent.
+fn marked(input: &[u8]) -> (Bytes<'_>, bool) {
+    match (input.strip_prefix(CARD), input.strip_prefix(WIDE)) {
+        (Some(rest), _) => (Bytes::new(rest, Form::Hundredths), true),
+        (_, Some(rest)) => (Bytes::new(rest, Form::Thousandths), true),
+        _ => (Bytes::new(input, Form::Hundredths), false),
+    }
+}
 
 const MOST_WORDS: usize = 900;
 const MOST_ENTRIES: usize = 1100;
@@ -63,9 +75,9 @@ pub fn play(
     rules: Rules,
     seen: &mut dyn FnMut(Cell),
 ) -> Result<u64, Difference> {
-    let after_marker = input.strip_prefix(CARD);
+    let (bytes, lends_tables) = marked(input);
     let mut played = Played {
-        bytes: Bytes::new(after_marker.unwrap_or(input)),
+        bytes,
         library: fresh_side(),
         second: fresh_side(),
         call_library,
@@ -77,7 +89,7 @@ pub fn play(
     };
     while let Some(step) = played.bytes.next() {
         match step {
-            LEND_TABLE if after_marker.is_some() => played.lend_table(),
+            LEND_TABLE if lends_tables => played.lend_table(),
             _ => played.step(usize::from(step), seen)?,
         }
         if played.calls >= MOST_CALLS {
@@ -125,8 +137,8 @@ impl Played<'_> {
     fn making(&mut self) -> Call {
         let kind = match self.bytes.byte() {
             byte @ 0..=199 => KINDS[usize::from(byte) % KINDS.len()].number() as u16,
-            byte @ 200..=249 => u16::from(byte) - 200,
-            _ => self.bytes.wide(),
+            byte @ 200..=249 => kind_number(u64::from(byte) - 200) as u16,
+            _ => kind_number(u64::from(self.bytes.wide())) as u16,
         };
         let readers = self.bytes.within(1, 64);
         let publishers = self.bytes.within(1, 16);
@@ -136,7 +148,8 @@ impl Played<'_> {
         let flag = self.bytes.byte();
         if flag < 192 && due <= MOST_ENTRIES {
             self.list = None;
-            self.set_entries(&vec![Pitch::from(flag); due]);
+            let lent = self.bytes.form.moved(0, Pitch::from(flag));
+            self.set_entries(&vec![lent; due]);
         }
         Call::Make {
             kind,
@@ -184,13 +197,13 @@ impl Played<'_> {
         }
     }
 
-    /// The call as often as was asked for. A repeated WRITE goes up by one
-    /// each time, so that the entries of a table differ.
+    /// The call as often as was asked for. A repeated WRITE goes up by one of
+    /// its units each time, so that the entries of a table differ.
     fn call_times(&mut self, mut call: Call, seen: &mut dyn FnMut(Cell)) -> Result<(), Difference> {
         for _ in 0..std::mem::replace(&mut self.times, 1) {
             self.call(&call, seen)?;
             if let Call::Write { v, .. } = &mut call {
-                *v = v.wrapping_add(1);
+                *v = self.bytes.form.moved(*v, 1);
             }
         }
         Ok(())
@@ -213,7 +226,7 @@ impl Played<'_> {
             },
             5 => Call::Write {
                 p,
-                v: (u64::from(wide) % PITCHES) as Pitch + PITCH_LOW,
+                v: self.bytes.form.in_range(wide),
             },
             6 => Call::Swap { p },
             7 => Call::Sync { p },
@@ -296,7 +309,11 @@ impl Played<'_> {
     /// So many numbers from this word on.
     fn put_numbers(&mut self, at: usize, count: usize) {
         for word in at..at + count {
-            self.words[word] = self.bytes.number(&self.words);
+            let number = self.bytes.number(&self.words);
+            self.words[word] = match word {
+                KIND => kind_number(number),
+                _ => number,
+            };
         }
         self.set_words(WORDS);
     }
@@ -360,9 +377,9 @@ impl Played<'_> {
             0 => table = vec![self.bytes.pitch(); TABLE],
             1 => table = (0..TABLE).map(|_| self.bytes.pitch()).collect(),
             2 => table = self.stepped(),
-            3 => self.change_entries(&mut table, |_, bytes| bytes.pitch(), 1),
-            4 => self.change_entries(&mut table, moved, 1),
-            5 => self.change_entries(&mut table, moved, usize::MAX),
+            3 => self.set_entry(&mut table),
+            4 => self.move_entries(&mut table, 1),
+            5 => self.move_entries(&mut table, usize::MAX),
             6 => {
                 let last = table.last().copied().unwrap_or(FEATHERED);
                 table.resize(usize::from(self.bytes.byte() % 81), last);
@@ -382,27 +399,34 @@ impl Played<'_> {
         let mut entry = self.bytes.pitch();
         let mut table = vec![entry];
         while table.len() < TABLE {
-            let step = Pitch::from(self.bytes.byte() as i8) * 12;
+            let step = Pitch::from(self.bytes.byte() as i8) * 120;
             entry = entry.saturating_add(step).clamp(PITCH_LOW, PITCH_HIGH);
             table.push(entry);
         }
         table
     }
 
-    /// Changes the same way at most so many entries from a place on.
-    fn change_entries(
-        &mut self,
-        table: &mut [Pitch],
-        change: fn(Pitch, &mut Bytes) -> Pitch,
-        most: usize,
-    ) {
+    /// The entries from some place on.
+    fn from_place<'b>(&mut self, table: &'b mut [Pitch]) -> &'b mut [Pitch] {
         let place = usize::from(self.bytes.byte()) % table.len().max(1);
-        let Some(&entry) = table.get(place) else {
+        &mut table[place..]
+    }
+
+    fn set_entry(&mut self, table: &mut [Pitch]) {
+        if let Some(entry) = self.from_place(table).first_mut() {
+            *entry = self.bytes.pitch();
+        }
+    }
+
+    /// Moves at most so many entries by the same.
+    fn move_entries(&mut self, table: &mut [Pitch], most: usize) {
+        let entries = self.from_place(table);
+        if entries.is_empty() {
             return;
-        };
-        let by = change(entry, &mut self.bytes).wrapping_sub(entry);
-        for entry in table.iter_mut().skip(place).take(most) {
-            *entry = entry.wrapping_add(by);
+        }
+        let (form, by) = (self.bytes.form, self.bytes.move_by());
+        for entry in entries.iter_mut().take(most) {
+            *entry = form.moved(*entry, by);
         }
     }
 
@@ -524,16 +548,11 @@ impl Played<'_> {
     }
 }
 
-/// An entry moved by any number.
-fn moved(entry: Pitch, bytes: &mut Bytes) -> Pitch {
-    entry.wrapping_add(bytes.wide() as Pitch)
-}
-
 /// Where a first table is refused with this code: its length, or the first
 /// entry or pair that is refused.
 fn table_place(table: &[Pitch], code: u64) -> Option<u64> {
     let outside = |entry: &Pitch| !(PITCH_LOW..=PITCH_HIGH).contains(entry);
-    let steep = |pair: &[Pitch]| pair[0].abs_diff(pair[1]) > 1500;
+    let steep = |pair: &[Pitch]| pair[0].abs_diff(pair[1]) > STEP_MOST as u32;
     let place = match code {
         40 => Some(table.len()),
         41 => table.iter().position(outside),
@@ -589,5 +608,21 @@ impl fmt::Display for Difference {
             Some(fault) => writeln!(f, "demand 3: {fault}"),
             None => Ok(()),
         }
+    }
+}
+
+#[cfg(test)]
+mod tests {
+    use super::*;
+
+    #[test]
+    fn a_marker_gives_the_form_and_the_tables() {
+        let marks = |input| {
+            let (mut bytes, lends_tables) = marked(input);
+            (bytes.form, lends_tables, bytes.next())
+        };
+        assert_eq!(marks(b"card7"), (Form::Hundredths, true, Some(b'7')));
+        assert_eq!(marks(b"wide7"), (Form::Thousandths, true, Some(b'7')));
+        assert_eq!(marks(b"7wide"), (Form::Hundredths, false, Some(b'7')));
     }
 }

@@ -11,7 +11,7 @@ use crate::rules::{Alteration, Rules};
 use crate::store::{Kind, Pitch, KINDS};
 
 /// The first table of every example.
-const FIRST: [Pitch; 32] = [9000; 32];
+const FIRST: [Pitch; 32] = [90_000; 32];
 
 /// A store being played, with everything that went otherwise than told.
 struct Play {
@@ -113,7 +113,7 @@ const P1_OUTPUT: &str = "(1 made)
 (4 at 3)
 (5 at 4)
 (6 at 5)
-(7 pitch 9000)
+(7 pitch 90000)
 (8 refused 30)
 (9 claimed 1)
 (10 left)
@@ -184,13 +184,13 @@ fn p3(rules: Rules) -> Vec<String> {
 fn p4(rules: Rules) -> Vec<String> {
     let mut play = Play::fresh(rules, Kind::New, (1, 1, 2), 0);
     play.enters(0, &[1, 2]);
-    play.swaps(0, 1, 1234, 0);
+    play.swaps(0, 1, 12_345, 0);
     play.says(Call::Sync { p: 0 }, "synced 1");
     play.says(Call::Raise { p: 0 }, "raised");
     play.enters(0, &[3, 4]);
     play.says(Call::Walk { p: 0, b: 1 }, "returned 1 0");
     play.enters(0, &[5]);
-    play.says(Call::Look { r: 0, k: 17 }, "pitch 1234");
+    play.says(Call::Look { r: 0, k: 17 }, "pitch 12345");
     play.wrong
 }
 
@@ -259,12 +259,12 @@ fn p8(rules: Rules) -> Vec<String> {
 fn p9(rules: Rules) -> Vec<String> {
     let mut play = Play::fresh(rules, Kind::New, (1, 1, 2), 0);
     play.says(Call::Claim { p: 0, s: 1 }, "claimed 1");
-    play.says(Call::Write { p: 0, v: -500 }, "written 1");
-    play.says(Call::Write { p: 0, v: -501 }, "refused 14");
-    play.says(Call::Write { p: 0, v: 9500 }, "written 2");
-    play.says(Call::Write { p: 0, v: 9501 }, "refused 14");
+    play.says(Call::Write { p: 0, v: -5000 }, "written 1");
+    play.says(Call::Write { p: 0, v: -5001 }, "refused 14");
+    play.says(Call::Write { p: 0, v: 95_000 }, "written 2");
+    play.says(Call::Write { p: 0, v: 95_001 }, "refused 14");
     play.note(
-        play.entries[32..35] == [-500, 9500, 9000],
+        play.entries[32..35] == [-5000, 95_000, 90_000],
         "the entries are others",
     );
     play.wrong
@@ -340,7 +340,14 @@ fn examples_fall_under_altered_rules() {
         (
             "P1",
             p1,
-            &[A::FreshEntriesZero, A::Entry31Refused, A::CurrentIsFree],
+            &[
+                A::FreshEntriesZero,
+                A::FreshBy16Bits,
+                A::PitchRepliedBy16Bits,
+                A::TableTo9500,
+                A::Entry31Refused,
+                A::CurrentIsFree,
+            ],
         ),
         (
             "P2",
@@ -367,7 +374,12 @@ fn examples_fall_under_altered_rules() {
         (
             "P4",
             p4,
-            &[A::PassesAboveMark, A::SecondNotPublished, A::PassesOutOnly],
+            &[
+                A::PassesAboveMark,
+                A::SecondNotPublished,
+                A::PassesOutOnly,
+                A::LookSaysFeathered,
+            ],
         ),
         (
             "P5",
@@ -390,8 +402,12 @@ fn examples_fall_under_altered_rules() {
             "P9",
             p9,
             &[
-                A::PitchFrom501,
-                A::PitchTo9499,
+                A::PitchFrom5001,
+                A::PitchTo94999,
+                A::PitchFrom500,
+                A::PitchTo9500,
+                A::PitchTestedBy16Bits,
+                A::PitchWrittenBy16Bits,
                 A::WrittenBefore,
                 A::WritesCurrent,
             ],
@@ -421,7 +437,7 @@ fn the_sheet_prints_as_in_document_01() {
     let play = {
         let mut play = Play::fresh(Rules::AS_WRITTEN, Kind::New, (1, 1, 2), 0);
         play.enters(0, &[1, 2, 3, 4, 5]);
-        play.says(Call::Look { r: 0, k: 31 }, "pitch 9000");
+        play.says(Call::Look { r: 0, k: 31 }, "pitch 90000");
         play.says(Call::Claim { p: 0, s: 0 }, "refused 30");
         play.says(Call::Claim { p: 0, s: 1 }, "claimed 1");
         play.says(Call::Leave { r: 0 }, "left");

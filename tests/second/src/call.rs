@@ -138,12 +138,14 @@ pub struct Refusal(pub u64);
 /// An accepted step's reply, or a refusal.
 pub type Answer = Result<Reply, Refusal>;
 
+/// The number of `Pitch` is wider than a pitch, since an altered rule may give
+/// what is none.
 #[derive(Clone, Copy, PartialEq, Eq, Debug)]
 pub enum Reply {
     Refused(u64),
     Made,
     At(u64),
-    Pitch(Pitch),
+    Pitch(i64),
     Left,
     Claimed(u64),
     Written(u64),
@@ -186,7 +188,7 @@ impl Reply {
             Reply::Refused(number) => (number, 0, 0),
             Reply::Made => (100, 0, 0),
             Reply::At(place) => (101, place, 0),
-            Reply::Pitch(v) => (102, i64::from(v) as u64, 0),
+            Reply::Pitch(v) => (102, v as u64, 0),
             Reply::Left => (103, 0, 0),
             Reply::Claimed(slot) => (104, slot, 0),
             Reply::Written(n) => (105, n, 0),
@@ -213,7 +215,7 @@ impl Reply {
             0..=99 => Reply::Refused(n.code),
             100 => Reply::Made,
             101 => Reply::At(n.first),
-            102 => Reply::Pitch(Pitch::try_from(n.first as i64).ok()?),
+            102 => Reply::Pitch(Pitch::try_from(n.first as i64).ok()?.into()),
             103 => Reply::Left,
             104 => Reply::Claimed(n.first),
             105 => Reply::Written(n.first),

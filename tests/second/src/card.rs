@@ -21,7 +21,7 @@ pub fn of(entries: &[Pitch]) -> Vec<u8> {
     lines.collect::<String>().into_bytes()
 }
 
-/// The card of a feathered blade, 32 times 9000.
+/// The card of a feathered blade, 32 times 90000.
 pub fn feathered() -> Vec<u8> {
     of(&[FEATHERED; TABLE])
 }
@@ -33,39 +33,48 @@ mod tests {
     #[test]
     fn a_card_has_a_pitch_a_line() {
         assert_eq!(entries(b""), []);
-        assert_eq!(entries(b"9000"), [9000]);
-        assert_eq!(entries(b"9000\n"), [9000]);
-        assert_eq!(entries(b"-500\n0\n9501"), [-500, 0, 9501]);
-        assert_eq!(entries(b"-32768\n32767\n"), [-32_768, 32_767]);
-        assert_eq!(entries(&feathered()), [9000; 32]);
-        assert_eq!(feathered().len(), 160);
+        assert_eq!(entries(b"90000"), [90_000]);
+        assert_eq!(entries(b"90000\n"), [90_000]);
+        assert_eq!(entries(b"-5000\n0\n95001"), [-5000, 0, 95_001]);
+        assert_eq!(entries(b"-32769\n32768\n"), [-32_769, 32_768]);
+        let ends = [-2_147_483_648, 2_147_483_647];
+        assert_eq!(entries(b"-2147483648\n2147483647\n"), ends);
+        assert_eq!(entries(&feathered()), [90_000; 32]);
+        assert_eq!(feathered().len(), 192);
+    }
+
+    #[test]
+    fn good_lines_have_at_most_384_bytes() {
+        assert_eq!(of(&[Pitch::MIN; TABLE]).len(), 384);
+        assert_eq!(entries(&of(&[Pitch::MIN; TABLE])), [Pitch::MIN; TABLE]);
     }
 
     #[test]
     fn one_bad_line_leaves_no_entries() {
-        let bad: [&[u8]; 22] = [
+        let bad: [&[u8]; 23] = [
             b"\n",
-            b"9000\n\n",
-            b"\n9000\n",
-            b"9000\n\n9000\n",
-            b"9000\r\n",
-            b"9000\r",
-            b" 9000\n",
-            b"9000 \n",
-            b"9000 9000\n",
-            b"+9000\n",
-            b"09000\n",
+            b"90000\n\n",
+            b"\n90000\n",
+            b"90000\n\n90000\n",
+            b"90000\r\n",
+            b"90000\r",
+            b" 90000\n",
+            b"90000 \n",
+            b"90000 90000\n",
+            b"+90000\n",
+            b"090000\n",
             b"00\n",
             b"-0\n",
             b"-\n",
-            b"32768\n",
-            b"-32769\n",
-            b"9000.0\n",
-            b"(9000)\n",
-            b"9e3\n",
-            b"9000\0\n",
-            b"\xef\xbb\xbf9000\n",
-            b"18446744073709560616\n",
+            b"2147483648\n",
+            b"-2147483649\n",
+            b"4295057296\n",
+            b"90.000\n",
+            b"(90000)\n",
+            b"9e4\n",
+            b"90000\0\n",
+            b"\xef\xbb\xbf90000\n",
+            b"18446744073709641616\n",
         ];
         for bytes in bad {
             assert_eq!(entries(bytes), [], "{}", bytes.escape_ascii());

@@ -58,7 +58,7 @@ fn demand3(kind: Kind, sizes: (u16, u16, u16), rules: Rules) -> Demand3 {
 fn words_are_those_of_the_page() {
     let (mut words, mut entries) = made(Kind::New, (1, 1, 2), 0);
     let mut due = [0; WORDS];
-    (due[0], due[1], due[2], due[3]) = (1, 1, 1, 2);
+    (due[0], due[1], due[2], due[3]) = (17, 1, 1, 2);
     for word in (12..=327).step_by(5) {
         due[word] = u64::MAX;
     }
@@ -90,12 +90,64 @@ fn words_are_those_of_the_page() {
 fn a_fresh_old_store_has_not_reading_in_every_record() {
     let (words, entries) = made(Kind::Old, (3, 16, 32), 5);
     let mut due = [0; WORDS];
-    due[..6].copy_from_slice(&[2, 3, 16, 32, 0, 5]);
+    due[..6].copy_from_slice(&[18, 3, 16, 32, 0, 5]);
     for word in (12..=327).step_by(5) {
         due[word] = u64::MAX;
     }
     assert_eq!(words, due);
     assert_eq!(entries, first().repeat(32));
+}
+
+/// A store packed in the format before, and a making by its numbers.
+#[test]
+fn kinds_of_the_format_before_are_unknown() {
+    assert_eq!(KINDS.map(Kind::number), [17, 18]);
+    assert_eq!(KINDS.map(Kind::number_before), [1, 2]);
+    for kind in KINDS {
+        let (mut words, mut entries) = made(kind, (1, 1, 2), 0);
+        words[KIND] = kind.number_before();
+        let (before, enter) = (words, Call::Enter { r: 0 });
+        assert_eq!(gives(&mut words, &mut entries, enter), Reply::Refused(1));
+        let make = Call::Make {
+            kind: kind.number_before() as u16,
+            readers: 1,
+            publishers: 1,
+            slots: 2,
+            version: 0,
+        };
+        let mut by = |rules, call| lent::call(&mut words, &mut entries, &first(), &call, rules);
+        assert_eq!(by(AS_WRITTEN, make), Reply::Refused(1));
+        let (in_words, in_makings) = (
+            Rules::altered(Alteration::KindsBeforeInWords),
+            Rules::altered(Alteration::KindsBeforeInMakings),
+        );
+        assert_eq!(by(in_makings, enter), Reply::Refused(1));
+        assert_eq!(by(in_words, make), Reply::Refused(1));
+        assert_eq!(by(in_words, enter), Reply::At(1));
+        assert_eq!(by(in_makings, make), Reply::Made);
+        assert_ne!(words, before);
+    }
+}
+
+/// An altered LOOK replies with what is no pitch.
+#[test]
+fn a_pitch_keeps_its_sign_and_its_width() {
+    let (mut words, mut entries) = made(Kind::Old, (1, 1, 2), 0);
+    (entries[0], entries[1]) = (-5000, 95_000);
+    for _ in 0..3 {
+        gives(&mut words, &mut entries, Call::Enter { r: 0 });
+    }
+    let mut looks = |rules, k| {
+        let look = Call::Look { r: 0, k };
+        let reply = lent::call(&mut words, &mut entries, &[], &look, rules);
+        reply.numbers().first
+    };
+    assert_eq!(looks(AS_WRITTEN, 0), u64::MAX - 4999);
+    assert_eq!(looks(AS_WRITTEN, 1), 95_000);
+    let sign_lost = Rules::altered(Alteration::PitchSignLost);
+    assert_eq!(looks(sign_lost, 0), (1 << 32) - 5000);
+    let by_16_bits = Rules::altered(Alteration::PitchRepliedBy16Bits);
+    assert_eq!(looks(by_16_bits, 1), 95_000 - 65_536);
 }
 
 #[test]
@@ -142,7 +194,13 @@ fn replies_and_numbers_agree() {
         Reply::from_numbers(numbers(102, u64::MAX, 0)),
         Some(negative)
     );
-    assert_eq!(Reply::from_numbers(numbers(102, 40_000, 0)), None);
+    let highest = numbers(102, 95_000, 0);
+    assert_eq!(Reply::from_numbers(highest), Some(Reply::Pitch(95_000)));
+    let lowest = numbers(102, u64::MAX - 4999, 0);
+    assert_eq!(Reply::from_numbers(lowest), Some(Reply::Pitch(-5000)));
+    assert_eq!(Reply::from_numbers(numbers(102, 1 << 31, 0)), None);
+    let sign_lost = numbers(102, (1 << 32) - 5000, 0);
+    assert_eq!(Reply::from_numbers(sign_lost), None);
     assert_eq!(Reply::from_numbers(numbers(30, 1, 0)), None);
     assert_eq!(Reply::from_numbers(numbers(115, 0, 0)), None);
     let freed = Reply::Freed {
@@ -162,17 +220,17 @@ fn makings_are_refused_in_the_order_of_the_rows() {
         let make = making(Kind::Old, sizes, version);
         lent::call(&mut words, &mut entries, table, &make, AS_WRITTEN)
     };
-    let steep = tables::with_step(3, 1501, &mut Random::from_seed(1));
+    let steep = tables::with_step(3, 15_001, &mut Random::from_seed(1));
     let good = (64, 16, 2);
     assert_eq!(refused((0, 0, 1), u64::MAX, &[]), Reply::Refused(2));
     assert_eq!(refused((64, 17, 33), u64::MAX, &[]), Reply::Refused(3));
     assert_eq!(refused((64, 16, 33), u64::MAX, &[]), Reply::Refused(4));
     assert_eq!(refused((64, 16, 3), u64::MAX, &[]), Reply::Refused(5));
     assert_eq!(refused(good, 1 << 63, &[]), Reply::Refused(6));
-    assert_eq!(refused(good, 1 << 63, &[9501; 31]), Reply::Refused(6));
+    assert_eq!(refused(good, 1 << 63, &[95_001; 31]), Reply::Refused(6));
     assert_eq!(refused(good, 0, &[]), Reply::Refused(40));
-    assert_eq!(refused(good, 0, &[9501; 31]), Reply::Refused(40));
-    assert_eq!(refused(good, 0, &[9501; 32]), Reply::Refused(41));
+    assert_eq!(refused(good, 0, &[95_001; 31]), Reply::Refused(40));
+    assert_eq!(refused(good, 0, &[95_001; 32]), Reply::Refused(41));
     assert_eq!(refused(good, 0, &steep), Reply::Refused(42));
     assert_eq!(refused(good, (1 << 63) - 1, &first()), Reply::Made);
 }
@@ -192,10 +250,10 @@ fn refused_table(table: &[Pitch]) -> Reply {
 #[test]
 fn first_tables_are_refused_at_their_borders() {
     let made = Reply::Made;
-    assert_eq!(refused_table(&[9000; 32]), made);
+    assert_eq!(refused_table(&[90_000; 32]), made);
     for length in [0, 1, 31, 33, 64, 96] {
-        assert_eq!(refused_table(&vec![9000; length]), Reply::Refused(40));
-        assert_eq!(refused_table(&vec![9501; length]), Reply::Refused(40));
+        assert_eq!(refused_table(&vec![90_000; length]), Reply::Refused(40));
+        assert_eq!(refused_table(&vec![95_001; length]), Reply::Refused(40));
     }
     for k in 0..32 {
         let with = |entry: Pitch, others: Pitch| {
@@ -203,12 +261,14 @@ fn first_tables_are_refused_at_their_borders() {
             table[k] = entry;
             refused_table(&table)
         };
-        assert_eq!(with(-500, 1000), made, "entry {k}");
-        assert_eq!(with(-501, -500), Reply::Refused(41), "entry {k}");
-        assert_eq!(with(9500, 8000), made, "entry {k}");
-        assert_eq!(with(9501, 9500), Reply::Refused(41), "entry {k}");
-        assert_eq!(with(Pitch::MAX, -500), Reply::Refused(41), "entry {k}");
-        assert_eq!(with(Pitch::MIN, 9500), Reply::Refused(41), "entry {k}");
+        assert_eq!(with(-5000, 10_000), made, "entry {k}");
+        assert_eq!(with(-5001, -5000), Reply::Refused(41), "entry {k}");
+        assert_eq!(with(95_000, 80_000), made, "entry {k}");
+        assert_eq!(with(95_001, 95_000), Reply::Refused(41), "entry {k}");
+        assert_eq!(with(32_768, 32_767), made, "entry {k}");
+        assert_eq!(with(131_072, 0), Reply::Refused(41), "entry {k}");
+        assert_eq!(with(Pitch::MAX, -5000), Reply::Refused(41), "entry {k}");
+        assert_eq!(with(Pitch::MIN, 95_000), Reply::Refused(41), "entry {k}");
     }
     for pair in 0..31 {
         let with = |one: Pitch, next: Pitch| {
@@ -216,24 +276,26 @@ fn first_tables_are_refused_at_their_borders() {
             table[pair + 1..].fill(next);
             refused_table(&table)
         };
-        assert_eq!(with(-500, 1000), made, "pair {pair}");
-        assert_eq!(with(-500, 1001), Reply::Refused(42), "pair {pair}");
-        assert_eq!(with(9500, 8000), made, "pair {pair}");
-        assert_eq!(with(9500, 7999), Reply::Refused(42), "pair {pair}");
+        assert_eq!(with(-5000, 10_000), made, "pair {pair}");
+        assert_eq!(with(-5000, 10_001), Reply::Refused(42), "pair {pair}");
+        assert_eq!(with(95_000, 80_000), made, "pair {pair}");
+        assert_eq!(with(95_000, 79_999), Reply::Refused(42), "pair {pair}");
+        assert_eq!(with(0, 65_536), Reply::Refused(42), "pair {pair}");
+        assert_eq!(with(95_000, -5000), Reply::Refused(42), "pair {pair}");
     }
 }
 
 /// Entries 31 and 0 are no neighbours, and every entry comes before a pair.
 #[test]
 fn first_tables_have_31_pairs_after_32_entries() {
-    let rising: [Pitch; 32] = std::array::from_fn(|k| k as Pitch * 300);
+    let rising: [Pitch; 32] = std::array::from_fn(|k| k as Pitch * 3000);
     assert_eq!(refused_table(&rising), Reply::Made);
-    let falling: [Pitch; 32] = std::array::from_fn(|k| 9300 - k as Pitch * 300);
+    let falling: [Pitch; 32] = std::array::from_fn(|k| 93_000 - k as Pitch * 3000);
     assert_eq!(refused_table(&falling), Reply::Made);
     let mut both = rising;
-    both[0] = 1801;
+    both[0] = 18_001;
     assert_eq!(refused_table(&both), Reply::Refused(42));
-    both[31] = 9501;
+    both[31] = 95_001;
     assert_eq!(refused_table(&both), Reply::Refused(41));
     assert_eq!(refused_table(&both[..31]), Reply::Refused(40));
 }
@@ -252,8 +314,8 @@ fn refusals_come_in_the_order_of_the_table() {
     assert_eq!(says(Call::Claim { p: 0, s: 2 }), Reply::Refused(12));
     assert_eq!(says(Call::Claim { p: 0, s: 1 }), Reply::Refused(21));
     assert_eq!(says(Call::Claim { p: 1, s: 0 }), Reply::Refused(31));
-    assert_eq!(says(Call::Write { p: 1, v: -501 }), Reply::Refused(14));
-    assert_eq!(says(Call::Write { p: 1, v: -500 }), Reply::Refused(21));
+    assert_eq!(says(Call::Write { p: 1, v: -5001 }), Reply::Refused(14));
+    assert_eq!(says(Call::Write { p: 1, v: -5000 }), Reply::Refused(21));
     words[1] = 0;
     let enter = Call::Enter { r: 9 };
     assert_eq!(gives(&mut words, &mut entries, enter), Reply::Refused(1));
@@ -305,7 +367,7 @@ fn clauses_are_told_apart() {
 #[test]
 fn alterations_have_names_of_their_own() {
     let all = Alteration::all();
-    assert!(all.len() > 120, "{} alterations", all.len());
+    assert!(all.len() > 135, "{} alterations", all.len());
     for (n, &alteration) in all.iter().enumerate() {
         assert_eq!(Alteration::by_name(&alteration.name()), Some(alteration));
         assert!(all[..n]
@@ -357,7 +419,7 @@ const FREES: (Call, Reply) = (
 );
 
 fn looks(v: Pitch) -> (Call, Reply) {
-    (Call::Look { r: 1, k: 3 }, Reply::Pitch(v))
+    (Call::Look { r: 1, k: 3 }, Reply::Pitch(v.into()))
 }
 
 #[test]
@@ -367,14 +429,14 @@ fn the_shelf_knows_which_table_was_picked() {
         told(Kind::New, &[before, &published[..], after].concat())
     };
     assert_eq!(list(&[OPENS, PICKS], &[looks(103)]), Ok(()));
-    assert!(list(&[OPENS, PICKS], &[looks(9000)]).is_err());
+    assert!(list(&[OPENS, PICKS], &[looks(90_000)]).is_err());
     assert!(list(&[OPENS, PICKS], &[looks(55)]).is_err());
     assert_eq!(list(&[OPENS], &[PICKS, looks(55)]), Ok(()));
     assert!(list(&[OPENS], &[PICKS, looks(103)]).is_err());
     assert!(list(&[OPENS], &[looks(103)]).is_err());
     let feathered = Rules::altered(Alteration::ShelfFeathered);
     let looked = |v| told_by(feathered, Kind::Old, &[OPENS, PICKS, looks(v)]);
-    assert_eq!((looked(103).is_err(), looked(9000)), (true, Ok(())));
+    assert_eq!((looked(103).is_err(), looked(90_000)), (true, Ok(())));
 }
 
 #[test]
@@ -516,7 +578,7 @@ fn demand_3_falls_under_altered_rules() {
     ];
     for (kind, alterations) in [(Kind::New, &new[..]), (Kind::Old, &old[..])] {
         for &alteration in alterations {
-            let fault = first_fault(kind, Rules::altered(alteration), 200_000);
+            let fault = first_fault(kind, Rules::altered(alteration), 2_000_000);
             assert!(
                 fault.is_some(),
                 "{kind} {} keeps demand 3",

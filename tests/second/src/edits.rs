@@ -365,6 +365,10 @@ pub fn unsigned_modulo_64(text: &[u8]) -> Vec<u8> {
 }
 
 pub fn signed_modulo_16(text: &[u8]) -> Vec<u8> {
+    with_number(text, |n| Some(i128::from(n as i16)))
+}
+
+pub fn signed_modulo_32(text: &[u8]) -> Vec<u8> {
     with_number(text, |n| Some(i128::from(n as Pitch)))
 }
 
@@ -385,6 +389,10 @@ pub fn unread_above(text: &[u8], most: i128) -> Vec<u8> {
 pub fn unread_at(text: &[u8], at: &[u8]) -> Vec<u8> {
     let unread = if text == at { UNREADABLE } else { text };
     unread.to_vec()
+}
+
+pub fn unread_beyond_16(text: &[u8]) -> Vec<u8> {
+    with_number(text, |n| i16::try_from(n).is_ok().then_some(n))
 }
 
 pub fn unread_outside(text: &[u8]) -> Vec<u8> {
@@ -494,7 +502,14 @@ pub fn releases_first(n: u64, reply: Option<Reply>) -> String {
 
 pub fn pitch_unsigned(n: u64, reply: Option<Reply>) -> String {
     match reply {
-        Some(Reply::Pitch(v)) => format!("({n} pitch {})\n", v as u16),
+        Some(Reply::Pitch(v)) => format!("({n} pitch {})\n", v as u32),
+        _ => printed(n, reply),
+    }
+}
+
+pub fn pitch_by_16_bits(n: u64, reply: Option<Reply>) -> String {
+    match reply {
+        Some(Reply::Pitch(v)) => format!("({n} pitch {})\n", v as i16),
         _ => printed(n, reply),
     }
 }

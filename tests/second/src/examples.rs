@@ -42,7 +42,7 @@ const P1_OUTPUT: &[u8] = b"(1 made)
 (4 at 3)
 (5 at 4)
 (6 at 5)
-(7 pitch 9000)
+(7 pitch 90000)
 (8 refused 30)
 (9 claimed 1)
 (10 left)
@@ -213,6 +213,8 @@ const NO_STORES: &[&[u8]] = &[
     b"(store 1 1 2 0)",
     b"(store  1 1 2 0)",
     b"(store 1 1 1 2 0)",
+    b"(store 17 1 1 2 0)",
+    b"(store 18 1 1 2 0)",
     b"(store 1 new 1 2 0)",
     b"(store NEW 1 1 2 0)",
     b"(store mid 1 1 2 0)",
@@ -251,7 +253,9 @@ const BEFORE_A_MADE_STORE: &[Line] = &[
     (b"(look 0 32)", "refused 1"),
     (b"(leave 0)", "refused 1"),
     (b"(claim 0 1)", "refused 1"),
-    (b"(write 0 9501)", "refused 1"),
+    (b"(write 0 95001)", "refused 1"),
+    (b"(write 0 2147483647)", "refused 1"),
+    (b"(write 0 2147483648)", "unread"),
     (b"(write 0 -0)", "unread"),
     (b"(swap 0)", "refused 1"),
     (b"(sync 0)", "refused 1"),
@@ -285,15 +289,21 @@ const WIDTHS: &[Line] = &[
     (b"(claim 0 65537)", "unread"),
     (b"(write 65535 0)", "refused 11"),
     (b"(write 65536 0)", "unread"),
-    (b"(write 0 32767)", "refused 14"),
-    (b"(write 0 32768)", "unread"),
-    (b"(write 0 65535)", "unread"),
-    (b"(write 0 65536)", "unread"),
-    (b"(write 0 -32768)", "refused 14"),
-    (b"(write 0 -32769)", "unread"),
-    (b"(write 0 -65536)", "unread"),
-    (b"(write 0 9500)", "refused 21"),
-    (b"(write 0 -500)", "refused 21"),
+    (b"(write 0 2147483647)", "refused 14"),
+    (b"(write 0 2147483648)", "unread"),
+    (b"(write 0 4294967295)", "unread"),
+    (b"(write 0 4294967296)", "unread"),
+    (b"(write 0 4294976296)", "unread"),
+    (b"(write 0 -2147483648)", "refused 14"),
+    (b"(write 0 -2147483649)", "unread"),
+    (b"(write 0 -4294967296)", "unread"),
+    (b"(write 0 32767)", "refused 21"),
+    (b"(write 0 32768)", "refused 21"),
+    (b"(write 0 65536)", "refused 21"),
+    (b"(write 0 -32769)", "refused 14"),
+    (b"(write 0 131072)", "refused 14"),
+    (b"(write 0 95000)", "refused 21"),
+    (b"(write 0 -5000)", "refused 21"),
     (b"(swap 65535)", "refused 11"),
     (b"(swap 65536)", "unread"),
     (b"(sync 65535)", "refused 11"),
@@ -337,10 +347,10 @@ const REFUSED_STORES: &[Line] = &[
     (b"(claim 0 1)", "claimed 1"),
     (b"(enter 0)", "at 4"),
     (b"(store new 1 1 2 18446744073709551615)", "refused 6"),
-    (b"(write 0 -500)", "written 1"),
+    (b"(write 0 -5000)", "written 1"),
     (b"(enter 0)", "at 5"),
     (b"(store new 65 1 2 0)", "refused 2"),
-    (b"(look 0 31)", "pitch 9000"),
+    (b"(look 0 31)", "pitch 90000"),
     (b"(store old 1 1 2 0)", "made"),
     (b"(leave 0)", "refused 20"),
     (b"(enter 0)", "at 1"),
@@ -412,7 +422,7 @@ const NEW_AFTER: &[Line] = &[
     (b"(walk 0 5)", "waiting 1"),
     (b"(enter 1)", "at 5"),
     (b"(store new 0 1 2 0)", "refused 2"),
-    (b"(look 1 31)", "pitch -500"),
+    (b"(look 1 31)", "pitch -5000"),
     (b"(look 1 32)", "refused 13"),
     (b"(walk 0 256)", "waiting 1"),
     (b"(leave 1)", "left"),
@@ -436,7 +446,7 @@ const OLD_BEFORE: &[Line] = &[
 const OLD_AFTER: &[Line] = &[
     (b"(write 0 1)", "refused 21"),
     (b"(claim 1 1)", "refused 31"),
-    (b"(look 0 0)", "pitch 9000"),
+    (b"(look 0 0)", "pitch 90000"),
     (b"(sync 0)", "synced 1"),
     (b"(raise 0)", "refused 21"),
     (b"(walk 0 0)", "spent"),
@@ -450,7 +460,7 @@ const OLD_AFTER: &[Line] = &[
     (b"(enter 0)", "at 1"),
     (b"(enter 0)", "at 4"),
     (b"(enter 0)", "at 5"),
-    (b"(look 0 31)", "pitch 9500"),
+    (b"(look 0 31)", "pitch 95000"),
 ];
 
 /// A sheet being put together.
@@ -551,7 +561,48 @@ fn last_version(name: &'static str, kind: &str, last: u64) -> Example {
     for place in places {
         table = table.says(b"(enter 0)", &format!("at {place}"));
     }
-    table.says(b"(look 0 31)", "pitch 9000").named(name)
+    table.says(b"(look 0 31)", "pitch 90000").named(name)
+}
+
+/// Pitches that a WRITE takes, and such as it refuses.
+const TAKEN: [i64; 8] = [-5000, 95_000, 32_767, 32_768, 9501, -501, 65_536, 74_536];
+const REFUSED: [i64; 8] = [
+    -5001,
+    95_001,
+    -32_768,
+    -32_769,
+    131_072,
+    -65_536,
+    2_147_483_647,
+    -2_147_483_648,
+];
+
+/// A table of pitches at all ends, each looked at after it was swapped in.
+fn pitches() -> Example {
+    let mut table = Table::default().say(&[
+        (b"(store old 1 1 2 0)", "made"),
+        (b"(claim 0 1)", "claimed 1"),
+    ]);
+    for written in 1..=32 {
+        let n = (written - 1) % 8;
+        let (refused, taken) = (REFUSED[n], TAKEN[n]);
+        table = table.says(format!("(write 0 {refused})").as_bytes(), "refused 14");
+        let reply = format!("written {written}");
+        table = table.says(format!("(write 0 {taken})").as_bytes(), &reply);
+    }
+    table = table.say(&[
+        (b"(write 0 95001)", "refused 14"),
+        (b"(write 0 95000)", "refused 21"),
+        (b"(swap 0)", "swapped 0"),
+        (b"(enter 0)", "at 1"),
+        (b"(enter 0)", "at 4"),
+        (b"(enter 0)", "at 5"),
+    ]);
+    for k in 0..32 {
+        let reply = format!("pitch {}", TAKEN[k % 8]);
+        table = table.says(format!("(look 0 {k})").as_bytes(), &reply);
+    }
+    table.named("pitches at all ends")
 }
 
 /// Sheets of lines by themselves.
@@ -587,11 +638,12 @@ fn by_unread_lines() -> Vec<Example> {
 /// Whole publications of both kinds.
 fn publications() -> Vec<Example> {
     let new = Table::default().say(NEW_BEFORE);
-    let new = new.publishes(0, 1, 100, 0).publishes(1, 2, -500, 1);
-    let old = Table::default().say(OLD_BEFORE).publishes(0, 1, 9500, 0);
+    let new = new.publishes(0, 1, 1000, 0).publishes(1, 2, -5000, 1);
+    let old = Table::default().say(OLD_BEFORE).publishes(0, 1, 95_000, 0);
     vec![
         new.say(NEW_AFTER).named("a new publication"),
         old.say(OLD_AFTER).named("an old publication"),
+        pitches(),
         last_version("the last new version", "new", 18_446_744_073_709_551_614),
         last_version("the last old version", "old", 9_223_372_036_854_775_807),
     ]

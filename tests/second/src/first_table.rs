@@ -3,7 +3,9 @@
 
 use crate::call::Refusal;
 use crate::rules::{Alteration, Rules};
-use crate::store::{Pitch, FEATHERED, PITCH_HIGH, PITCH_LOW, STEP_MOST, TABLE};
+use crate::store::{
+    Pitch, FEATHERED, HIGH_BEFORE, LOW_BEFORE, PITCH_HIGH, PITCH_LOW, STEP_BEFORE, STEP_MOST, TABLE,
+};
 use std::borrow::Cow;
 
 /// 40, 41 and 42, in this order: every entry is tested before any pair.
@@ -48,26 +50,33 @@ fn taken(table: &[Pitch], rules: Rules) -> Cow<'_, [Pitch]> {
 
 /// 41 if an entry is out of range.
 fn refuse_pitches(table: &[Pitch], rules: Rules) -> Result<(), Refusal> {
-    let low = match rules.has(Alteration::TableFrom501) {
-        true => PITCH_LOW - 1,
-        false => PITCH_LOW,
+    let low = if rules.has(Alteration::TableFrom5001) {
+        PITCH_LOW - 1
+    } else if rules.has(Alteration::TableFrom500) {
+        LOW_BEFORE
+    } else {
+        PITCH_LOW
     };
-    let high = match rules.has(Alteration::TableTo9499) {
-        true => PITCH_HIGH - 1,
-        false => PITCH_HIGH,
+    let high = if rules.has(Alteration::TableTo94999) {
+        PITCH_HIGH - 1
+    } else if rules.has(Alteration::TableTo9500) {
+        HIGH_BEFORE
+    } else {
+        PITCH_HIGH
     };
     let tested = match rules.has(Alteration::LastTablePitchUntested) {
         true => TABLE - 1,
         false => TABLE,
     };
-    let mut tested = table.iter().take(tested);
-    match tested.all(|entry| (low..=high).contains(entry)) {
+    let narrow = rules.has(Alteration::TablePitchBy16Bits);
+    let mut tested = narrowed_if(narrow, &table[..tested.min(table.len())]).into_iter();
+    match tested.all(|entry| (low..=high).contains(&entry)) {
         true => Ok(()),
         false => Err(Refusal(41)),
     }
 }
 
-/// 42 if two neighbours differ by more than 1500.
+/// 42 if two neighbours differ by more than 15000.
 fn refuse_steps(table: &[Pitch], rules: Rules) -> Result<(), Refusal> {
     let mut pairs: Vec<(Pitch, Pitch)> = table.windows(2).map(|pair| (pair[0], pair[1])).collect();
     if rules.has(Alteration::FirstPairUntested) && !pairs.is_empty() {
@@ -87,14 +96,19 @@ fn refuse_steps(table: &[Pitch], rules: Rules) -> Result<(), Refusal> {
 
 /// Wider than a pitch, so that no difference overflows.
 fn steep(one: Pitch, next: Pitch, rules: Rules) -> bool {
-    let step = i32::from(next) - i32::from(one);
-    let most = if rules.has(Alteration::Step1500Refused) {
+    let step = match i64::from(next) - i64::from(one) {
+        step if rules.has(Alteration::StepBy16Bits) => i64::from(step as i16),
+        step => step,
+    };
+    let most = i64::from(if rules.has(Alteration::Step15000Refused) {
         STEP_MOST - 1
-    } else if rules.has(Alteration::Step1501Taken) {
+    } else if rules.has(Alteration::Step15001Taken) {
         STEP_MOST + 1
+    } else if rules.has(Alteration::Step1501Refused) {
+        STEP_BEFORE
     } else {
         STEP_MOST
-    };
+    });
     if rules.has(Alteration::StepsUpOnly) {
         step > most
     } else if rules.has(Alteration::StepsDownOnly) {
@@ -104,11 +118,21 @@ fn steep(one: Pitch, next: Pitch, rules: Rules) -> bool {
     }
 }
 
+/// The entries, or the low 16 bits of each.
+fn narrowed_if(narrow: bool, entries: &[Pitch]) -> Vec<Pitch> {
+    let narrowed = |&entry: &Pitch| Pitch::from(entry as i16);
+    match narrow {
+        true => entries.iter().map(narrowed).collect(),
+        false => entries.to_vec(),
+    }
+}
+
 /// Fills each slot with the table, which is not refused.
 pub fn fill(entries: &mut [Pitch], table: &[Pitch], rules: Rules) {
     let table = match taken(table, rules) {
         _ if rules.has(Alteration::FreshEntriesZero) => Cow::Owned(vec![0; TABLE]),
         _ if rules.has(Alteration::FreshFeathered) => Cow::Owned(vec![FEATHERED; TABLE]),
+        table if rules.has(Alteration::FreshBy16Bits) => Cow::Owned(narrowed_if(true, &table)),
         table if rules.has(Alteration::FreshFirstEntry) => Cow::Owned(vec![table[0]; TABLE]),
         table => table,
     };

@@ -62,7 +62,11 @@ pub fn name(word: usize) -> String {
 
 /// The store in these words; none if the kind is unknown.
 pub fn unpack(words: &[u64; WORDS]) -> Option<Store> {
-    let kind = Kind::from_number(words[KIND])?;
+    Kind::from_number(words[KIND]).map(|kind| unpack_as(kind, words))
+}
+
+/// The store in these words, of this kind.
+pub fn unpack_as(kind: Kind, words: &[u64; WORDS]) -> Store {
     let mut reader = [Reader::default(); MOST_READERS];
     for (record, w) in reader.iter_mut().zip(words[HEAD..].chunks_exact(READER)) {
         *record = Reader {
@@ -90,7 +94,7 @@ pub fn unpack(words: &[u64; WORDS]) -> Option<Store> {
             walk,
         };
     }
-    Some(Store {
+    Store {
         kind,
         readers: words[READERS],
         publishers: words[PUBLISHERS],
@@ -101,7 +105,7 @@ pub fn unpack(words: &[u64; WORDS]) -> Option<Store> {
         indicators: [words[INDICATOR_0], words[INDICATOR_1]],
         reader,
         publisher,
-    })
+    }
 }
 
 /// Writes the store into all the words.

@@ -2,10 +2,10 @@
 
 use crate::call::{Call, Refusal, Reply};
 use crate::first_table;
-use crate::layout::{pack, unpack, WORDS};
+use crate::layout::{pack, unpack_as, KIND, WORDS};
 use crate::making::{make, Making};
 use crate::rules::{Alteration, Rules};
-use crate::store::Pitch;
+use crate::store::{Kind, Pitch};
 
 /// Making, to which a first table is lent too, or one of the ten calls. A
 /// refusal leaves every slice as lent.
@@ -25,6 +25,13 @@ pub fn call(
     }
 }
 
+/// The kind of this number, also by its number of the format before if this
+/// is so.
+fn kind(number: u64, before: bool) -> Option<Kind> {
+    let before = Kind::from_number_before(number).filter(|_| before);
+    Kind::from_number(number).or(before)
+}
+
 fn make_lent(
     words: &mut [u64; WORDS],
     entries: &mut [Pitch],
@@ -35,7 +42,8 @@ fn make_lent(
     if rules.has(Alteration::TableLengthBeforeKind) {
         first_table::refuse_length(table, rules)?;
     }
-    let making = Making::of(call).ok_or(Refusal(1))?;
+    let before = rules.has(Alteration::KindsBeforeInMakings);
+    let making = Making::by(call, |number| kind(number, before)).ok_or(Refusal(1))?;
     match make(&making, entries, table, rules) {
         Ok(store) => {
             pack(&store, words);
@@ -51,9 +59,11 @@ fn make_lent(
 }
 
 fn call_lent(words: &mut [u64; WORDS], entries: &mut [Pitch], call: &Call, rules: Rules) -> Reply {
-    let Some(mut store) = unpack(words) else {
+    let before = rules.has(Alteration::KindsBeforeInWords);
+    let Some(kind) = kind(words[KIND], before) else {
         return Reply::Refused(1);
     };
+    let mut store = unpack_as(kind, words);
     let reply = store.call(entries, call, rules);
     if reply.accepted() {
         pack(&store, words);

@@ -21,6 +21,11 @@ pub struct Making {
 impl Making {
     /// The making that a call asks for; none if no kind has its number.
     pub fn of(call: &Call) -> Option<Making> {
+        Making::by(call, Kind::from_number)
+    }
+
+    /// The making with the kind that this gives for its number.
+    pub fn by(call: &Call, named: impl Fn(u64) -> Option<Kind>) -> Option<Making> {
         let Call::Make {
             kind,
             readers,
@@ -32,7 +37,7 @@ impl Making {
             return None;
         };
         Some(Making {
-            kind: Kind::from_number(u64::from(kind))?,
+            kind: named(u64::from(kind))?,
             readers,
             publishers,
             slots,

@@ -90,10 +90,14 @@ const CARDS: &[Misreading] = &[
         CardLine(|line| edits::before(line, b' '))),
     altered("card-zero-byte-ends", "what follows a zero byte is dropped on a card",
         CardLine(|line| edits::before(line, 0))),
-    altered("card-wide-wraps", "entries of a card too wide are taken modulo 2^16",
-        CardLine(edits::signed_modulo_16)),
+    altered("card-wide-wraps", "entries of a card too wide are taken modulo 2^32",
+        CardLine(edits::signed_modulo_32)),
     altered("card-wide-ends", "entries of a card too wide are taken as the widest",
         CardLine(edits::widest_pitch)),
+    altered("card-by-16-bits", "entries of a card end at 32767 and -32768",
+        CardLine(edits::unread_beyond_16)),
+    altered("card-wraps-at-16-bits", "entries of a card are taken modulo 2^16",
+        CardLine(edits::signed_modulo_16)),
     altered("card-outside-bad", "a pitch out of range is a bad line of the card",
         CardLine(edits::unread_outside)),
     altered("card-reversed", "the card begins with entry 31",
@@ -199,10 +203,14 @@ const NUMBERS: &[Misreading] = &[
         Argument(&[Number], edits::unsigned_modulo_16)),
     altered("wide-ends", "arguments too wide are taken as 65535",
         Argument(&[Number], |text| edits::at_most(text, 65_535))),
-    altered("wide-pitch-wraps", "pitches too wide are taken modulo 2^16",
-        Argument(&[Pitch], edits::signed_modulo_16)),
+    altered("wide-pitch-wraps", "pitches too wide are taken modulo 2^32",
+        Argument(&[Pitch], edits::signed_modulo_32)),
     altered("wide-pitch-ends", "pitches too wide are taken as the widest",
         Argument(&[Pitch], edits::widest_pitch)),
+    altered("pitch-by-16-bits", "pitches end at 32767 and -32768",
+        Argument(&[Pitch], edits::unread_beyond_16)),
+    altered("pitch-wraps-at-16-bits", "pitches are taken modulo 2^16",
+        Argument(&[Pitch], edits::signed_modulo_16)),
     altered("wide-version-wraps", "versions too wide are taken modulo 2^64",
         Argument(&[Version], edits::unsigned_modulo_64)),
     altered("wide-version-ends", "versions too wide are taken as 2^64 - 1",
@@ -215,10 +223,10 @@ const NUMBERS: &[Misreading] = &[
         Argument(&[Version], |text| edits::unread_above(text, i64::MAX.into()))),
     altered("highest-version-unread", "version 2^64 - 1 is too wide",
         Argument(&[Version], |text| edits::unread_above(text, (u64::MAX - 1).into()))),
-    altered("lowest-pitch-unread", "pitch -32768 is too wide",
-        Argument(&[Pitch], |text| edits::unread_at(text, b"-32768"))),
-    altered("highest-pitch-unread", "pitch 32767 is too wide",
-        Argument(&[Pitch], |text| edits::unread_at(text, b"32767"))),
+    altered("lowest-pitch-unread", "pitch -2147483648 is too wide",
+        Argument(&[Pitch], |text| edits::unread_at(text, b"-2147483648"))),
+    altered("highest-pitch-unread", "pitch 2147483647 is too wide",
+        Argument(&[Pitch], |text| edits::unread_at(text, b"2147483647"))),
     altered("pitch-outside-unread", "a pitch out of range is unread",
         Argument(&[Pitch], edits::unread_outside)),
 ];
@@ -275,8 +283,10 @@ const REPLIES: &[Misreading] = &[
         Print(|n, reply| edits::exchanged_words(n, reply, "pitch", "refused"))),
     altered("waits-first", "returned gives waits before looks", Print(edits::waits_first)),
     altered("releases-first", "freed gives releases before the slot", Print(edits::releases_first)),
-    altered("pitch-unsigned", "a negative pitch is printed modulo 2^16",
+    altered("pitch-unsigned", "a negative pitch is printed modulo 2^32",
         Print(edits::pitch_unsigned)),
+    altered("pitch-printed-by-16-bits", "the low 16 bits of a pitch are printed",
+        Print(edits::pitch_by_16_bits)),
     altered("mark-signed", "a mark is printed as a signed number", Print(edits::mark_signed)),
 ];
 
@@ -450,6 +460,7 @@ fn before_made_names(sheet: &mut Sheet, line: &[u8]) -> Option<Reply> {
 mod tests {
     use super::*;
     use crate::examples::{self, Example};
+    use crate::rules::Alteration;
     use crate::sheet::play;
 
     /// The examples, and a text of more than 65535 lines.
@@ -488,6 +499,7 @@ mod tests {
                 other.name == misreading.name || other.text == misreading.text
             };
             assert!(!listed[..n].iter().any(alike), "{}", misreading.name);
+            assert!(Alteration::by_name(misreading.name).is_none());
         }
     }
 
@@ -505,8 +517,11 @@ mod tests {
             let more = if line_after_last { "(11 unread)\n" } else { "" };
             assert_eq!(played(shape), format!("{due}{more}"), "{}", shape.name);
         }
-        let line_after_last = |card: &&Misreading| card.name == "card-line-after-last";
-        for card in CARDS.iter().filter(|card| !line_after_last(card)) {
+        // These alter what every card, or every pitch above 32767, says.
+        let met = |card: &&Misreading| {
+            card.name == "card-line-after-last" || card.name.ends_with("16-bits")
+        };
+        for card in CARDS.iter().filter(|card| !met(card)) {
             assert_eq!(played(card), due, "{}", card.name);
         }
     }

@@ -2,7 +2,32 @@
 
 use crate::call::{Answer, Refusal, Reply};
 use crate::rules::{Alteration, Rules};
-use crate::store::{entry_index, Kind, Pitch, Publisher, Store, PITCH_HIGH, PITCH_LOW};
+use crate::store::{
+    entry_index, Kind, Pitch, Publisher, Store, HIGH_BEFORE, LOW_BEFORE, PITCH_HIGH, PITCH_LOW,
+};
+
+/// Whether WRITE takes this pitch.
+fn in_range(v: Pitch, rules: Rules) -> bool {
+    let lowest = if rules.has(Alteration::PitchFrom5001) {
+        PITCH_LOW - 1
+    } else if rules.has(Alteration::PitchFrom500) {
+        LOW_BEFORE
+    } else {
+        PITCH_LOW
+    };
+    let highest = if rules.has(Alteration::PitchTo94999) {
+        PITCH_HIGH - 1
+    } else if rules.has(Alteration::PitchTo9500) {
+        HIGH_BEFORE
+    } else {
+        PITCH_HIGH
+    };
+    let tested = match rules.has(Alteration::PitchTestedBy16Bits) {
+        true => Pitch::from(v as i16),
+        false => v,
+    };
+    (lowest..=highest).contains(&tested)
+}
 
 impl Store {
     /// Refusal 21 if p is at any other place than this.
@@ -76,17 +101,7 @@ impl Store {
         if rules.has(Alteration::TurnBeforePitch) && !at_turn {
             return Err(Refusal(21));
         }
-        let lowest = if rules.has(Alteration::PitchFrom501) {
-            PITCH_LOW - 1
-        } else {
-            PITCH_LOW
-        };
-        let highest = if rules.has(Alteration::PitchTo9499) {
-            PITCH_HIGH - 1
-        } else {
-            PITCH_HIGH
-        };
-        if !(lowest..=highest).contains(&v) {
+        if !in_range(v, rules) {
             return Err(Refusal(14));
         }
         if !at_turn {
@@ -99,7 +114,10 @@ impl Store {
         };
         let publisher = &mut self.publisher[p];
         if let Some(index) = entry_index(slot, publisher.place - 1, entries) {
-            entries[index] = v;
+            entries[index] = match rules.has(Alteration::PitchWrittenBy16Bits) {
+                true => Pitch::from(v as i16),
+                false => v,
+            };
         }
         let written = publisher.place;
         publisher.place += 1;

@@ -2,7 +2,7 @@
 
 use crate::call::{Answer, Refusal, Reply};
 use crate::rules::{Alteration, Rules};
-use crate::store::{entry_index, Kind, Pitch, Store, NOT_READING};
+use crate::store::{entry_index, Kind, Pitch, Store, FEATHERED, NOT_READING};
 
 fn parity(version: u64) -> usize {
     (version % 2) as usize
@@ -105,7 +105,17 @@ impl Store {
             reader.picked
         };
         let index = entry_index(slot, u64::from(k), entries);
-        Ok(Reply::Pitch(index.map_or(0, |i| entries[i])))
+        let pitch = index.map_or(0, |i| entries[i]);
+        let number = if rules.has(Alteration::LookSaysFeathered) {
+            i64::from(FEATHERED)
+        } else if rules.has(Alteration::PitchRepliedBy16Bits) {
+            i64::from(pitch as i16)
+        } else if rules.has(Alteration::PitchSignLost) {
+            i64::from(pitch as u32)
+        } else {
+            i64::from(pitch)
+        };
+        Ok(Reply::Pitch(number))
     }
 
     pub fn leave(&mut self, r: u16, rules: Rules) -> Answer {

@@ -91,7 +91,7 @@ fn argument(digits: &[u8]) -> Option<u16> {
     u16::try_from(decimal(digits)?).ok()
 }
 
-/// A plain decimal of 16 bits, signed, with a minus if it is negative.
+/// A plain decimal of 32 bits, signed, with a minus if it is negative.
 pub fn pitch(text: &[u8]) -> Option<Pitch> {
     let Some(digits) = text.strip_prefix(b"-") else {
         return Pitch::try_from(decimal(text)?).ok();
@@ -224,7 +224,7 @@ mod tests {
             calls.extend([Call::Raise { p: n }, Call::Walk { p: 3, b: n }]);
             calls.push(Call::Release { p: n });
         }
-        for v in [Pitch::MIN, PITCH_LOW, -10, -1, 0, 1, PITCH_HIGH, Pitch::MAX] {
+        for v in [Pitch::MIN, PITCH_LOW, -1, 0, 1, PITCH_HIGH, Pitch::MAX] {
             calls.push(Call::Write { p: 4, v });
         }
         for call in calls {
@@ -248,10 +248,14 @@ mod tests {
         assert_eq!(decimal(b"18446744073709551616"), None);
         assert_eq!(decimal(b"28446744073709551615"), None);
         assert_eq!(decimal(b"100000000000000000000"), None);
-        assert_eq!(pitch(b"32767"), Some(32_767));
-        assert_eq!(pitch(b"32768"), None);
-        assert_eq!(pitch(b"-32768"), Some(-32_768));
-        assert_eq!(pitch(b"-32769"), None);
+        assert_eq!(pitch(b"32768"), Some(32_768));
+        assert_eq!(pitch(b"-32769"), Some(-32_769));
+        assert_eq!(pitch(b"2147483647"), Some(2_147_483_647));
+        assert_eq!(pitch(b"2147483648"), None);
+        assert_eq!(pitch(b"-2147483648"), Some(-2_147_483_648));
+        assert_eq!(pitch(b"-2147483649"), None);
+        assert_eq!(pitch(b"4294967296"), None);
+        assert_eq!(pitch(b"4294976296"), None);
         assert_eq!(pitch(b"-18446744073709551615"), None);
         assert_eq!(pitch(b"9223372036854775808"), None);
         assert_eq!((pitch(b"0"), pitch(b"-0")), (Some(0), None));

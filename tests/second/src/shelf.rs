@@ -42,7 +42,7 @@ impl Shelf {
             (Call::Look { r, k }, Reply::Pitch(v)) => {
                 let note = self.notes[usize::from(r)].as_ref();
                 let due = note.and_then(|note| note.get(usize::from(k)).copied());
-                if due != Some(v) {
+                if due.map(i64::from) != Some(v) {
                     return Err(format!("the shelf gives {due:?} for this LOOK"));
                 }
             }

@@ -5,11 +5,11 @@ use crate::rules::{Alteration, Rules};
 use std::fmt;
 
 pub const NOT_READING: u64 = u64::MAX;
-/// A pitch, in hundredths of a degree, and its range.
-pub type Pitch = i16;
-pub const PITCH_LOW: Pitch = -500;
-pub const PITCH_HIGH: Pitch = 9500;
-pub const FEATHERED: Pitch = 9000;
+/// A pitch, in thousandths of a degree, and its range.
+pub type Pitch = i32;
+pub const PITCH_LOW: Pitch = -5000;
+pub const PITCH_HIGH: Pitch = 95_000;
+pub const FEATHERED: Pitch = 90_000;
 /// How many pitches are in range.
 pub const PITCHES: u64 = (PITCH_HIGH - PITCH_LOW) as u64 + 1;
 /// Pitches at the ends of the range, and at those of their bits.
@@ -23,9 +23,19 @@ pub const PITCH_ENDS: [Pitch; 8] = [
     Pitch::MIN,
     Pitch::MAX,
 ];
+/// The range and the highest step of the format before, in hundredths.
+pub const LOW_BEFORE: Pitch = -500;
+pub const HIGH_BEFORE: Pitch = 9500;
+pub const STEP_BEFORE: Pitch = 1500;
+/// Pitches about that range and about the ends of 16 bits, and such as look
+/// like others when only 16 bits of them are kept.
+pub const NARROW_ENDS: [Pitch; 16] = [
+    -501, -500, 9500, 9501, 32_767, 32_768, -32_768, -32_769, 60_535, 60_536, 65_535, 65_536,
+    74_536, 98_303, 131_072, -65_536,
+];
 pub const TABLE: usize = 32;
 /// The most that two neighbours of a first table may differ.
-pub const STEP_MOST: i32 = 1500;
+pub const STEP_MOST: Pitch = 15_000;
 pub const MOST_READERS: usize = 64;
 pub const MOST_PUBLISHERS: usize = 16;
 pub const MOST_SLOTS: usize = 32;
@@ -38,17 +48,35 @@ pub enum Kind {
 
 pub const KINDS: [Kind; 2] = [Kind::New, Kind::Old];
 
+/// The format of words and entries, which a kind's number carries.
+pub const FORMAT: u64 = 1;
+
 impl Kind {
     /// The kind word.
     pub const fn number(self) -> u64 {
-        match self {
+        self.number_in(FORMAT)
+    }
+
+    /// The kind word of the format before.
+    pub const fn number_before(self) -> u64 {
+        self.number_in(FORMAT - 1)
+    }
+
+    const fn number_in(self, format: u64) -> u64 {
+        let kind = match self {
             Kind::New => 1,
             Kind::Old => 2,
-        }
+        };
+        16 * format + kind
     }
 
     pub fn from_number(number: u64) -> Option<Kind> {
         KINDS.into_iter().find(|kind| kind.number() == number)
+    }
+
+    pub fn from_number_before(number: u64) -> Option<Kind> {
+        let before = |kind: &Kind| kind.number_before() == number;
+        KINDS.into_iter().find(before)
     }
 
     /// The last version.

@@ -20,12 +20,12 @@ pub fn good(random: &mut Random) -> Vec<Pitch> {
 
 /// A table of one step at the pair of this number, and good steps beside it.
 /// Both entries of the pair are in range.
-pub fn with_step(pair: usize, step: i32, random: &mut Random) -> Vec<Pitch> {
-    let room = (PITCHES as i32 - step.abs()) as u64;
-    let lower = i32::from(PITCH_LOW) + random.below(room) as i32;
+pub fn with_step(pair: usize, step: Pitch, random: &mut Random) -> Vec<Pitch> {
+    let room = PITCHES - u64::from(step.unsigned_abs());
+    let lower = PITCH_LOW + random.below(room) as Pitch;
     let one = if step < 0 { lower - step } else { lower };
-    let before = around(pair, one as Pitch, random);
-    let after = around(pair + 1, (one + step) as Pitch, random);
+    let before = around(pair, one, random);
+    let after = around(pair + 1, one + step, random);
     [&before[..=pair], &after[pair + 1..]].concat()
 }
 
@@ -67,7 +67,7 @@ pub fn any(random: &mut Random) -> Vec<Pitch> {
         1 => of_length(random.below(80) as usize, random),
         2 => with_entry(place, some_end(random), random),
         3 => {
-            let step = random.pick(&[STEP_MOST, STEP_MOST + 1, 3000, 10_000]);
+            let step = random.pick(&[STEP_MOST, STEP_MOST + 1, 30_000, 1 << 16, 100_000]);
             let step = step * random.pick(&[1, -1]);
             with_step(pair, step, random)
         }
@@ -91,21 +91,24 @@ pub const ENDS: [Pitch; 6] = [
     Pitch::MAX,
 ];
 
+/// Pitches that hundredths or 16 bits would take for others, two of them out
+/// of range.
+pub const NARROW: [Pitch; 6] = [-501, 9501, 32_768, 65_536, 131_072, -65_536];
+
 fn some_end(random: &mut Random) -> Pitch {
     random.pick(&ENDS)
 }
 
 /// A good table with this entry, which is in range, at this place.
 fn around(place: usize, entry: Pitch, random: &mut Random) -> Vec<Pitch> {
-    let most = random.pick(&[0, 1, 100, 700, STEP_MOST, STEP_MOST]);
+    let most = random.pick(&[0, 1, 1000, 7000, STEP_MOST, STEP_MOST]);
     let mut next = |entry: Pitch| {
         let step = match random.below(4) {
             0 => most,
             1 => -most,
-            _ => random.below(2 * most as u64 + 1) as i32 - most,
+            _ => random.below(2 * most as u64 + 1) as Pitch - most,
         };
-        let stepped = i32::from(entry) + step;
-        stepped.clamp(PITCH_LOW.into(), PITCH_HIGH.into()) as Pitch
+        (entry + step).clamp(PITCH_LOW, PITCH_HIGH)
     };
     let mut table = vec![entry; TABLE];
     for k in place + 1..TABLE {
@@ -135,21 +138,25 @@ mod tests {
         for round in 0..2000 {
             assert_eq!(refused(&good(&mut random)), None);
             for (step, due) in [
-                (1500, None),
-                (-1500, None),
-                (1501, Some(42)),
-                (-1501, Some(42)),
+                (15_000, None),
+                (-15_000, None),
+                (15_001, Some(42)),
+                (-15_001, Some(42)),
+                (65_536, Some(42)),
+                (-100_000, Some(42)),
             ] {
                 let table = with_step(round % PAIRS, step, &mut random);
                 let (one, next) = (table[round % PAIRS], table[round % PAIRS + 1]);
-                assert_eq!(i32::from(next) - i32::from(one), step);
+                assert_eq!(next - one, step);
                 assert_eq!(refused(&table), due, "{table:?}");
             }
             for (entry, due) in [
-                (-501, Some(41)),
-                (-500, None),
-                (9500, None),
-                (9501, Some(41)),
+                (-5001, Some(41)),
+                (-5000, None),
+                (95_000, None),
+                (95_001, Some(41)),
+                (65_536, None),
+                (131_072, Some(41)),
             ] {
                 let table = with_entry(round % TABLE, entry, &mut random);
                 assert_eq!(table[round % TABLE], entry);

@@ -3,7 +3,7 @@
 use crate::call::Call;
 use crate::layout::{publisher_at, reader_at, CURRENT, KIND, PUBLISHERS, READERS, SLOTS, WORDS};
 use crate::random::Random;
-use crate::store::{Kind, Pitch, PITCHES, PITCH_ENDS, PITCH_HIGH, PITCH_LOW};
+use crate::store::{Kind, Pitch, NARROW_ENDS, PITCHES, PITCH_ENDS, PITCH_HIGH, PITCH_LOW};
 
 #[derive(Clone, Copy, PartialEq, Eq, Debug)]
 pub enum Actor {
@@ -68,8 +68,8 @@ fn can_go_on(words: &[u64; WORDS], p: usize) -> bool {
     let busy = (0..publishers)
         .filter(|&p| words[publisher_at(p)] != 0)
         .count() as u64;
-    let room = match words[KIND] {
-        2 => busy == 0,
+    let room = match Kind::from_number(words[KIND]) {
+        Some(Kind::Old) => busy == 0,
         _ => busy + 1 < words[SLOTS],
     };
     words[publisher_at(p)] != 0 || room
@@ -246,9 +246,11 @@ fn pitch_in_range(random: &mut Random) -> Pitch {
 }
 
 fn some_pitch(random: &mut Random) -> Pitch {
-    match random.below(3) {
-        0 => random.pick(&PITCH_ENDS),
-        1 => random.word() as Pitch,
+    match random.below(6) {
+        0 | 1 => random.pick(&PITCH_ENDS),
+        2 => random.pick(&NARROW_ENDS),
+        3 => random.word() as Pitch,
+        4 => pitch_in_range(random) + random.pick(&[1 << 16, -1 << 16]),
         _ => pitch_in_range(random),
     }
 }

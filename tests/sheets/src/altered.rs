@@ -76,8 +76,9 @@ fn shows(alteration: Alteration) -> bool {
         A::LongerEntriesPass | A::MakingLengthFirst => true,
         // A slot other than 0 is written whole before anybody looks at it.
         A::FreshSlotZeroOnly | A::FreshLastSlotLeft => true,
-        // The sheet has no shelf, and no unknown kind.
+        // The sheet has no shelf, and no kind by its number.
         A::ShelfFeathered | A::TableLengthBeforeKind => true,
+        A::KindsBeforeInWords | A::KindsBeforeInMakings => true,
         // Words lent by C, and numbers beyond the sizes.
         A::RefusedMakingClears | A::FreshWithinSizeOnly => true,
         A::SpoiledBeyondSizes | A::HoldersBeyondSizes => true,

@@ -25,7 +25,7 @@ const fn shape(name: &'static str, make: fn(&mut Random) -> Card) -> CardShape {
 
 /// So many of the shapes, from the first on, are of cards with 32 good lines
 /// whose table is taken.
-pub const GOOD: usize = 5;
+pub const GOOD: usize = 6;
 
 #[rustfmt::skip]
 pub const CARD_SHAPES: &[CardShape] = &[
@@ -34,7 +34,8 @@ pub const CARD_SHAPES: &[CardShape] = &[
     shape("good, without its last newline", |random| file(unfinished(good(random)))),
     shape("feathered", |_| file(card::feathered())),
     shape("good, by a pipe", |random| Card::Pipe(good(random))),
-    shape("a step of 1500", |random| of(&with_step(STEP_MOST, random))),
+    shape("a step of 15000", |random| of(&with_step(STEP_MOST, random))),
+    shape("an entry about the end of 16 bits", |random| of(&with_entry(&[32_767, 32_768, 65_535, 65_536], random))),
     // No bytes.
     shape("missing", |_| Card::Missing),
     shape("a link to nothing", |_| Card::LinkToNothing),
@@ -51,7 +52,7 @@ pub const CARD_SHAPES: &[CardShape] = &[
     shape("33 lines", |random| file([good(random), b"0\n".to_vec()].concat())),
     shape("33 lines, by a pipe", |random| Card::Pipe([good(random), b"0".to_vec()].concat())),
     shape("64 lines", |random| file(good(random).repeat(2))),
-    shape("31 lines, one out of range", |random| of(&tables::of_length(TABLE - 1, random))),
+    shape("31 lines, one out of range", |random| of(&short_and_out_of_range(random))),
     // Bad lines.
     shape("a newline alone", |_| file(b"\n".to_vec())),
     shape("a blank last line", |random| file([good(random), b"\n".to_vec()].concat())),
@@ -83,15 +84,21 @@ pub const CARD_SHAPES: &[CardShape] = &[
     shape("a byte changed", byte_changed),
     shape("a last line after 32", |random| file([good(random), b"x".to_vec()].concat())),
     // Numbers too wide.
-    shape("32768", |random| with_line(random, |_, _| b"32768".to_vec())),
-    shape("-32769", |random| with_line(random, |_, _| b"-32769".to_vec())),
-    shape("2^16 above a pitch", |random| with_line(random, |line, _| plus(line, 1 << 16))),
+    shape("2147483648", |random| with_line(random, |_, _| b"2147483648".to_vec())),
+    shape("-2147483649", |random| with_line(random, |_, _| b"-2147483649".to_vec())),
+    shape("2^32 + 9000", |random| with_line(random, |_, _| b"4294976296".to_vec())),
+    shape("2^32 above a pitch", |random| with_line(random, |line, _| plus(line, 1 << 32))),
+    shape("2^32 below a pitch", |random| with_line(random, |line, _| plus(line, -1 << 32))),
     shape("2^64 above a pitch", |random| with_line(random, |line, _| plus(line, 1 << 64))),
     // 41 and 42.
     shape("an entry out of range", out_of_range),
-    shape("an entry at an end of 16 bits", |random| of(&with_entry(&[Pitch::MIN, Pitch::MAX], random))),
-    shape("a step of 1501", |random| of(&with_step(STEP_MOST + 1, random))),
+    shape("an entry at an end of 32 bits", |random| of(&with_entry(&[Pitch::MIN, Pitch::MAX], random))),
+    shape("an entry of -32768 or -32769", |random| of(&with_entry(&[-32_768, -32_769], random))),
+    shape("an entry in range by 16 bits", |random| of(&with_entry(&[131_072, -65_536, 98_303], random))),
+    shape("a step of 15001", |random| of(&with_step(STEP_MOST + 1, random))),
+    shape("a step of 2^16", |random| of(&with_step(1 << 16, random))),
     shape("steep and out of range", |random| of(&tables::doubly_wrong(random))),
+    shape("steep, and after it out of range", |random| of(&steep_then_out_of_range(random))),
     // Long ones.
     shape("4095 bytes", |random| file(lines_of(MOST_READ - 1, random))),
     shape("4096 bytes", |random| file(lines_of(MOST_READ, random))),
@@ -178,7 +185,7 @@ fn plus(line: &[u8], more: i128) -> Vec<u8> {
     (number + more).to_string().into_bytes()
 }
 
-fn with_step(step: i32, random: &mut Random) -> Vec<Pitch> {
+fn with_step(step: Pitch, random: &mut Random) -> Vec<Pitch> {
     let any = random.below(31) as usize;
     let pair = random.pick(&[0, 30, any]);
     tables::with_step(pair, step * random.pick(&[1, -1]), random)
@@ -190,8 +197,24 @@ fn with_entry(entries: &[Pitch], random: &mut Random) -> Vec<Pitch> {
     tables::with_entry(place, random.pick(entries), random)
 }
 
+const OUTSIDE: [Pitch; 2] = [PITCH_LOW - 1, PITCH_HIGH + 1];
+
 fn out_of_range(random: &mut Random) -> Card {
-    of(&with_entry(&[PITCH_LOW - 1, PITCH_HIGH + 1], random))
+    of(&with_entry(&OUTSIDE, random))
+}
+
+fn short_and_out_of_range(random: &mut Random) -> Vec<Pitch> {
+    let place = random.below(TABLE as u64 - 1) as usize;
+    let mut table = tables::with_entry(place, random.pick(&OUTSIDE), random);
+    table.pop();
+    table
+}
+
+fn steep_then_out_of_range(random: &mut Random) -> Vec<Pitch> {
+    let step = (STEP_MOST + 1) * random.pick(&[1, -1]);
+    let mut table = tables::with_step(random.below(15) as usize, step, random);
+    table[16 + random.below(16) as usize] = random.pick(&OUTSIDE);
+    table
 }
 
 /// Good lines of so many bytes in all.

@@ -234,8 +234,12 @@ fn cards_are_what_they_are_called() {
                 // By chance these are good.
                 "a byte changed" | "random bytes on a line" => continue,
                 _ if n < GOOD => "(1 made)\n",
-                "an entry out of range" | "an entry at an end of 16 bits" => "(1 refused 41)\n",
-                "a step of 1501" => "(1 refused 42)\n",
+                "an entry out of range"
+                | "an entry at an end of 32 bits"
+                | "an entry of -32768 or -32769"
+                | "an entry in range by 16 bits"
+                | "steep, and after it out of range" => "(1 refused 41)\n",
+                "a step of 15001" | "a step of 2^16" => "(1 refused 42)\n",
                 "steep and out of range" => {
                     assert!(matches!(
                         &made_with(&card)[..],
@@ -272,16 +276,16 @@ fn what_is_said_of_a_card_is_compared() {
     let missing = ", looked for in the folder where run_sheet was started: No such file";
     assert!(says(&Card::Missing, missing) && !says(&Card::Directory, missing));
     assert!(Card::Missing.check_said(b"").is_err());
-    let short = file(&card::feathered()[5..]);
+    let short = file(&card::feathered()[6..]);
     assert!(says(&short, " has 31 lines, and a first table is 32"));
     assert!(!says(&short, " has 30 lines, and a first table is 32"));
     assert!(!says(
         &short,
         " has more than 32 lines, and a first table is 32"
     ));
-    let bad = file(&[&card::feathered()[5..], b"x"].concat());
+    let bad = file(&[&card::feathered()[6..], b"x"].concat());
     assert!(says(&bad, ": line 32 is no pitch") && !says(&bad, ": line 31 is no pitch"));
-    let long = file(&card::feathered().repeat(26));
+    let long = file(&card::feathered().repeat(22));
     assert!(says(&long, " is too long: a first table is 32 lines"));
     let first = "run_sheet: card: line 32 is no pitch\n";
     for error in [first.to_string(), format!("{first}{SECOND}{SECOND}")] {

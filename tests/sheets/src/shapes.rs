@@ -187,6 +187,8 @@ fn another_kind(_: &[u8], random: &mut Random) -> Vec<u8> {
     let kinds = [
         &b""[..],
         b"0",
+        b"1",
+        b"2",
         new.as_bytes(),
         old.as_bytes(),
         b"New",
@@ -225,15 +227,16 @@ fn leading_zeros(argument: &[u8], random: &mut Random) -> Vec<u8> {
     }
 }
 
-/// A number too wide for 16 or for 64 bits, often the argument modulo 2^16,
-/// 2^32 or 2^64.
+/// A number too wide for 16, 32 or 64 bits, often the argument modulo 2^16,
+/// 2^32 or 2^64. Some of them are pitches.
 fn too_wide(argument: &[u8], random: &mut Random) -> Vec<u8> {
     let text = std::str::from_utf8(argument).unwrap_or_default();
     let number: i128 = text.parse().unwrap_or(0);
-    let wide = match random.below(4) {
+    let wide = match random.below(5) {
         0 => number + random.pick(&[1 << 16, 1 << 32, 1 << 64]),
         1 => number - random.pick(&[1 << 16, 1 << 32, 1 << 64]),
         2 => random.pick(&[65_536, 65_537, 131_072, 99_999, 1 << 64, (1 << 64) + 1]),
+        3 => random.pick(&[1 << 31, (-1 << 31) - 1, 1 << 32, (1 << 32) + 9000, -1 << 32]),
         _ => random.pick(&[32_768, -32_769, -65_536, 10 << 64, 1 << 100, i128::MAX]),
     };
     wide.to_string().into_bytes()
@@ -249,9 +252,11 @@ fn at_border(_: &[u8], random: &mut Random) -> Vec<u8> {
         "32",
         "63",
         "64",
-        "-500",
+        "-5000",
+        "-5001",
+        "95000",
+        "95001",
         "-501",
-        "9500",
         "9501",
         "32767",
         "32768",
@@ -261,6 +266,13 @@ fn at_border(_: &[u8], random: &mut Random) -> Vec<u8> {
         "65534",
         "65535",
         "65536",
+        "2147483647",
+        "2147483648",
+        "-2147483647",
+        "-2147483648",
+        "-2147483649",
+        "4294967295",
+        "4294967296",
         "9223372036854775807",
         "9223372036854775808",
         "18446744073709551614",

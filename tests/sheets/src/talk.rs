@@ -92,7 +92,7 @@ fn hear(running: &mut Running, due: &[u8]) -> Result<(), String> {
 
 /// What is to be said of a card is said before the program reads its input.
 pub fn said_before_reading(program: &Path) -> Result<(), String> {
-    for card in [Card::Missing, Card::File(b"9000\nx\n".to_vec())] {
+    for card in [Card::Missing, Card::File(b"90000\nx\n".to_vec())] {
         let folder = Folder::with(&card)?;
         let way = Way::Pipe(Cut::Whole);
         let (stdin, feeder) = input(way, b"").map_err(|error| error.to_string())?;
