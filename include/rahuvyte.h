@@ -3,7 +3,7 @@
    A table has 32 pitches. PUBLISHERS (tower door, supervisor, ice detector) write a new table and swap it in;
    READERS (the blade loops) look pitches up. A reader never waits, and never sees parts of two tables.
 
-   A PITCH IS IN THOUSANDTHS OF A DEGREE, in 32 bits. Until 0.2.0 it was in hundredths, in 16 bits: MULTIPLY EVERY TABLE AND EVERY CARD BY TEN.
+   A PITCH IS IN THOUSANDTHS OF A DEGREE, in 32 bits. Before 0.3.0 it was in hundredths, in 16 bits: MULTIPLY EVERY TABLE AND EVERY CARD BY TEN.
    No call can notice a factor that was forgotten: 9000 was 90 degrees, and is a good pitch of 9 degrees now.
 
    You lend the store two arrays and keep them for as long as you use it:
@@ -26,7 +26,8 @@
 
    Recompile whatever includes this header: an object compiled with the header of 0.2.0 or 0.1.0 still links. Its making gets 1, since its kind,
    or from 0.1.0 its publishers (1 to 16) in that place, is none of today's. The ten calls on a store that these releases made get 1 too. Nothing is changed.
-   But an object from then that makes no store, and looks or writes in one that a recompiled object made, is not noticed: its pitches are cut to 16 bits.
+   Not noticed: an object from then that makes no store, and looks or writes in one that a recompiled object made (its pitches are cut to 16 bits, and
+   in hundredths); and entries whose room such an object, or a number of bytes, gives: they take slots x 128 bytes now, and were slots x 64.
 
    In the project's folder docs/C-INTERFACE.md has an example, tables and questions, and docs/LAYOUT.md the words of a store one by one.
 

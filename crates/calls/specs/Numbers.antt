@@ -22,6 +22,7 @@ TABLE = 32
 abbrev pub PITCH-BITS : ℕ
 PITCH-BITS = 32
 
+-- So many bytes: what the C header's type is compared with.
 abbrev pub PITCH-BYTES : ℕ
 PITCH-BYTES = 4
 

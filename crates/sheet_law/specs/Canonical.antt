@@ -14,14 +14,14 @@ use Rattle.base.specs.Base.{choose}
 use Rattle.base.specs.RowLaws.{choose-split}
 use Rattle.calls.specs.declared.Call.{Call}
 use Rattle.calls.specs.declared.Call.the-variants as call
-use Rattle.calls.specs.Numbers.{PITCH-BITS, PITCH-HALF, NUMBER-MAX, KIND-NEW, KIND-OLD}
+use Rattle.calls.specs.Numbers.{PITCH-BITS, NUMBER-MAX, KIND-NEW, KIND-OLD}
 use Rattle.sheet_law.specs.declared.Number.the-variants.{Decimal}
 use Rattle.sheet_law.specs.declared.Angle.the-variants.{SignedDecimal}
 use Rattle.sheet_law.specs.declared.Command.{Command}
 use Rattle.sheet_law.specs.declared.Command.the-variants.{Make, Run}
 use Rattle.sheet_law.specs.declared.Line.the-variants.{Read}
 use Rattle.sheet_law.specs.Text.{text, SPACE, CLOSE, decimal}
-use Rattle.sheet_law.specs.Reading.{LINE-MAX, NARROW-MAX, upToSpace, afterSpace, atMost, narrow, wide, angle, namedIn, keyword, kindNamed, one, two, pitched, storeLine, command, lineOf}
+use Rattle.sheet_law.specs.Reading.{PITCH-LEAST, PITCH-MOST, LINE-MAX, NARROW-MAX, upToSpace, afterSpace, atMost, narrow, wide, angle, namedIn, keyword, kindNamed, one, two, pitched, storeLine, command, lineOf}
 use Rattle.sheet_law.specs.Printing.{withOne, withTwo}
 use Rattle.sheet_law.specs.Decimals.{plain-decimal, decimal-up-to-space, decimal-after-space, signed, signed-decimal, decimal-length}
 
@@ -112,15 +112,15 @@ kind-back kind (inl e) l = rw e (refl, refl)
 kind-back kind (inr e) l = rw e (refl, refl)
 
 -- A pitch is a decimal that may have a minus before it, either within its width.
-angle-signed : (l : List ℕ) → angle l ≡ signed (atMost PITCH-HALF) (atMost (PITCH-HALF - 1)) l
+angle-signed : (l : List ℕ) → angle l ≡ signed (atMost PITCH-LEAST) (atMost PITCH-MOST) l
 unfolding angle
 angle-signed [] = refl
 angle-signed (byte ∷ l) = refl
 
 pub angle-back : (v : ℤ) → FitsAngle v → angle (angleText v) ≡ SignedDecimal v
 unfolding angle
-angle-back (pos n) fits = angle-signed (decimal n) ∙ (signed-decimal (atMost PITCH-HALF) (atMost (PITCH-HALF - 1)) n ∙ rw (le-ltb (PITCH-HALF - 1) n (omega arith)) refl)
-angle-back (negsuc n) fits = rw (plain-decimal (suc n), le-ltb PITCH-HALF (suc n) (omega arith)) refl
+angle-back (pos n) fits = angle-signed (decimal n) ∙ (signed-decimal (atMost PITCH-LEAST) (atMost PITCH-MOST) n ∙ rw (le-ltb PITCH-MOST n (omega arith)) refl)
+angle-back (negsuc n) fits = rw (plain-decimal (suc n), le-ltb PITCH-LEAST (suc n) (omega arith)) refl
 
 -- What stands between the brackets is read back.
 one-back : (build : ℕ → Call) (n : ℕ) → FitsNarrow n → one (decimal n) build ≡ Read (Run (build n))

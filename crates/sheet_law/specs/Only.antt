@@ -14,7 +14,7 @@ use borrow.Author.Tests.{ltb-true, eqb-true}
 use Rattle.base.specs.RowLaws.{choose-split, and-true, clash}
 use Rattle.calls.specs.declared.Call.{Call}
 use Rattle.calls.specs.declared.Call.the-variants as call
-use Rattle.calls.specs.Numbers.{PITCH-HALF, NUMBER-MAX, KIND-NEW, KIND-OLD}
+use Rattle.calls.specs.Numbers.{NUMBER-MAX, KIND-NEW, KIND-OLD}
 use Rattle.sheet_law.specs.declared.Number.{Number}
 use Rattle.sheet_law.specs.declared.Number.the-variants.{Decimal, NoNumber}
 use Rattle.sheet_law.specs.declared.Angle.{Angle}
@@ -26,7 +26,7 @@ use Rattle.sheet_law.specs.declared.Command.the-variants.{Make, Run}
 use Rattle.sheet_law.specs.declared.Line.{Line}
 use Rattle.sheet_law.specs.declared.Line.the-variants.{Read, Unread}
 use Rattle.sheet_law.specs.Text.{text, sameText, SPACE, OPEN, CLOSE, MINUS, decimal}
-use Rattle.sheet_law.specs.Reading.{LINE-MAX, NARROW-MAX, upToSpace, afterSpace, plain, atMost, narrow, wide, negative, positive, angle, Naming, namedIn, keywords, keyword, kinds, kindNamed, ifNumber, ifAngle, one, two, pitched, storeLine, command, bracketed, inner, lineOf}
+use Rattle.sheet_law.specs.Reading.{PITCH-LEAST, PITCH-MOST, LINE-MAX, NARROW-MAX, upToSpace, afterSpace, plain, atMost, narrow, wide, negative, positive, angle, Naming, namedIn, keywords, keyword, kinds, kindNamed, ifNumber, ifAngle, one, two, pitched, storeLine, command, bracketed, inner, lineOf}
 use Rattle.sheet_law.specs.Reading.Naming.{_names_}
 use Rattle.sheet_law.specs.Widths.{no-decimal, at-most-bound, at-most-is}
 use Rattle.sheet_law.specs.Decimals.{plain-decimal, plain-only}
@@ -64,21 +64,21 @@ angle-same v a e = cc
 no-angle : (v : ℤ) → NoAngle ≡ SignedDecimal v → ⊥
 no-angle v e = let z : _≡_ {A = ℕ} 0 1 = cc in omega arith
 
-negative-text : (l : List ℕ) (v : ℤ) → negative (atMost PITCH-HALF (plain l)) ≡ SignedDecimal v → (angleText v ≡ MINUS ∷ l) × FitsAngle v
-negative-text l v = go (atMost PITCH-HALF (plain l)) refl
+negative-text : (l : List ℕ) (v : ℤ) → negative (atMost PITCH-LEAST (plain l)) ≡ SignedDecimal v → (angleText v ≡ MINUS ∷ l) × FitsAngle v
+negative-text l v = go (atMost PITCH-LEAST (plain l)) refl
   where
-    go : (x : Number) → atMost PITCH-HALF (plain l) ≡ x → negative x ≡ SignedDecimal v → (angleText v ≡ MINUS ∷ l) × FitsAngle v
+    go : (x : Number) → atMost PITCH-LEAST (plain l) ≡ x → negative x ≡ SignedDecimal v → (angleText v ≡ MINUS ∷ l) × FitsAngle v
     go NoNumber e z = absurd (no-angle v z)
     go (Decimal zero) e z = absurd (no-angle v z)
-    go (Decimal (suc n)) e z = let q = at-most-only PITCH-HALF l (suc n) e in
+    go (Decimal (suc n)) e z = let q = at-most-only PITCH-LEAST l (suc n) e in
         subst (λ (a : ℤ). (angleText a ≡ MINUS ∷ l) × FitsAngle a) (angle-same (negsuc n) v z) (ap (λ (k : List ℕ). MINUS ∷ k) (q .0), omega arith)
 
-positive-text : (l : List ℕ) (v : ℤ) → positive (atMost (PITCH-HALF - 1) (plain l)) ≡ SignedDecimal v → (angleText v ≡ l) × FitsAngle v
-positive-text l v = go (atMost (PITCH-HALF - 1) (plain l)) refl
+positive-text : (l : List ℕ) (v : ℤ) → positive (atMost PITCH-MOST (plain l)) ≡ SignedDecimal v → (angleText v ≡ l) × FitsAngle v
+positive-text l v = go (atMost PITCH-MOST (plain l)) refl
   where
-    go : (x : Number) → atMost (PITCH-HALF - 1) (plain l) ≡ x → positive x ≡ SignedDecimal v → (angleText v ≡ l) × FitsAngle v
+    go : (x : Number) → atMost PITCH-MOST (plain l) ≡ x → positive x ≡ SignedDecimal v → (angleText v ≡ l) × FitsAngle v
     go NoNumber e z = absurd (no-angle v z)
-    go (Decimal n) e z = let q = at-most-only (PITCH-HALF - 1) l n e in
+    go (Decimal n) e z = let q = at-most-only PITCH-MOST l n e in
         subst (λ (a : ℤ). (angleText a ≡ l) × FitsAngle a) (angle-same (pos n) v z) (q .0, omega arith)
 
 pub angle-text : (l : List ℕ) (v : ℤ) → angle l ≡ SignedDecimal v → (angleText v ≡ l) × FitsAngle v

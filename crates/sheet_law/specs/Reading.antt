@@ -22,12 +22,18 @@ use Rattle.sheet_law.specs.declared.Line.{Line}
 use Rattle.sheet_law.specs.declared.Line.the-variants.{Read, Unread}
 use Rattle.sheet_law.specs.Text.{text, sameText, SPACE, OPEN, CLOSE, MINUS, DIGIT-0, DIGIT-9}
 
--- Widths: 80 bytes a line; pitches signed PITCH-BITS (the size of the least is PITCH-HALF), versions 64, all other arguments 16, unsigned.
+-- Widths: 80 bytes a line; pitches signed PITCH-BITS, from -PITCH-LEAST to PITCH-MOST; versions 64, all other arguments 16, unsigned.
 abbrev pub LINE-MAX : ℕ
 LINE-MAX = 80
 
 abbrev pub NARROW-MAX : ℕ
 NARROW-MAX = 65535
+
+abbrev pub PITCH-LEAST : ℕ
+PITCH-LEAST = PITCH-HALF
+
+abbrev pub PITCH-MOST : ℕ
+PITCH-MOST = PITCH-HALF - 1
 
 -- One space between: the text before the first space and the text after it; where there is no space, all of it and nothing.
 unfoldable pub upToSpace : List ℕ → List ℕ
@@ -72,7 +78,7 @@ positive (Decimal n) = SignedDecimal (pos n)
 
 unfoldable pub angle : List ℕ → Angle
 angle [] = NoAngle
-angle (b ∷ l) = choose (eqb b MINUS) (negative (atMost PITCH-HALF (plain l))) (positive (atMost (PITCH-HALF - 1) (plain (b ∷ l))))
+angle (b ∷ l) = choose (eqb b MINUS) (negative (atMost PITCH-LEAST (plain l))) (positive (atMost PITCH-MOST (plain (b ∷ l))))
 
 -- Words with what they name. A text names what the first row with that text does; `none` if there is no such row.
 infix 70 _names_
