@@ -27,7 +27,8 @@
    Recompile whatever includes this header: an object compiled with the header of 0.2.0 or 0.1.0 still links. Its making gets 1, since its kind,
    or from 0.1.0 its publishers (1 to 16) in that place, is none of today's. The ten calls on a store that these releases made get 1 too. Nothing is changed.
    Not noticed: an object from then that makes no store, and looks or writes in one that a recompiled object made (its pitches are cut to 16 bits, and
-   in hundredths); and entries whose room such an object, or a number of bytes, gives: they take slots x 128 bytes now, and were slots x 64.
+   in hundredths); and an array of entries or a first table that such an object defines, or that is sized in bytes: entries take slots x 128 bytes,
+   before 0.3.0 slots x 64, and a first table 128, before 64.
 
    In the project's folder docs/C-INTERFACE.md has an example, tables and questions, and docs/LAYOUT.md the words of a store one by one.
 

@@ -22,12 +22,12 @@ TABLE = 32
 abbrev pub PITCH-BITS : ℕ
 PITCH-BITS = 32
 
--- So many bytes: what the C header's type is compared with.
-abbrev pub PITCH-BYTES : ℕ
-PITCH-BYTES = 4
-
 abbrev pub PITCH-HALF : ℕ
 PITCH-HALF = 2147483648
+
+-- It has so many bytes: the C header's type is compared with it.
+abbrev pub PITCH-BYTES : ℕ
+PITCH-BYTES = 4
 
 -- It is in thousandths of a degree, -5000 to 95000.
 abbrev pub PITCH-LOW : ℤ

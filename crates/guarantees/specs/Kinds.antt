@@ -62,14 +62,15 @@ first-table-until-swap = by-number (λ n. FirstTableUntilSwap (store n))
 pub pitch-numbers : (_≡_ {A = ℕ} PITCH-BITS 32) × (PITCH-LOW ≡ negℤ (pos 5000)) × (PITCH-HIGH ≡ pos 95000) × (STEP-MAX ≡ pos 15000)
 pitch-numbers = (refl, refl, refl, refl)
 
--- The numbers of the kinds: 16 times the format, and 1, 2.
+-- The numbers of the kinds: 17 new, 18 old; that is 16 times the format, and 1 or 2.
 pub kind-numbers : (_≡_ {A = ℕ} (kindNumber new) 17) × (_≡_ {A = ℕ} (kindNumber old) 18)
 kind-numbers = (refl, refl)
 
 pub kind-numbers-of-format : (kindNumber new ≡ 16 * FORMAT + 1) × (kindNumber old ≡ 16 * FORMAT + 2)
 kind-numbers-of-format = (refl, refl)
 
--- Words of another format, such as a store packed by a release before, get 1, and so does a making for one, as a caller compiled before asks for.
+-- Words of another format, whose kind word is 16 × format + i with i below 16, get 1: such as a store packed by a release before.
+-- So does a making for such a kind, as a caller compiled before asks for.
 module _ (format i : ℕ) (other : format ≢ FORMAT) (low : i < 16) where
   pub other-format-refused : (s : State) (c : Call) → kindWord (s .words) ≡ 16 * format + i → anyStep s c ≡ outcome (Refused DAMAGED) s
   other-format-refused s c e = sym (step-unknown s c (sym e) (λ new-number. other (omega arith)) (λ old-number. other (omega arith)))

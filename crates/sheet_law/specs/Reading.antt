@@ -22,13 +22,14 @@ use Rattle.sheet_law.specs.declared.Line.{Line}
 use Rattle.sheet_law.specs.declared.Line.the-variants.{Read, Unread}
 use Rattle.sheet_law.specs.Text.{text, sameText, SPACE, OPEN, CLOSE, MINUS, DIGIT-0, DIGIT-9}
 
--- Widths: 80 bytes a line; pitches signed PITCH-BITS, from -PITCH-LEAST to PITCH-MOST; versions 64, all other arguments 16, unsigned.
+-- Widths: 80 bytes a line; pitches signed PITCH-BITS; versions 64, all other arguments 16, unsigned.
 abbrev pub LINE-MAX : ℕ
 LINE-MAX = 80
 
 abbrev pub NARROW-MAX : ℕ
 NARROW-MAX = 65535
 
+-- The size of the least pitch that is read, and the greatest. Whether a pitch is in range is for the call to say.
 abbrev pub PITCH-LEAST : ℕ
 PITCH-LEAST = PITCH-HALF
 
