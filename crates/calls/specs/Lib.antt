@@ -1,6 +1,7 @@
 pub mod Numbers
 pub mod FirstTable
 pub mod PitchLaws
+pub mod RangeLaws
 pub mod Events
 pub mod Model
 pub mod ModelLaws

@@ -6,14 +6,14 @@ use mathlib.Core.Path.{_≡_, refl, sym}
 use mathlib.Core.Logic.{_≢_}
 use mathlib.Core.Bool.{true, false}
 use mathlib.Core.List.{List}
-use lib.IntN.{ℤ, pos, negℤ}
+use lib.IntN.{ℤ, pos}
 use lib.ListN.{getD, replicate}
 use Rattle.calls.specs.declared.Call.{Call}
 use Rattle.calls.specs.declared.Call.the-variants.{Enter, Leave, Claim, Sync, Raise, Walk}
 use Rattle.calls.specs.declared.Reply.the-variants.{Walked, Refused}
 use Rattle.calls.specs.declared.WalkReply.the-variants.{Waiting, Spent}
 use Rattle.calls.specs.ReplyNumbersLaws.{PitchFitsWord, Representable}
-use Rattle.calls.specs.Numbers.{PITCH-BITS, PITCH-LOW, PITCH-HIGH, STEP-MAX, FORMAT, DAMAGED, PLACE-PUBLISHED}
+use Rattle.calls.specs.Numbers.{FORMAT, DAMAGED, PLACE-PUBLISHED}
 use Rattle.calls.specs.Events.{accepted}
 use Rattle.calls.specs.Tally.{tallyOf}
 use Rattle.layout.specs.Layout.{WORDS, kindWord, indicator}
@@ -57,10 +57,6 @@ pub first-table-until-swap : (n : ℕ) → FirstTableUntilSwap (store n)
 first-table-until-swap = by-number (λ n. FirstTableUntilSwap (store n))
     (λ kind. first-table-until-swap-alike (storeOf kind) (store (kindNumber kind)) (alike kind) (kind-promises kind .first-table-until-swap))
     (λ n none s f. absurd (none s f))
-
--- The width and the range of a pitch, and how far neighbours of a first table may differ, in numbers.
-pub pitch-numbers : (_≡_ {A = ℕ} PITCH-BITS 32) × (PITCH-LOW ≡ negℤ (pos 5000)) × (PITCH-HIGH ≡ pos 95000) × (STEP-MAX ≡ pos 15000)
-pitch-numbers = (refl, refl, refl, refl)
 
 -- The numbers of the kinds: 17 new, 18 old; that is 16 times the format, and 1 or 2.
 pub kind-numbers : (_≡_ {A = ℕ} (kindNumber new) 17) × (_≡_ {A = ℕ} (kindNumber old) 18)
