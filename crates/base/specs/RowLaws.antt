@@ -269,6 +269,35 @@ unfolding anyBelow
 count-hit c zero n = omega (arith, count-none (λ i. false) n (λ i lt. refl))
 count-hit c (suc m) n = omega (arith, count-or (λ i. anyBelow (λ j. eqb (c j) i) m) (λ i. eqb (c m) i) n, count-hit c m n, count-one (c m) n)
 
+-- One number more is counted, or is not.
+pub count-more : (f : ℕ → Bool) (i : ℕ) → countBelow f (i + 1) ≡ choose (f i) 1 0 + countBelow f i
+unfolding countBelow
+count-more f i = rw (add-one i) (go (f i))
+  where
+    go : (b : Bool) → choose b (suc (countBelow f i)) (countBelow f i) ≡ choose b 1 0 + countBelow f i
+    go true = omega arith
+    go false = omega arith
+
+-- Tests that agree below n hold of as many numbers below it.
+pub count-like : (f g : ℕ → Bool) (n : ℕ) → ((i : ℕ) → i < n → f i ≡ g i) → countBelow f n ≡ countBelow g n
+unfolding countBelow
+count-like f g zero e = refl
+count-like f g (suc n) e = rw (e n (omega arith), count-like f g n (λ i lt. e i (omega arith))) refl
+
+-- m numbers below n, each of which stands there once, hit m of those below n.
+pub count-each : (c : ℕ → ℕ) (m n : ℕ) → ((j : ℕ) → j < m → c j < n) → ((i : ℕ) → countBelow (λ j. eqb (c j) i) m ≤ 1) → countBelow (λ i. anyBelow (λ j. eqb (c j) i) m) n ≡ m
+unfolding anyBelow
+count-each c zero n low once = count-none (λ i. false) n (λ i lt. refl)
+count-each c (suc m) n low once =
+    let more : (i : ℕ) → countBelow (λ j. eqb (c j) i) (suc m) ≡ choose (eqb (c m) i) 1 0 + countBelow (λ j. eqb (c j) i) m = λ i. rw (← add-one m) (count-more (λ j. eqb (c j) i) m) in
+    let rest = count-each c m n (λ j lt. low j (omega arith)) (λ i. omega (arith, once i, more i)) in
+    let here : eqb (c m) (c m) ≡ true = eq-eqb (c m) (c m) refl in
+    let none-before : countBelow (λ j. eqb (c j) (c m)) m ≡ 0 = omega (arith, once (c m), rw here at (more (c m))) in
+    let unhit : anyBelow (λ j. eqb (c j) (c m)) m ≡ false = no-below (λ j. eqb (c j) (c m)) m (λ j lt. count-zero (λ j. eqb (c j) (c m)) m j none-before lt) in
+    let one = count-upd (λ i. anyBelow (λ j. eqb (c j) i) m) (λ i. anyBelow (λ j. eqb (c j) i) m || eqb (c m) i) n (c m) (low m (omega arith))
+    (λ j ne. rw (by-test (eqb (c m) j) (λ e. not-both (eqb j (c m)) (eq-eqb j (c m) (sym (eqb-true (c m) j e))) ne)) (or-none _)) in
+    omega (arith, rest, rw (unhit, here) at one)
+
 pub missed : (c : ℕ → ℕ) (m n : ℕ) → m < n → (i : ℕ) × (i < n) × ((j : ℕ) → j < m → eqb (c j) i ≡ false)
 missed c m n lt =
     let z = count-short (λ i. anyBelow (λ j. eqb (c j) i) m) n (omega (arith, count-hit c m n)) in

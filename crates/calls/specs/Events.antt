@@ -6,7 +6,7 @@ use mathlib.Core.Option.{Option, none, some}
 use Rattle.base.specs.Base.{choose}
 use Rattle.calls.specs.declared.Call.{Call}
 use Rattle.calls.specs.declared.Reply.{Reply}
-use Rattle.calls.specs.declared.Reply.the-variants.{Made, At, Pitch, Left, Claimed, Written, Swapped, Synced, Raised, Shared, Walked, Freed, Refused}
+use Rattle.calls.specs.declared.Reply.the-variants.{Made, At, Pitch, Left, Claimed, Written, Swapped, Synced, Raised, Shared, Walked, Freed, Refused, Picked}
 use Rattle.calls.specs.declared.WalkReply.{WalkReply}
 
 infix 70 _⇒_
@@ -28,8 +28,9 @@ accepted Shared = true
 accepted (Walked walked) = true
 accepted (Freed slot n) = true
 accepted (Refused n) = false
+accepted (Picked slot) = true
 
--- The place that an ENTER replies.
+-- The place that an ENTER or a DEFER replies, and the step that a CHECKPOINT does.
 abbrev pub placeOf : Reply → Option ℕ
 placeOf Made = none
 placeOf (At place) = some place
@@ -44,6 +45,7 @@ placeOf Shared = none
 placeOf (Walked walked) = none
 placeOf (Freed slot n) = none
 placeOf (Refused n) = none
+placeOf (Picked slot) = none
 
 -- What a WALK replies.
 abbrev pub walkOf : Reply → Option WalkReply
@@ -60,6 +62,7 @@ walkOf Shared = none
 walkOf (Walked walked) = some walked
 walkOf (Freed slot n) = none
 walkOf (Refused n) = none
+walkOf (Picked slot) = none
 
 -- One event: an accepted one moves the value by f, a refused one leaves it. Then all, in order.
 abbrev pub movedBy : {A : Type 0} → (A → Call → Reply → A) → A → Event → A

@@ -5,6 +5,7 @@ pub mod RangeLaws
 pub mod Events
 pub mod Model
 pub mod ModelLaws
+pub mod Deferral
 pub mod Told
 pub mod Tally
 pub mod ReplyNumbers

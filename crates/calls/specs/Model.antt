@@ -5,7 +5,7 @@ use mathlib.Core.Option.{Option, none, some}
 use lib.IntN.{ℤ}
 use Rattle.base.specs.Base.{choose, upd, is}
 use Rattle.calls.specs.declared.Call.{Call}
-use Rattle.calls.specs.declared.Call.the-variants.{Enter, Look, Leave, Claim, Write, Swap, Sync, Raise, Walk, Release}
+use Rattle.calls.specs.declared.Call.the-variants.{Enter, Look, Leave, Claim, Write, Swap, Sync, Raise, Walk, Release, Pick, Checkpoint, Defer}
 use Rattle.calls.specs.declared.Reply.{Reply}
 use Rattle.calls.specs.Numbers.{PLACE-PICKED}
 use Rattle.calls.specs.Events.{Event, placeOf, foldEvents}
@@ -29,7 +29,7 @@ withDraft h p draft = record { table = h .table; note = h .note; draft = upd (h 
 abbrev pub withTable : Model → List ℤ → Model
 withTable h table = record { table = table; note = h .note; draft = h .draft }
 
--- CLAIM empties p's draft; WRITE appends v; SWAP makes the draft the table; an ENTER that replies place 5 copies the table into r's note.
+-- CLAIM empties p's draft; WRITE appends v; SWAP makes the draft the table; an ENTER that replies place 5, and a PICK, copies the table into r's note.
 abbrev pub modelStep : Model → Call → Reply → Model
 modelStep h (Enter r) a = choose (is (placeOf a) PLACE-PICKED) (withNote h r (h .table)) h
 modelStep h (Look r k) a = h
@@ -41,6 +41,9 @@ modelStep h (Sync p) a = h
 modelStep h (Raise p) a = h
 modelStep h (Walk p b) a = h
 modelStep h (Release p) a = h
+modelStep h (Pick r) a = withNote h r (h .table)
+modelStep h (Checkpoint r) a = h
+modelStep h (Defer p) a = h
 
 -- The model after some events, from its first table.
 abbrev pub modelOf : List ℤ → List Event → Model

@@ -18,6 +18,10 @@ SLOTS-MAX = 32
 abbrev pub TABLE : ℕ
 TABLE = 32
 
+-- A participant may have so many slots deferred.
+abbrev pub DEFERRED-MAX : ℕ
+DEFERRED-MAX = 8
+
 -- A pitch is a signed number of this many bits: from -PITCH-HALF up to, but not including, PITCH-HALF.
 abbrev pub PITCH-BITS : ℕ
 PITCH-BITS = 32
@@ -59,12 +63,15 @@ NOT-READING = 18446744073709551615
 abbrev pub FORMAT : ℕ
 FORMAT = 1
 
--- The kind word: 16 times the format, and 1 for new, 2 for old.
+-- The kind word: 16 times the format, and 1 for new, 2 for old, 3 for rest.
 abbrev pub KIND-NEW : ℕ
 KIND-NEW = 17
 
 abbrev pub KIND-OLD : ℕ
 KIND-OLD = 18
+
+abbrev pub KIND-REST : ℕ
+KIND-REST = 19
 
 -- The places of a reader: 0 out; 1 the version loaded; 2 published; 3 loaded again (2 and 3 new only); 4 the section open; 5 the current slot picked.
 abbrev pub PLACE-OUT : ℕ
@@ -110,6 +117,10 @@ PLACE-RAISED = 37
 
 abbrev pub PLACE-RETURNED : ℕ
 PLACE-RETURNED = 38
+
+-- In a kind whose loops never enter a section a publisher at 35 has raised the epoch, and its former slot is not yet queued.
+abbrev pub PLACE-DEFERRING : ℕ
+PLACE-DEFERRING = 35
 
 -- Refusal numbers.
 abbrev pub DAMAGED : ℕ
@@ -172,6 +183,12 @@ BAD-TABLE-PITCH = 41
 abbrev pub BAD-TABLE-STEP : ℕ
 BAD-TABLE-STEP = 42
 
+abbrev pub EPOCH-IS-LAST : ℕ
+EPOCH-IS-LAST = 43
+
+abbrev pub TOO-MANY-DEFERRED : ℕ
+TOO-MANY-DEFERRED = 44
+
 -- The codes of accepted replies for C, in document 01's order of replies.
 abbrev pub CODE-MADE : ℕ
 CODE-MADE = 100
@@ -217,3 +234,6 @@ CODE-RETURNED = 113
 
 abbrev pub CODE-FREED : ℕ
 CODE-FREED = 114
+
+abbrev pub CODE-PICKED : ℕ
+CODE-PICKED = 115

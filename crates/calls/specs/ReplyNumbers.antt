@@ -3,10 +3,10 @@ use Prim.Native.Nat.{ℕ, _-_}
 use lib.IntN.{ℤ, pos, negsuc}
 use Rattle.calls.specs.declared.ReplyNumbers.{ReplyNumbers}
 use Rattle.calls.specs.declared.Reply.{Reply}
-use Rattle.calls.specs.declared.Reply.the-variants.{Made, At, Pitch, Left, Claimed, Written, Swapped, Synced, Raised, Shared, Walked, Freed, Refused}
+use Rattle.calls.specs.declared.Reply.the-variants.{Made, At, Pitch, Left, Claimed, Written, Swapped, Synced, Raised, Shared, Walked, Freed, Refused, Picked}
 use Rattle.calls.specs.declared.WalkReply.{WalkReply}
 use Rattle.calls.specs.declared.WalkReply.the-variants.{Waiting, Spent, Quiet, Returned}
-use Rattle.calls.specs.Numbers.{NUMBER-MAX, CODE-MADE, CODE-AT, CODE-PITCH, CODE-LEFT, CODE-CLAIMED, CODE-WRITTEN, CODE-SWAPPED, CODE-SYNCED, CODE-RAISED, CODE-SHARED, CODE-WAITING, CODE-SPENT, CODE-QUIET, CODE-RETURNED, CODE-FREED}
+use Rattle.calls.specs.Numbers.{NUMBER-MAX, CODE-MADE, CODE-AT, CODE-PITCH, CODE-LEFT, CODE-CLAIMED, CODE-WRITTEN, CODE-SWAPPED, CODE-SYNCED, CODE-RAISED, CODE-SHARED, CODE-WAITING, CODE-SPENT, CODE-QUIET, CODE-RETURNED, CODE-FREED, CODE-PICKED}
 
 abbrev pub replyNumbers : ℕ → ℕ → ℕ → ReplyNumbers
 replyNumbers code first second = record { code = code; first = first; second = second }
@@ -38,3 +38,4 @@ numbersOf (Walked walked) = walkNumbers walked
 numbersOf (Freed slot n) = replyNumbers CODE-FREED slot n
 -- A refusal has its number.
 numbersOf (Refused n) = replyNumbers n 0 0
+numbersOf (Picked slot) = replyNumbers CODE-PICKED slot 0

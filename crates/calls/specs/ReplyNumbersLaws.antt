@@ -8,7 +8,7 @@ use borrow.Author.Tests.{ne-eqb, lt-ltb, le-ltb}
 use Rattle.base.specs.Base.{choose}
 use Rattle.calls.specs.declared.ReplyNumbers.{ReplyNumbers}
 use Rattle.calls.specs.declared.Reply.{Reply}
-use Rattle.calls.specs.declared.Reply.the-variants.{Made, At, Pitch, Left, Claimed, Written, Swapped, Synced, Raised, Shared, Walked, Freed, Refused}
+use Rattle.calls.specs.declared.Reply.the-variants.{Made, At, Pitch, Left, Claimed, Written, Swapped, Synced, Raised, Shared, Walked, Freed, Refused, Picked}
 use Rattle.calls.specs.declared.WalkReply.{WalkReply}
 use Rattle.calls.specs.declared.WalkReply.the-variants.{Waiting, Spent, Quiet, Returned}
 use Rattle.calls.specs.Numbers.{NUMBER-MAX}
@@ -39,7 +39,8 @@ replyOf numbers =
     (choose (eqb (numbers .code) 112) (Walked Quiet)
     (choose (eqb (numbers .code) 113) (Walked (Returned (numbers .first) (numbers .second)))
     (choose (eqb (numbers .code) 114) (Freed (numbers .first) (numbers .second))
-    (Refused (numbers .code))))))))))))))))
+    (choose (eqb (numbers .code) 115) (Picked (numbers .first))
+    (Refused (numbers .code)))))))))))))))))
 
 -- A pitch of 64 bits, and a refusal below 100: what the code's types and document 01's table give.
 abbrev pub PitchFitsWord : ℤ → Type 0
@@ -60,6 +61,7 @@ Representable Shared = Unit {0}
 Representable (Walked walked) = Unit {0}
 Representable (Freed slot n) = Unit {0}
 Representable (Refused n) = n < 100
+Representable (Picked slot) = Unit {0}
 
 pitch-back : (v : ℤ) → PitchFitsWord v → pitchOf (pitchNumber v) ≡ v
 pitch-back (pos n) l = rw (lt-ltb n HALF l) refl
@@ -91,6 +93,7 @@ refused-back n l =
       ne-eqb n 112 (λ z. omega arith),
       ne-eqb n 113 (λ z. omega arith),
       ne-eqb n 114 (λ z. omega arith),
+      ne-eqb n 115 (λ z. omega arith),
     ) refl
 
 pub reply-back : (a : Reply) → Representable a → replyOf (numbersOf a) ≡ a
@@ -107,6 +110,7 @@ reply-back Shared h = refl
 reply-back (Walked walked) h = walk-back walked
 reply-back (Freed slot n) h = refl
 reply-back (Refused n) h = refused-back n h
+reply-back (Picked slot) h = refl
 
 pub numbers-injective : (a a′ : Reply) → Representable a → Representable a′ → numbersOf a ≡ numbersOf a′ → a ≡ a′
 numbers-injective a a′ h h′ e = sym (reply-back a h) ∙ (ap replyOf e ∙ reply-back a′ h′)

@@ -27,6 +27,8 @@ pub const SLOTS_MIN: u16 = 2;
 pub const SLOTS_MAX: u16 = 32;
 // Entries of one table.
 pub const TABLE: usize = 32;
+// A participant may have so many slots deferred.
+pub const DEFERRED_MAX: u64 = 8;
 // The greatest number of 64 bits.
 pub const NUMBER_MAX: u64 = 18446744073709551615;
 // What a fresh reader has published, and what LEAVE of the new store publishes.
@@ -35,10 +37,12 @@ pub const NOT_READING: u64 = 18446744073709551615;
 // The format of words and entries. A release that changes them and not the number of words raises it by one.
 pub const FORMAT: u64 = 1;
 
-// The kind word of a store's words: 16 times the format, and 1 for new, 2 for old. So a store or a caller of another format is refused.
+// The kind word of a store's words: 16 times the format, and 1 for new, 2 for old, 3 for rest. So a store or a caller of another format is refused.
 pub const KIND_NEW: u64 = 17;
 
 pub const KIND_OLD: u64 = 18;
+
+pub const KIND_REST: u64 = 19;
 
 // The places of a reader. The section is open at 4 and 5; the old store has no 2 and 3.
 pub const PLACE_OUT: u64 = 0;
@@ -69,6 +73,9 @@ pub const PLACE_QUIET: u64 = 36;
 pub const PLACE_RAISED: u64 = 37;
 
 pub const PLACE_RETURNED: u64 = 38;
+
+// In a kind whose loops never enter a section a publisher at 35 has raised the epoch, and its former slot is not yet queued.
+pub const PLACE_DEFERRING: u64 = 35;
 
 // Refusal numbers.
 pub const DAMAGED: u64 = 1;
@@ -111,6 +118,10 @@ pub const BAD_TABLE_PITCH: u64 = 41;
 
 pub const BAD_TABLE_STEP: u64 = 42;
 
+pub const EPOCH_IS_LAST: u64 = 43;
+
+pub const TOO_MANY_DEFERRED: u64 = 44;
+
 // The codes of accepted replies for C, in document 01's order of replies.
 pub const CODE_MADE: u64 = 100;
 
@@ -142,6 +153,8 @@ pub const CODE_RETURNED: u64 = 113;
 
 pub const CODE_FREED: u64 = 114;
 
+pub const CODE_PICKED: u64 = 115;
+
 // Reader calls name a reader r, publisher calls a publisher p.
 pub enum Call {
     Enter(u16),
@@ -158,6 +171,10 @@ pub enum Call {
     // p, and how many looks it may make
     Walk(u16, u16),
     Release(u16),
+    // Of kinds whose loops never enter a section.
+    Pick(u16),
+    Checkpoint(u16),
+    Defer(u16),
 }
 
 // What a walk replies.
@@ -172,7 +189,7 @@ pub enum WalkReply {
 
 pub enum Reply {
     Made,
-    // the place
+    // the place, or a checkpoint's step
     At(u64),
     Pitch(Pitch),
     Left,
@@ -191,6 +208,8 @@ pub enum Reply {
     Freed(u64, u64),
     // document 01's number
     Refused(u64),
+    // the slot
+    Picked(u64),
 }
 
 // A reply as C gets it, three numbers of 64 bits; `numbersOf` in specs/ says which.

@@ -4,7 +4,7 @@ use mathlib.Core.List.{List, [], _∷_, _++_}
 use Rattle.base.specs.Rows.{anyBelow}
 use Rattle.calls.specs.declared.Call.the-variants.{Enter, Claim}
 use Rattle.calls.specs.declared.Reply.the-variants.{At, Refused}
-use Rattle.calls.specs.Numbers.{KIND-NEW}
+use Rattle.calls.specs.Numbers.{KIND-NEW, NOT-READING}
 use Rattle.calls.specs.FirstTable.{tables}
 use Rattle.layout.specs.Layout.{readerAt, publisherAt, withReader, withPublisher, withReaders, freshWords}
 use Rattle.statement.specs.Machine.{State}
@@ -31,11 +31,11 @@ kindCases =
 unfoldable pub clauses : List Case
 clauses = kindCases ++ sharedCases 18446744073709551614
 
-pub fresh-spelled : freshOf GraceVersion small ≡ spelled KIND-NEW
+pub fresh-spelled : freshOf GraceVersion small ≡ spelled KIND-NEW NOT-READING
 unfolding withReader withReaders freshWords anyBelow making tables
 fresh-spelled = refl
 
-on-spelled : AllHold (casesOn GraceVersion (spelled KIND-NEW) clauses)
+on-spelled : AllHold (casesOn GraceVersion (spelled KIND-NEW NOT-READING) clauses)
 unfolding clauses readerAt publisherAt withReader withPublisher withReaders freshWords anyBelow damaged onward looksFrom step making tables
 on-spelled = (refl, (refl, (refl, (refl, (refl, (refl, (refl, (refl, (refl, (refl, (refl, (refl, (refl, (refl, (refl, (refl, (refl, (refl, (refl, (refl, (refl, (refl, (refl, (refl, (refl, (refl, (refl, (refl, (refl, (refl, (refl, (refl, (refl, (refl, (refl, (refl, (refl, (refl, (refl, (refl, (refl, (refl, tt))))))))))))))))))))))))))))))))))))))))))
 

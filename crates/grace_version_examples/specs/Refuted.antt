@@ -10,7 +10,7 @@ use Rattle.base.specs.Rows.{anyBelow}
 use Rattle.calls.specs.declared.Call.{Call}
 use Rattle.calls.specs.declared.Call.the-variants.{Enter, Look, Sync, Raise, Walk}
 use Rattle.calls.specs.declared.Reply.{Reply}
-use Rattle.calls.specs.declared.Reply.the-variants.{Made, At, Pitch, Left, Claimed, Written, Swapped, Synced, Raised, Shared, Walked, Freed, Refused}
+use Rattle.calls.specs.declared.Reply.the-variants.{Made, At, Pitch, Left, Claimed, Written, Swapped, Synced, Raised, Shared, Walked, Freed, Refused, Picked}
 use Rattle.calls.specs.Numbers.{TABLE, PLACE-PUBLISHED, PLACE-OPEN}
 use Rattle.calls.specs.Events.{Event}
 use Rattle.calls.specs.Events.Event.{_⇒_}
@@ -26,6 +26,7 @@ use Rattle.publication_law.specs.Table.{damaged, step, making, machine}
 use Rattle.publication_law.specs.SectionRules.{SectionRules, tableBy}
 use Rattle.publication_law.specs.Varied.{varied}
 use Rattle.grace_version_law.specs.Steps.{onward, walkResult, looksFrom, fixed, rules, GraceVersion}
+use Rattle.grace_version_law.specs.Traits.{traits}
 use Rattle.grace_version_law.specs.Promises.{new-demand3}
 
 -- One reader, one publisher, two slots, version 0.
@@ -51,6 +52,7 @@ feathered Shared = Shared
 feathered (Walked walked) = Walked walked
 feathered (Freed slot n) = Freed slot n
 feathered (Refused n) = Refused n
+feathered (Picked slot) = Picked slot
 
 pub AlwaysFeathered : Machine
 unfolding feathered
@@ -88,7 +90,7 @@ slot0Alone z o = outcome (o .reply) (state (o .after .words) (z .table ++ replic
 pub Slot0Alone : Machine
 Slot0Alone = record { making = λ z s. slot0Alone z (making rules z s); step = step rules }
 
-pub slot-0-alone-refuted : MakesFresh Slot0Alone → ⊥
+pub slot-0-alone-refuted : MakesFresh Slot0Alone (traits .every) → ⊥
 unfolding Slot0Alone small readerAt publisherAt withReader withPublisher withReaders freshWords anyBelow damaged step making tables
 slot-0-alone-refuted promise =
     let found : pos 0 ≡ pos 90000 = promise (Slot0Alone .making small (lentFor small) .after) (record { arguments = small; lent = lentFor small; made = refl }) .entries-are 1 0 (omega arith) (omega arith) in

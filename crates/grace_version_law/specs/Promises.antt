@@ -20,7 +20,7 @@ use Rattle.calls.specs.Events.{accepted}
 use Rattle.calls.specs.Tally.{tallyOf}
 use Rattle.layout.specs.declared.WalkResult.{WalkResult}
 use Rattle.layout.specs.Layout.{readers, publishers, slots, current, readerAt}
-use Rattle.statement.specs.Machine.{State, Given, Fresh, events, afterAll, heldSlot}
+use Rattle.statement.specs.Machine.{State, Given, Fresh, events, afterAll, holdsSlot}
 use Rattle.statement.specs.Demand3.{Demand3}
 use Rattle.statement.specs.KeptInvariant.{Ghost, ghost₀, all-tally}
 use Rattle.statement.specs.FreeSlot.{FindsFreeSlot}
@@ -43,7 +43,7 @@ pub new-promises : Promises rules traits
 new-promises = promises-of fixed traits kind-shows
 
 pub new-demand3 : Demand3 GraceVersion (λ z. z .table)
-new-demand3 = new-promises .demand3
+new-demand3 = new-promises .every .demand3
 
 pub new-walk-zero : (s : State) (p : ℕ) → step rules s (Walk p 0) .reply ≡ Walked Spent → step rules s (Walk p 0) .after ≡ s
 new-walk-zero = new-promises .walk-zero
@@ -73,18 +73,18 @@ pub data ClaimRefusal (s : State) (p slot : ℕ) : ℕ → Type 0 where
   wrong-turn : publisher s p .place ≢ PLACE-IDLE → ClaimRefusal s p slot 21
   in-use : InUse s slot → ClaimRefusal s p slot 30
 
-in-use-why : (s : State) (slot : ℕ) → inUse s slot ≡ true → InUse s slot
+in-use-why : (s : State) (slot : ℕ) → inUse false s slot ≡ true → InUse s slot
 in-use-why s slot e = go (eqb (current (s .words)) slot) refl e
   where
-    go : (test : Bool) → eqb (current (s .words)) slot ≡ test → (test || anyBelow (λ q. heldSlot s q slot) (publishers (s .words))) ≡ true → InUse s slot
+    go : (test : Bool) → eqb (current (s .words)) slot ≡ test → (test || anyBelow (λ q. holdsSlot false s q slot) (publishers (s .words))) ≡ true → InUse s slot
     go true d e = inl (eqb-true _ _ d)
     go false d e =
-        let found = any-below (λ q. heldSlot s q slot) (publishers (s .words)) e in
+        let found = any-below (λ q. holdsSlot false s q slot) (publishers (s .words)) e in
         let parts = and-true (not (eqb (publisher s (found .0) .place) PLACE-IDLE)) (eqb (publisher s (found .0) .held) slot) (found .2) in
         inr (found .0, found .1, eqb-false _ _ (not-true _ (parts .0)), eqb-true _ _ (parts .1))
 
 module _ (s : State) (p slot n : ℕ) (ne : n ≢ 0) where
-  claim-first : (unnamed no-slot-so late used : Bool) → leb (publishers (s .words)) p ≡ unnamed → leb (slots (s .words)) slot ≡ no-slot-so → not (eqb (publisher s p .place) PLACE-IDLE) ≡ late → inUse s slot ≡ used
+  claim-first : (unnamed no-slot-so late used : Bool) → leb (publishers (s .words)) p ≡ unnamed → leb (slots (s .words)) slot ≡ no-slot-so → not (eqb (publisher s p .place) PLACE-IDLE) ≡ late → inUse false s slot ≡ used
       → firstOf ((unnamed gives NO-SUCH-PUBLISHER) ∷ (no-slot-so gives NO-SUCH-SLOT) ∷ (late gives PUBLISHER-TURN) ∷ (false gives BUSY) ∷ (used gives SLOT-IN-USE) ∷ []) ≡ n → ClaimRefusal s p slot n
   claim-first true no-slot-so late used ea eb ec ed e = subst (ClaimRefusal s p slot) e (no-publisher (leb-true _ _ ea))
   claim-first false true late used ea eb ec ed e = subst (ClaimRefusal s p slot) e (no-slot (leb-true _ _ eb))
@@ -96,7 +96,7 @@ pub new-claim-refusals : (s : State) (p slot n : ℕ) → damaged rules s ≡ fa
 unfolding step
 new-claim-refusals s p slot n no-damage e =
     let why = decide-why (rows rules s (Claim p slot)) (rules .act s (Claim p slot)) s n refl e in
-    claim-first s p slot n (why .1) (leb (publishers (s .words)) p) (leb (slots (s .words)) slot) (not (eqb (publisher s p .place) PLACE-IDLE)) (inUse s slot) refl refl refl refl (rw no-damage at (why .0))
+    claim-first s p slot n (why .1) (leb (publishers (s .words)) p) (leb (slots (s .words)) slot) (not (eqb (publisher s p .place) PLACE-IDLE)) (inUse false s slot) refl refl refl refl (rw no-damage at (why .0))
 
 -- A WALK waits only for a reader that has published a version and not left since: never for one that never entered.
 waiting-below : (w : List ℕ) (n mark start b nx lk wt r : ℕ) (a : WalkReply) → Ends w n mark start b nx lk wt a → a ≡ Waiting r → (r ≡ lookedAt n nx) × (nx < n) × (readerAt w r .published < mark)
@@ -128,7 +128,7 @@ waits-published z g s i p b r e =
 
 pub new-waits-for : (s : State) (f : Fresh GraceVersion s) (cs : List Call) (p b r : ℕ)
     → step rules (afterAll GraceVersion s cs) (Walk p b) .reply ≡ Walked (Waiting r) → PLACE-PUBLISHED ≤ tallyOf (events GraceVersion s cs) .place r
-new-waits-for s f cs p b r e = rw (← all-tally (ghost₀ (traits .every .firstTable (f .arguments))) (events GraceVersion s cs)) (waits-published _ _ _ (new-reached s f cs) p b r e)
+new-waits-for s f cs p b r e = rw (← all-tally (ghost₀ (f .arguments .readers) (traits .every .firstTable (f .arguments))) (events GraceVersion s cs)) (waits-published _ _ _ (new-reached s f cs) p b r e)
 
 -- With more slots than publishers, an idle publisher always finds a free slot, and its claim of that slot is accepted.
 pub new-finds-free-slot : FindsFreeSlot GraceVersion

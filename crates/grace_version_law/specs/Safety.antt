@@ -252,7 +252,10 @@ kind-shows = record {
   kind-law = law;
   first-is = refl;
   lacks-is = λ c. refl;
+  apart-is = refl;
+  none-retired = refl;
   exclusive-is = refl;
+  no-participants = refl;
   successor-is = refl;
   raises-in = λ phase. refl;
   walks-in = λ phase. refl;
@@ -264,7 +267,7 @@ kind-shows = record {
   no-looks = no-looks;
   KindInvariant = invariantOf detector;
   start-own = λ z s f. start-own detector KIND-NEW freshReader z s (start-shown z s (f .readers-high));
-  fresh-is = refl;
+  fresh-is = λ z. refl;
   fresh-reader-fits = λ rs ss. refl;
   no-further = λ z g s i. refl;
   early-own = early-own detector;
@@ -286,6 +289,6 @@ kind-shows = record {
 
 -- The invariant after every list from fresh.
 pub new-reached : (s : State) (f : Fresh GraceVersion s) (cs : List Call)
-    → WholeInvariant damageRules (invariantOf detector) (f .arguments) (kept.afterEvents (kept.ghost₀ (traits .every .firstTable (f .arguments))) (events GraceVersion s cs)) (afterAll GraceVersion s cs)
+    → WholeInvariant damageRules (invariantOf detector) (f .arguments) (kept.afterEvents (kept.ghost₀ (f .arguments .readers) (traits .every .firstTable (f .arguments))) (events GraceVersion s cs)) (afterAll GraceVersion s cs)
 unfolding kind-shows
 new-reached s f cs = reached fixed traits kind-shows s f cs

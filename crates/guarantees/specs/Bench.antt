@@ -7,7 +7,7 @@ use mathlib.Core.Path.{_≡_, refl, _∙_}
 use mathlib.Core.List.{List, [], _∷_, _++_}
 use lib.Seq.{getD-set-other}
 use Rattle.base.specs.Rows.{anyBelow}
-use Rattle.calls.specs.Numbers.{KIND-NEW, KIND-OLD}
+use Rattle.calls.specs.Numbers.{KIND-NEW, KIND-OLD, KIND-REST}
 use Rattle.layout.specs.declared.Publisher.{Publisher}
 use Rattle.layout.specs.Layout.{READERS-AT, PUBLISHERS-AT, SLOTS-AT, CURRENT-AT, VERSION-AT, INDICATORS-AT, kindWord}
 use Rattle.layout.specs.Laws.{head-reader, head-publisher, fresh-head}
@@ -25,17 +25,21 @@ use Rattle.grace_version_examples.specs.DamageCases as new-cases
 use Rattle.two_phase_examples.specs.Examples as old-store
 use Rattle.two_phase_examples.specs.Precedence as old-order
 use Rattle.two_phase_examples.specs.DamageCases as old-cases
+use Rattle.qsbr_examples.specs.Examples as rest-store
+use Rattle.qsbr_examples.specs.Precedence as rest-order
+use Rattle.qsbr_examples.specs.DamageCases as rest-cases
+use Rattle.qsbr_examples.specs.Carried as carried
 use Rattle.kinds_law.specs.Kinds.{Kind, kindNumber, store}
-use Rattle.kinds_law.specs.Kinds.Kind.{new, old}
+use Rattle.kinds_law.specs.Kinds.Kind.{new, old, rest}
 use Rattle.kinds_law.specs.Calls.{step-named}
 use Rattle.sheet_law.specs.Example.{P1-sheet, P1-printed}
 use Rattle.card_law.specs.Card.{sheetOn}
 use Rattle.card_law.specs.CardSheet.{P1-card, p1-from-bytes}
 use Rattle.guarantees.specs.ByKind.{storeOf, alike}
 
--- P1 to P4, P6 to P12 of the new store; P5, P6 and P9 to P11 of the old; of each one whole publication and what ENTER loads; and the order of a new walk's readers.
+-- P1 to P4, P6 to P12 of the new store; P5, P6 and P9 to P11 of the old; of each one whole publication and what ENTER loads; the order of a new walk's readers; and the examples of rest.
 abbrev pub examples : List Example
-examples = allBy (store KIND-NEW) new-store.examples ++ allBy (store KIND-OLD) old-store.examples
+examples = allBy (store KIND-NEW) new-store.examples ++ (allBy (store KIND-OLD) old-store.examples ++ allBy (store KIND-REST) rest-store.examples)
 
 new-begin : AllCarry (storeOf new) (store KIND-NEW) new-store.examples
 unfolding new-store.examples
@@ -45,10 +49,16 @@ old-begin : AllCarry (storeOf old) (store KIND-OLD) old-store.examples
 unfolding old-store.examples
 old-begin = ((refl, refl), (refl, ((refl, refl), ((refl, refl), ((refl, refl), ((refl, refl), ((refl, refl), tt)))))))
 
+-- Words with the number of rest have its steps.
+rest-named : (s : State) → kindWord (s .words) ≡ KIND-REST → SameAt (storeOf rest) (store KIND-REST) s
+rest-named s e c = step-named rest s c e
+
 replies : AllHold examples
-replies = all-hold-append (allBy (store KIND-NEW) new-store.examples) (allBy (store KIND-OLD) old-store.examples)
+replies = all-hold-append (allBy (store KIND-NEW) new-store.examples) (allBy (store KIND-OLD) old-store.examples ++ allBy (store KIND-REST) rest-store.examples)
     (all-hold-alike (storeOf new) (store KIND-NEW) (alike new) new-store.examples new-begin new-store.bench)
+    (all-hold-append (allBy (store KIND-OLD) old-store.examples) (allBy (store KIND-REST) rest-store.examples)
     (all-hold-alike (storeOf old) (store KIND-OLD) (alike old) old-store.examples old-begin old-store.bench)
+    (all-hold-alike (storeOf rest) (store KIND-REST) (alike rest) rest-store.examples (carried.examples-carry (store KIND-REST) rest-named) rest-store.bench))
 
 -- All of them hold, and the sheet of P1 with its card prints what document 01 says, byte for byte.
 pub bench : AllHold examples × (sheetOn P1-card P1-sheet ≡ P1-printed)
@@ -56,7 +66,7 @@ bench = (replies, p1-from-bytes)
 
 -- The order of the refusals.
 abbrev pub inOrder : List Example
-inOrder = allBy (store KIND-NEW) new-order.inOrder ++ allBy (store KIND-OLD) old-order.inOrder
+inOrder = allBy (store KIND-NEW) new-order.inOrder ++ (allBy (store KIND-OLD) old-order.inOrder ++ allBy (store KIND-REST) rest-order.inOrder)
 
 -- The kind word of a fresh store; a state put together from one by hand has it too, and so its kind's own steps.
 new-kind : kindWord (freshOf (storeOf new) small .words) ≡ kindNumber new
@@ -82,22 +92,24 @@ new-in-order : AllCarry (storeOf new) (store KIND-NEW) new-order.inOrder
 unfolding new-order.inOrder
 new-in-order =
     let s = freshOf (storeOf new) small in
-    ((refl, refl), (refl, (refl, (refl, (refl, (refl, (refl, (refl, (refl, (refl, (refl, (refl, (refl, (refl, (refl, (refl, (refl, (refl, (refl, (refl, (refl, (refl, (refl, (refl, (refl, (refl, (refl, ((refl, put-current new s new-kind 2), ((refl, refl), ((refl, put-publisher new s new-kind 0 (looked 38 18446744073709551615)), ((refl, put-publisher new s new-kind 0 (looked 37 18446744073709551615)), ((refl, put-publisher new s new-kind 0 (looked 37 18446744073709551614)), ((refl, refl), ((refl, refl), ((refl, refl), ((refl, refl), ((refl, refl), ((refl, refl), tt))))))))))))))))))))))))))))))))))))))
+    ((refl, refl), (refl, (refl, (refl, (refl, (refl, (refl, (refl, (refl, (refl, (refl, (refl, (refl, (refl, (refl, (refl, (refl, (refl, (refl, (refl, (refl, (refl, (refl, (refl, (refl, (refl, (refl, (refl, ((refl, put-current new s new-kind 2), ((refl, refl), ((refl, put-publisher new s new-kind 0 (looked 38 18446744073709551615)), ((refl, put-publisher new s new-kind 0 (looked 37 18446744073709551615)), ((refl, put-publisher new s new-kind 0 (looked 37 18446744073709551614)), ((refl, refl), ((refl, refl), ((refl, refl), ((refl, refl), ((refl, refl), ((refl, refl), tt)))))))))))))))))))))))))))))))))))))))
 
 old-in-order : AllCarry (storeOf old) (store KIND-OLD) old-order.inOrder
 unfolding old-order.inOrder
 old-in-order =
     let s = freshOf (storeOf old) small in
-    ((refl, refl), ((refl, put-publisher old old-order.oneClaimed one-claimed-kind 1 (old-order.claimed 2)), (refl, (refl, (refl, (refl, (refl, (refl, (refl, (refl, (refl, (refl, (refl, (refl, (refl, (refl, (refl, (refl, (refl, (refl, (refl, (refl, (refl, (refl, (refl, (refl, (refl, (refl, ((refl, put-current old s old-kind 2), ((refl, refl), ((refl, put-publisher old s old-kind 0 (looked 38 18446744073709551615)), ((refl, put-publisher old s old-kind 0 (looked 37 18446744073709551615)), ((refl, put-publisher old s old-kind 0 (looked 37 18446744073709551614)), ((refl, refl), ((refl, refl), ((refl, refl), ((refl, refl), ((refl, refl), ((refl, refl), tt)))))))))))))))))))))))))))))))))))))))
+    ((refl, refl), ((refl, put-publisher old old-order.oneClaimed one-claimed-kind 1 (old-order.claimed 2)), (refl, (refl, (refl, (refl, (refl, (refl, (refl, (refl, (refl, (refl, (refl, (refl, (refl, (refl, (refl, (refl, (refl, (refl, (refl, (refl, (refl, (refl, (refl, (refl, (refl, (refl, (refl, ((refl, put-current old s old-kind 2), ((refl, refl), ((refl, put-publisher old s old-kind 0 (looked 38 18446744073709551615)), ((refl, put-publisher old s old-kind 0 (looked 37 18446744073709551615)), ((refl, put-publisher old s old-kind 0 (looked 37 18446744073709551614)), ((refl, refl), ((refl, refl), ((refl, refl), ((refl, refl), ((refl, refl), ((refl, refl), tt))))))))))))))))))))))))))))))))))))))))
 
 pub precedence : AllHold inOrder
-precedence = all-hold-append (allBy (store KIND-NEW) new-order.inOrder) (allBy (store KIND-OLD) old-order.inOrder)
+precedence = all-hold-append (allBy (store KIND-NEW) new-order.inOrder) (allBy (store KIND-OLD) old-order.inOrder ++ allBy (store KIND-REST) rest-order.inOrder)
     (all-hold-alike (storeOf new) (store KIND-NEW) (alike new) new-order.inOrder new-in-order new-order.precedence)
+    (all-hold-append (allBy (store KIND-OLD) old-order.inOrder) (allBy (store KIND-REST) rest-order.inOrder)
     (all-hold-alike (storeOf old) (store KIND-OLD) (alike old) old-order.inOrder old-in-order old-order.precedence)
+    (all-hold-alike (storeOf rest) (store KIND-REST) (alike rest) rest-order.inOrder (carried.in-order-carry (store KIND-REST) rest-named) rest-order.precedence))
 
 -- What damages a store, clause by clause.
 abbrev pub clauseExamples : List Example
-clauseExamples = allBy (store KIND-NEW) (cases (storeOf new) new-cases.clauses) ++ allBy (store KIND-OLD) (cases (storeOf old) old-cases.clauses)
+clauseExamples = allBy (store KIND-NEW) (cases (storeOf new) new-cases.clauses) ++ (allBy (store KIND-OLD) (cases (storeOf old) old-cases.clauses) ++ allBy (store KIND-REST) (rest-cases.cases (storeOf rest) rest-cases.clauses))
 
 -- No change by hand is one of the kind word.
 change-kind : (d : Change) (s : State) → kindWord (change d s .words) ≡ kindWord (s .words)
@@ -115,11 +127,13 @@ changed-kind : (ds : List Change) (s : State) → kindWord (changed ds s .words)
 changed-kind [] s = refl
 changed-kind (d ∷ ds) s = changed-kind ds (change d s) ∙ change-kind d s
 
-cases-carry : (kind : Kind) (s : State) → kindWord (s .words) ≡ kindNumber kind → (rest : List Case) → AllCarry (storeOf kind) (store (kindNumber kind)) (casesOn (storeOf kind) s rest)
+cases-carry : (kind : Kind) (s : State) → kindWord (s .words) ≡ kindNumber kind → (list : List Case) → AllCarry (storeOf kind) (store (kindNumber kind)) (casesOn (storeOf kind) s list)
 cases-carry kind s e [] = tt
-cases-carry kind s e (on ds c a ∷ rest) = ((refl, λ call. step-named kind (changed ds s) call (changed-kind ds s ∙ e)), cases-carry kind s e rest)
+cases-carry kind s e (on ds c a ∷ list) = ((refl, λ call. step-named kind (changed ds s) call (changed-kind ds s ∙ e)), cases-carry kind s e list)
 
 pub damage-cases : AllHold clauseExamples
-damage-cases = all-hold-append (allBy (store KIND-NEW) (cases (storeOf new) new-cases.clauses)) (allBy (store KIND-OLD) (cases (storeOf old) old-cases.clauses))
+damage-cases = all-hold-append (allBy (store KIND-NEW) (cases (storeOf new) new-cases.clauses)) (allBy (store KIND-OLD) (cases (storeOf old) old-cases.clauses) ++ allBy (store KIND-REST) (rest-cases.cases (storeOf rest) rest-cases.clauses))
     (all-hold-alike (storeOf new) (store KIND-NEW) (alike new) (cases (storeOf new) new-cases.clauses) (cases-carry new (freshOf (storeOf new) small) new-kind new-cases.clauses) new-cases.damage-cases)
+    (all-hold-append (allBy (store KIND-OLD) (cases (storeOf old) old-cases.clauses)) (allBy (store KIND-REST) (rest-cases.cases (storeOf rest) rest-cases.clauses))
     (all-hold-alike (storeOf old) (store KIND-OLD) (alike old) (cases (storeOf old) old-cases.clauses) (cases-carry old (freshOf (storeOf old) small) old-kind old-cases.clauses) old-cases.damage-cases)
+    (all-hold-alike (storeOf rest) (store KIND-REST) (alike rest) (rest-cases.cases (storeOf rest) rest-cases.clauses) (carried.clauses-carry (store KIND-REST) rest-named change-kind) rest-cases.damage-cases))

@@ -14,39 +14,57 @@ use Rattle.calls.specs.declared.Call.{Call}
 use Rattle.calls.specs.declared.Reply.the-variants.{Refused}
 use Rattle.calls.specs.Events.{accepted}
 use Rattle.calls.specs.ReplyNumbersLaws.{PitchFitsWord, Representable}
-use Rattle.calls.specs.Numbers.{KIND-NEW, KIND-OLD}
+use Rattle.calls.specs.Numbers.{KIND-NEW, KIND-OLD, KIND-REST}
 use Rattle.statement.specs.Machine.{State, Outcome, Given, Machine, Fresh, afterAll}
 use Rattle.statement.specs.Demand3.{Demand3}
 use Rattle.statement.specs.Frame.{Frame}
-use Rattle.statement.specs.Companions.{GraceTraits}
+use Rattle.statement.specs.Companions.{Traits, GraceTraits}
 use Rattle.statement.specs.Alike.{Alike}
 use Rattle.publication_law.specs.Table.{step, making, machine}
 use Rattle.publication_law.specs.Calls.{undamaged-facts}
 use Rattle.publication_law.specs.Frames.{same-framed}
-use Rattle.publication_law.specs.Promises.{Promises}
+use Rattle.publication_law.specs.Promises.{EveryPromises, Promises}
 use Rattle.grace_version_law.specs.Traits as new-traits
 use Rattle.grace_version_law.specs.Promises as new-law
 use Rattle.two_phase_law.specs.Traits as old-traits
 use Rattle.two_phase_law.specs.Promises as old-law
+use Rattle.qsbr_law.specs.Traits as rest-traits
+use Rattle.qsbr_law.specs.Promises as rest-law
 use Rattle.kinds_law.specs.Kinds.{Kind, tableOf, kindNumber, stepOf, makingOf, store}
-use Rattle.kinds_law.specs.Kinds.Kind.{new, old}
+use Rattle.kinds_law.specs.Kinds.Kind.{new, old, rest}
 use Rattle.kinds_law.specs.Calls.{number-is, step-named, making-named, making-unknown}
 
 -- A kind by itself.
 abbrev pub storeOf : Kind → Machine
 storeOf kind = machine (tableOf kind)
 
-abbrev pub traits : Kind → GraceTraits
-traits new = new-traits.traits
-traits old = old-traits.traits
+abbrev pub traits : Kind → Traits
+traits new = new-traits.traits .every
+traits old = old-traits.traits .every
+traits rest = rest-traits.traits
 
-pub kind-promises : (kind : Kind) → Promises (tableOf kind) (traits kind)
-kind-promises new = new-law.new-promises
-kind-promises old = old-law.old-promises
+pub kind-promises : (kind : Kind) → EveryPromises (tableOf kind) (traits kind)
+kind-promises new = new-law.new-promises .every
+kind-promises old = old-law.old-promises .every
+kind-promises rest = rest-law.rest-promises
 
 pub kind-demand3 : (kind : Kind) → Demand3 (storeOf kind) (λ z. z .table)
 kind-demand3 new = new-law.new-demand3
 kind-demand3 old = old-law.old-demand3
+kind-demand3 rest = rest-law.rest-promises .demand3
+
+-- The kinds with sections, SYNC and WALK.
+pub data GraceKind : Kind → Type 0 where
+  grace-new : GraceKind new
+  grace-old : GraceKind old
+
+abbrev pub graceTraits : (kind : Kind) → GraceKind kind → GraceTraits
+graceTraits new grace-new = new-traits.traits
+graceTraits old grace-old = old-traits.traits
+
+pub grace-promises : (kind : Kind) (grace : GraceKind kind) → Promises (tableOf kind) (graceTraits kind grace)
+grace-promises new grace-new = new-law.new-promises
+grace-promises old grace-old = old-law.old-promises
 
 -- The store of a kind's number is alike.
 pub alike : (kind : Kind) → Alike (storeOf kind) (store (kindNumber kind))
@@ -61,12 +79,13 @@ no-store n e s f = clash (sym (ap (λ (o : Outcome). accepted (o .reply)) (f .ma
 
 -- What holds of the store of each kind's number, and of a number with no fresh store, holds of every number.
 pub by-number : (Q : ℕ → Type 0) → ((kind : Kind) → Q (kindNumber kind)) → ((n : ℕ) → ((s : State) → Fresh (store n) s → ⊥) → Q n) → (n : ℕ) → Q n
-by-number Q each otherwise n = go (eqb n KIND-NEW) (eqb n KIND-OLD) refl refl
+by-number Q each otherwise n = go (eqb n KIND-NEW) (eqb n KIND-OLD) (eqb n KIND-REST) refl refl refl
   where
-    go : (is-new is-old : Bool) → eqb n KIND-NEW ≡ is-new → eqb n KIND-OLD ≡ is-old → Q n
-    go true is-old d e = subst Q (sym (eqb-true n KIND-NEW d)) (each new)
-    go false true d e = subst Q (sym (eqb-true n KIND-OLD e)) (each old)
-    go false false d e = otherwise n (no-store n (λ z s. ap (λ (o : Outcome). accepted (o .reply)) (sym (making-unknown n z s (eqb-false n KIND-NEW d) (eqb-false n KIND-OLD e)))))
+    go : (is-new is-old is-rest : Bool) → eqb n KIND-NEW ≡ is-new → eqb n KIND-OLD ≡ is-old → eqb n KIND-REST ≡ is-rest → Q n
+    go true is-old is-rest d e f = subst Q (sym (eqb-true n KIND-NEW d)) (each new)
+    go false true is-rest d e f = subst Q (sym (eqb-true n KIND-OLD e)) (each old)
+    go false false true d e f = subst Q (sym (eqb-true n KIND-REST f)) (each rest)
+    go false false false d e f = otherwise n (no-store n (λ z s. ap (λ (o : Outcome). accepted (o .reply)) (sym (making-unknown n z s (eqb-false n KIND-NEW d) (eqb-false n KIND-OLD e) (eqb-false n KIND-REST f)))))
 
 -- What holds of every state: of each kind's own step and making, and of words of no kind, where all is refused.
 abbrev pub Chosen : Option Kind → Machine

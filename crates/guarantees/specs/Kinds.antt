@@ -2,14 +2,14 @@
 -- the kind word tells, which are the steps that the contracts of `kinds` cite. Assumes nothing.
 use Prim.Native.Nat.{ℕ, _+_, _*_, _<_, _≤_}
 use native.Mathlib.Omega.{arith}
-use mathlib.Core.Path.{_≡_, refl, sym}
+use mathlib.Core.Path.{_≡_, refl, sym, _∙_}
 use mathlib.Core.Logic.{_≢_}
 use mathlib.Core.Bool.{true, false}
 use mathlib.Core.List.{List}
 use lib.IntN.{ℤ, pos}
 use lib.ListN.{getD, replicate}
 use Rattle.calls.specs.declared.Call.{Call}
-use Rattle.calls.specs.declared.Call.the-variants.{Enter, Leave, Claim, Sync, Raise, Walk}
+use Rattle.calls.specs.declared.Call.the-variants.{Enter, Leave, Claim, Sync, Raise, Walk, Release, Pick, Checkpoint, Defer}
 use Rattle.calls.specs.declared.Reply.the-variants.{Walked, Refused}
 use Rattle.calls.specs.declared.WalkReply.the-variants.{Waiting, Spent}
 use Rattle.calls.specs.ReplyNumbersLaws.{PitchFitsWord, Representable}
@@ -21,12 +21,14 @@ use Rattle.statement.specs.Machine.{State, state, Given, outcome, Fresh, events
 use Rattle.statement.specs.Demand3.{Demand3}
 use Rattle.statement.specs.Frame.{Frame}
 use Rattle.statement.specs.Looks.{LooksInRange, FirstTableUntilSwap}
-use Rattle.statement.specs.Companions.{MakingAccepts, MakesFresh, RefusedLeaves, GraceCompanions}
+use Rattle.statement.specs.Companions.{MakingAccepts, MakesFresh, RefusedLeaves, Companions, GraceCompanions}
+use Rattle.statement.specs.Quiescent.{QuiescentCompanions, ObservedNeverFalls, FreesSurely, quiescent-alike, observed-alike, frees-surely-alike}
 use Rattle.statement.specs.FreeSlot.{FindsFreeSlot, finds-free-slot-alike}
-use Rattle.statement.specs.Alike.{fresh-alike, after-alike, events-alike, demand3-alike, grace-companions-alike, making-accepts-alike, makes-fresh-alike, looks-in-range-alike, first-table-until-swap-alike}
+use Rattle.statement.specs.Alike.{fresh-alike, after-alike, events-alike, demand3-alike, companions-alike, grace-companions-alike, making-accepts-alike, makes-fresh-alike, looks-in-range-alike, first-table-until-swap-alike}
 use Rattle.publication_law.specs.DamageLaws.{zero-damaged}
 use Rattle.publication_law.specs.Steps.{publisher}
 use Rattle.publication_law.specs.Table.{damaged}
+use Rattle.publication_law.specs.TableLaws.{lacked-refused}
 use Rattle.publication_law.specs.Calls.{undamaged-facts}
 use Rattle.publication_law.specs.Promises.{SyncFacts, RaiseFacts, WalkFacts}
 use Rattle.grace_version_law.specs.Steps as new-store
@@ -36,10 +38,13 @@ use Rattle.two_phase_law.specs.Steps as old-store
 use Rattle.two_phase_law.specs.Counts.{LookFacts}
 use Rattle.two_phase_law.specs.Promises as old-promises
 use Rattle.two_phase_law.specs.Readers as old-readers
+use Rattle.qsbr_law.specs.Promises as rest-promises
+use Rattle.qsbr_law.specs.Surely as rest-surely
+use Rattle.qsbr_law.specs.Facts as rest-facts
 use Rattle.kinds_law.specs.Kinds.{Kind, tableOf, kindNumber, kindOfNumber, anyStep, anyMaking, store}
-use Rattle.kinds_law.specs.Kinds.Kind.{new, old}
+use Rattle.kinds_law.specs.Kinds.Kind.{new, old, rest}
 use Rattle.kinds_law.specs.Calls.{step-named, step-unknown, making-unknown, any-making-leaves}
-use Rattle.guarantees.specs.ByKind.{storeOf, traits, kind-promises, kind-demand3, alike, by-number, publishesOf, chosen-leaves, chosen-frame, chosen-representable, chosen-representable-making}
+use Rattle.guarantees.specs.ByKind.{storeOf, traits, kind-promises, kind-demand3, GraceKind, graceTraits, grace-promises, alike, by-number, publishesOf, chosen-leaves, chosen-frame, chosen-representable, chosen-representable-making}
 
 -- Demand 3: after every list of calls from every accepted making, of whatever kind, looks, returns, slots and picks are as document 01 tells them.
 pub demand3 : (n : ℕ) → Demand3 (store n) (λ z. z .table)
@@ -58,41 +63,69 @@ first-table-until-swap = by-number (λ n. FirstTableUntilSwap (store n))
     (λ kind. first-table-until-swap-alike (storeOf kind) (store (kindNumber kind)) (alike kind) (kind-promises kind .first-table-until-swap))
     (λ n none s f. absurd (none s f))
 
--- The numbers of the kinds: 17 new, 18 old; that is 16 times the format, and 1 or 2.
-pub kind-numbers : (_≡_ {A = ℕ} (kindNumber new) 17) × (_≡_ {A = ℕ} (kindNumber old) 18)
-kind-numbers = (refl, refl)
+-- The numbers of the kinds: 17 new, 18 old, 19 rest; that is 16 times the format, and 1, 2 or 3.
+pub kind-numbers : (_≡_ {A = ℕ} (kindNumber new) 17) × (_≡_ {A = ℕ} (kindNumber old) 18) × (_≡_ {A = ℕ} (kindNumber rest) 19)
+kind-numbers = (refl, refl, refl)
 
-pub kind-numbers-of-format : (kindNumber new ≡ 16 * FORMAT + 1) × (kindNumber old ≡ 16 * FORMAT + 2)
-kind-numbers-of-format = (refl, refl)
+pub kind-numbers-of-format : (kindNumber new ≡ 16 * FORMAT + 1) × (kindNumber old ≡ 16 * FORMAT + 2) × (kindNumber rest ≡ 16 * FORMAT + 3)
+kind-numbers-of-format = (refl, refl, refl)
 
 -- Words of another format, whose kind word is 16 × format + i with i below 16, get 1: such as a store packed by a release before.
 -- So does a making for such a kind, as a caller compiled before asks for.
 module _ (format i : ℕ) (other : format ≢ FORMAT) (low : i < 16) where
   pub other-format-refused : (s : State) (c : Call) → kindWord (s .words) ≡ 16 * format + i → anyStep s c ≡ outcome (Refused DAMAGED) s
-  other-format-refused s c e = sym (step-unknown s c (sym e) (λ new-number. other (omega arith)) (λ old-number. other (omega arith)))
+  other-format-refused s c e = sym (step-unknown s c (sym e) (λ new-number. other (omega arith)) (λ old-number. other (omega arith)) (λ rest-number. other (omega arith)))
 
   pub other-format-not-made : (z : Given) (s : State) → anyMaking (16 * format + i) z s ≡ outcome (Refused DAMAGED) s
-  other-format-not-made z s = sym (making-unknown (16 * format + i) z s (λ new-number. other (omega arith)) (λ old-number. other (omega arith)))
+  other-format-not-made z s = sym (making-unknown (16 * format + i) z s (λ new-number. other (omega arith)) (λ old-number. other (omega arith)) (λ rest-number. other (omega arith)))
 
--- No kind lacks a call.
-pub none-lacked : (kind : Kind) (c : Call) → traits kind .every .lacks c ≡ false
-none-lacked new c = refl
-none-lacked old c = refl
+-- A call that the kind lacks gets 1 and changes nothing, whatever else the words hold: of new and old PICK, CHECKPOINT and DEFER, of rest those of sections and grace periods.
+pub lacked-calls : (kind : Kind) (s : State) (c : Call) → kindWord (s .words) ≡ kindNumber kind → traits kind .lacks c ≡ true → anyStep s c ≡ outcome (Refused DAMAGED) s
+lacked-calls kind s c is lacking = step-named kind s c is ∙ lacked-refused (tableOf kind) s c (sym (lacks-same kind c) ∙ lacking)
+  where
+    lacks-same : (kind : Kind) (c : Call) → traits kind .lacks c ≡ tableOf kind .lacks c
+    lacks-same new c = refl
+    lacks-same old c = refl
+    lacks-same rest c = refl
 
--- Its companions: never damaged, order, counts, whole tables, readers never wait, claims, publishers make progress, releases.
-pub companions : (kind : Kind) → GraceCompanions (store (kindNumber kind)) (traits kind)
-companions kind = grace-companions-alike (storeOf kind) (store (kindNumber kind)) (alike kind) (traits kind) (kind-promises kind .companions)
+pub new-lacks : (r : ℕ) → (traits new .lacks (Pick r) ≡ true) × (traits new .lacks (Checkpoint r) ≡ true) × (traits new .lacks (Defer r) ≡ true)
+new-lacks r = (refl, refl, refl)
+
+pub old-lacks : (r : ℕ) → (traits old .lacks (Pick r) ≡ true) × (traits old .lacks (Checkpoint r) ≡ true) × (traits old .lacks (Defer r) ≡ true)
+old-lacks r = (refl, refl, refl)
+
+pub rest-lacks : (r b : ℕ) → (traits rest .lacks (Enter r) ≡ true) × (traits rest .lacks (Leave r) ≡ true) × (traits rest .lacks (Sync r) ≡ true)
+    × (traits rest .lacks (Raise r) ≡ true) × (traits rest .lacks (Walk r b) ≡ true) × (traits rest .lacks (Release r) ≡ true)
+rest-lacks r b = (refl, refl, refl, refl, refl, refl)
+
+-- Its companions: never damaged, order, whole tables, looks, claims, writes and swaps.
+pub companions : (kind : Kind) → Companions (store (kindNumber kind)) (traits kind)
+companions kind = companions-alike (storeOf kind) (store (kindNumber kind)) (alike kind) (traits kind) (kind-promises kind .companions)
+
+-- .. and of the kinds with sections and grace periods: counts, readers never wait, publishers make progress, releases.
+pub grace-companions : (kind : Kind) (grace : GraceKind kind) → GraceCompanions (store (kindNumber kind)) (graceTraits kind grace)
+grace-companions kind grace = grace-companions-alike (storeOf kind) (store (kindNumber kind)) (alike kind) (graceTraits kind grace) (grace-promises kind grace .companions)
+
+-- .. and of rest: PICK, CHECKPOINT and DEFER are served, each in its turn alone; what was observed never falls; a deferred slot is surely freed.
+pub quiescent-companions : QuiescentCompanions (store (kindNumber rest)) (traits rest)
+quiescent-companions = quiescent-alike (storeOf rest) (store (kindNumber rest)) (alike rest) (traits rest) rest-promises.rest-quiescent
+
+pub observed-never-falls : ObservedNeverFalls (store (kindNumber rest))
+observed-never-falls = observed-alike (storeOf rest) (store (kindNumber rest)) (alike rest) rest-surely.observed-never-falls
+
+pub frees-surely : FreesSurely (store (kindNumber rest))
+frees-surely = frees-surely-alike (storeOf rest) (store (kindNumber rest)) (alike rest) rest-surely.frees-surely
 
 pub never-damaged : (kind : Kind) (s : State) → Fresh (store (kindNumber kind)) s → (cs : List Call) → damaged (tableOf kind) (afterAll (store (kindNumber kind)) s cs) ≡ false
 never-damaged kind s f cs = rw (after-alike (storeOf kind) (store (kindNumber kind)) (alike kind) s f cs) (kind-promises kind .never-damaged s (fresh-alike (storeOf kind) (store (kindNumber kind)) (alike kind) s f) cs)
 
 -- A making with every argument in its range is accepted.
-pub making-accepts : (kind : Kind) → MakingAccepts (store (kindNumber kind)) (traits kind .every)
-making-accepts kind = making-accepts-alike (storeOf kind) (store (kindNumber kind)) (alike kind) (traits kind .every) (kind-promises kind .making-accepts)
+pub making-accepts : (kind : Kind) → MakingAccepts (store (kindNumber kind)) (traits kind)
+making-accepts kind = making-accepts-alike (storeOf kind) (store (kindNumber kind)) (alike kind) (traits kind) (kind-promises kind .making-accepts)
 
 -- A fresh store is document 01's, number by number.
-pub makes-fresh : (kind : Kind) → MakesFresh (store (kindNumber kind))
-makes-fresh kind = makes-fresh-alike (storeOf kind) (store (kindNumber kind)) (alike kind) (kind-promises kind .makes-fresh)
+pub makes-fresh : (kind : Kind) → MakesFresh (store (kindNumber kind)) (traits kind)
+makes-fresh kind = makes-fresh-alike (storeOf kind) (store (kindNumber kind)) (alike kind) (traits kind) (kind-promises kind .makes-fresh)
 
 -- Demand 1 on the steps: a refused call or making changes nothing, whatever the words hold.
 pub refused-leaves : (n : ℕ) → RefusedLeaves (store n)
@@ -152,11 +185,21 @@ pub leave-facts-old : (s : State) (r : ℕ) → kindWord (s .words) ≡ kindNumb
 leave-facts-old s r is = rw (step-named old s (Leave r) is) (old-readers.old-leave-facts s r)
 
 -- What an accepted SYNC and an accepted RAISE reply and store, on words of each kind.
-pub sync-facts : (kind : Kind) (s : State) (p : ℕ) → kindWord (s .words) ≡ kindNumber kind → accepted (anyStep s (Sync p) .reply) ≡ true → SyncFacts (traits kind .successor) s p (anyStep s (Sync p))
-sync-facts kind s p is = rw (step-named kind s (Sync p) is) (kind-promises kind .sync-facts s p)
+pub sync-facts : (kind : Kind) (grace : GraceKind kind) (s : State) (p : ℕ) → kindWord (s .words) ≡ kindNumber kind → accepted (anyStep s (Sync p) .reply) ≡ true → SyncFacts (graceTraits kind grace .successor) s p (anyStep s (Sync p))
+sync-facts kind grace s p is = rw (step-named kind s (Sync p) is) (grace-promises kind grace .sync-facts s p)
 
-pub raise-facts : (kind : Kind) (s : State) (p : ℕ) → kindWord (s .words) ≡ kindNumber kind → accepted (anyStep s (Raise p) .reply) ≡ true → RaiseFacts (traits kind .successor) s p (anyStep s (Raise p))
-raise-facts kind s p is = rw (step-named kind s (Raise p) is) (kind-promises kind .raise-facts s p)
+pub raise-facts : (kind : Kind) (grace : GraceKind kind) (s : State) (p : ℕ) → kindWord (s .words) ≡ kindNumber kind → accepted (anyStep s (Raise p) .reply) ≡ true → RaiseFacts (graceTraits kind grace .successor) s p (anyStep s (Raise p))
+raise-facts kind grace s p is = rw (step-named kind s (Raise p) is) (grace-promises kind grace .raise-facts s p)
+
+-- What an accepted PICK, CHECKPOINT and DEFER reply and leave of the participant and of the epoch, on words of rest.
+pub pick-facts : (s : State) (r : ℕ) → kindWord (s .words) ≡ kindNumber rest → accepted (anyStep s (Pick r) .reply) ≡ true → rest-facts.PickFacts s r (anyStep s (Pick r))
+pick-facts s r is = rw (step-named rest s (Pick r) is) (rest-facts.rest-pick-facts s r)
+
+pub checkpoint-facts : (s : State) (r : ℕ) → kindWord (s .words) ≡ kindNumber rest → accepted (anyStep s (Checkpoint r) .reply) ≡ true → rest-facts.CheckpointFacts s r (anyStep s (Checkpoint r))
+checkpoint-facts s r is = rw (step-named rest s (Checkpoint r) is) (rest-facts.rest-checkpoint-facts s r)
+
+pub defer-facts : (s : State) (p : ℕ) → kindWord (s .words) ≡ kindNumber rest → accepted (anyStep s (Defer p) .reply) ≡ true → rest-facts.DeferFacts s p (anyStep s (Defer p))
+defer-facts s p is = rw (step-named rest s (Defer p) is) (rest-facts.rest-defer-facts s p)
 
 -- After every list from a fresh new store a WALK waits only for a reader that has published a version and not left since: never for one that never entered.
 pub waits-for : (s : State) (f : Fresh (store (kindNumber new)) s) (cs : List Call) (p b r : ℕ)
@@ -167,5 +210,5 @@ waits-for s f cs p b r =
     rw (after-alike (storeOf new) (store (kindNumber new)) like s f cs, events-alike (storeOf new) (store (kindNumber new)) like s f cs, like .steps s f′ cs (Walk p b)) (new-promises.new-waits-for s f′ cs p b r)
 
 -- A WALK with no looks that replies spent leaves the whole state as it was.
-pub walk-zero : (kind : Kind) (s : State) (p : ℕ) → kindWord (s .words) ≡ kindNumber kind → anyStep s (Walk p 0) .reply ≡ Walked Spent → anyStep s (Walk p 0) .after ≡ s
-walk-zero kind s p is = rw (step-named kind s (Walk p 0) is) (kind-promises kind .walk-zero s p)
+pub walk-zero : (kind : Kind) (grace : GraceKind kind) (s : State) (p : ℕ) → kindWord (s .words) ≡ kindNumber kind → anyStep s (Walk p 0) .reply ≡ Walked Spent → anyStep s (Walk p 0) .after ≡ s
+walk-zero kind grace s p is = rw (step-named kind s (Walk p 0) is) (grace-promises kind grace .walk-zero s p)

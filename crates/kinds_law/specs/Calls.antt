@@ -8,7 +8,7 @@ use lib.ListN.{length}
 use borrow.Author.Tests.{ne-eqb}
 use Rattle.calls.specs.declared.Call.{Call}
 use Rattle.calls.specs.declared.Reply.the-variants.{Refused}
-use Rattle.calls.specs.Numbers.{KIND-NEW, KIND-OLD, DAMAGED}
+use Rattle.calls.specs.Numbers.{KIND-NEW, KIND-OLD, KIND-REST, DAMAGED}
 use Rattle.layout.specs.Layout.{WORDS, kindWord}
 use Rattle.statement.specs.Machine.{State, outcome, Given}
 use Rattle.publication_law.specs.Table.{step, making}
@@ -16,23 +16,26 @@ use Rattle.publication_law.specs.TableLaws.{making-leaves}
 use Rattle.publication_law.specs.Calls.{step-damaged, damaged-head}
 use Rattle.grace_version_law.specs.Steps as new-store
 use Rattle.two_phase_law.specs.Steps as old-store
+use Rattle.qsbr_law.specs.Steps as rest-store
 use Rattle.kinds_law.specs.Kinds.{Kind, tableOf, kindNumber, kindOfNumber, stepOf, anyStep, makingOf, anyMaking}
-use Rattle.kinds_law.specs.Kinds.Kind.{new, old}
+use Rattle.kinds_law.specs.Kinds.Kind.{new, old, rest}
 
 -- A kind's number names it, and it is the number in the kind's own damage test.
 pub number-named : (kind : Kind) → kindOfNumber (kindNumber kind) ≡ some kind
 unfolding kindOfNumber
 number-named new = refl
 number-named old = refl
+number-named rest = refl
 
 pub number-is : (kind : Kind) → tableOf kind .damage .number ≡ kindNumber kind
 number-is new = refl
 number-is old = refl
+number-is rest = refl
 
 -- No other number names a kind.
-pub named-none : (n : ℕ) → n ≢ KIND-NEW → n ≢ KIND-OLD → kindOfNumber n ≡ none
+pub named-none : (n : ℕ) → n ≢ KIND-NEW → n ≢ KIND-OLD → n ≢ KIND-REST → kindOfNumber n ≡ none
 unfolding kindOfNumber
-named-none n not-new not-old = rw (ne-eqb n KIND-NEW not-new, ne-eqb n KIND-OLD not-old) refl
+named-none n not-new not-old not-rest = rw (ne-eqb n KIND-NEW not-new, ne-eqb n KIND-OLD not-old, ne-eqb n KIND-REST not-rest) refl
 
 -- Words of a known kind: that kind's own step.
 pub step-named : (kind : Kind) (s : State) (c : Call) → kindWord (s .words) ≡ kindNumber kind → anyStep s c ≡ step (tableOf kind) s c
@@ -47,9 +50,12 @@ module _ (s : State) (c : Call) {n : ℕ} (read : n ≡ kindWord (s .words)) whe
   pub step-old : n ≡ KIND-OLD → step old-store.rules s c ≡ anyStep s c
   step-old e = sym (step-named old s c (sym read ∙ e))
 
-  pub step-unknown : n ≢ KIND-NEW → n ≢ KIND-OLD → outcome (Refused DAMAGED) s ≡ anyStep s c
+  pub step-rest : n ≡ KIND-REST → step rest-store.rules s c ≡ anyStep s c
+  step-rest e = sym (step-named rest s c (sym read ∙ e))
+
+  pub step-unknown : n ≢ KIND-NEW → n ≢ KIND-OLD → n ≢ KIND-REST → outcome (Refused DAMAGED) s ≡ anyStep s c
   unfolding anyStep
-  step-unknown not-new not-old = rw (← read, named-none n not-new not-old) refl
+  step-unknown not-new not-old not-rest = rw (← read, named-none n not-new not-old not-rest) refl
 
 -- Words of another length: 1, whatever the kind word says.
 pub step-length : (s : State) (c : Call) → length (s .words) ≢ WORDS → outcome (Refused DAMAGED) s ≡ anyStep s c
@@ -71,9 +77,12 @@ making-new n z s e = rw e (sym (making-named new z s))
 pub making-old : (n : ℕ) (z : Given) (s : State) → n ≡ KIND-OLD → making old-store.rules z s ≡ anyMaking n z s
 making-old n z s e = rw e (sym (making-named old z s))
 
-pub making-unknown : (n : ℕ) (z : Given) (s : State) → n ≢ KIND-NEW → n ≢ KIND-OLD → outcome (Refused DAMAGED) s ≡ anyMaking n z s
+pub making-rest : (n : ℕ) (z : Given) (s : State) → n ≡ KIND-REST → making rest-store.rules z s ≡ anyMaking n z s
+making-rest n z s e = rw e (sym (making-named rest z s))
+
+pub making-unknown : (n : ℕ) (z : Given) (s : State) → n ≢ KIND-NEW → n ≢ KIND-OLD → n ≢ KIND-REST → outcome (Refused DAMAGED) s ≡ anyMaking n z s
 unfolding anyMaking
-making-unknown n z s not-new not-old = rw (named-none n not-new not-old) refl
+making-unknown n z s not-new not-old not-rest = rw (named-none n not-new not-old not-rest) refl
 
 -- A refused making leaves words and entries as they were lent, of whatever kind.
 pub any-making-leaves : (number : ℕ) (z : Given) (s : State) (n : ℕ) → anyMaking number z s .reply ≡ Refused n → anyMaking number z s .after ≡ s

@@ -6,31 +6,35 @@ use lib.Dec.{eqb}
 use Rattle.base.specs.Base.{choose}
 use Rattle.calls.specs.declared.Call.{Call}
 use Rattle.calls.specs.declared.Reply.the-variants.{Refused}
-use Rattle.calls.specs.Numbers.{KIND-NEW, KIND-OLD, DAMAGED}
+use Rattle.calls.specs.Numbers.{KIND-NEW, KIND-OLD, KIND-REST, DAMAGED}
 use Rattle.layout.specs.Layout.{kindWord}
 use Rattle.statement.specs.Machine.{State, Outcome, outcome, Given, Machine}
 use Rattle.publication_law.specs.Table.{Table, step, making}
 use Rattle.grace_version_law.specs.Steps as new-store
 use Rattle.two_phase_law.specs.Steps as old-store
+use Rattle.qsbr_law.specs.Steps as rest-store
 
--- The kinds: the new store (GraceVersion) and the old one (Two-Phase with one publisher).
+-- The kinds: the new store (GraceVersion), the old one (Two-Phase with one publisher) and the one for loops that never enter a section (QSBR).
 pub data Kind : Type 0 where
   new : Kind
   old : Kind
+  rest : Kind
 
 -- The table of each.
 abbrev pub tableOf : Kind → Table
 tableOf new = new-store.rules
 tableOf old = old-store.rules
+tableOf rest = rest-store.rules
 
 -- A kind's number, which its making stores as the kind word.
 abbrev pub kindNumber : Kind → ℕ
 kindNumber new = KIND-NEW
 kindNumber old = KIND-OLD
+kindNumber rest = KIND-REST
 
 -- The kind that a number names. Every other number names none, those of other formats among them.
 unfoldable pub kindOfNumber : ℕ → Option Kind
-kindOfNumber n = choose (eqb n KIND-NEW) (some new) (choose (eqb n KIND-OLD) (some old) none)
+kindOfNumber n = choose (eqb n KIND-NEW) (some new) (choose (eqb n KIND-OLD) (some old) (choose (eqb n KIND-REST) (some rest) none))
 
 -- A call is its kind's own step; words of no kind are damaged, and every call on them gets 1.
 abbrev pub stepOf : Option Kind → State → Call → Outcome

@@ -14,9 +14,11 @@ use borrow.Author.Tests.{eqb-true, eqb-false, ne-eqb, ltb-true, ltb-false, lt-lt
 use Rattle.base.specs.Base.{choose, upd}
 use Rattle.layout.specs.declared.Reader.{Reader}
 use Rattle.layout.specs.declared.Publisher.{Publisher}
-use Rattle.calls.specs.Numbers.{READERS-MAX, PUBLISHERS-MAX}
-use Rattle.layout.specs.Records.{_place≔_, _first≔_, _second≔_, _published≔_, _picked≔_, _atPlace_, _held≔_, _walk≔_, _mark≔_, _next≔_, _looks≔_, _waits≔_}
-use Rattle.layout.specs.Layout.{INDICATORS-AT, INDICATORS, indicator, withIndicator, KIND-AT, READERS-AT, PUBLISHERS-AT, SLOTS-AT, VERSION-AT, HEAD, READER-WORDS, FIRST-PUBLISHER, WORDS, readerWords, publisherWords, blankReader, noReader, noPublisher, putWords, readerRegion, publisherRegion, readerAt, publisherAt, withReader, withPublisher, withReaders, freshWords}
+use Rattle.layout.specs.declared.Retirement.{Retirement}
+use Rattle.layout.specs.declared.Retired.{Retired}
+use Rattle.calls.specs.Numbers.{READERS-MAX, PUBLISHERS-MAX, DEFERRED-MAX}
+use Rattle.layout.specs.Records.{_place≔_, _first≔_, _second≔_, _published≔_, _picked≔_, _atPlace_, _held≔_, _walk≔_, _mark≔_, _next≔_, _looks≔_, _waits≔_, _step≔_, _count≔_}
+use Rattle.layout.specs.Layout.{Region, recordAt, withRecord, INDICATORS-AT, INDICATORS, indicator, withIndicator, KIND-AT, READERS-AT, PUBLISHERS-AT, SLOTS-AT, VERSION-AT, HEAD, READER-WORDS, FIRST-PUBLISHER, FIRST-RETIREMENT, WORDS, readerWords, publisherWords, retirementWords, blankReader, noReader, noPublisher, noRetirement, noRetired, putWords, readerRegion, publisherRegion, retirementRegion, retiredRegion, readerAt, publisherAt, retirementAt, retiredAt, withReader, withPublisher, withRetirement, withRetired, withReaders, freshWords}
 use Rattle.layout.specs.Regions.{Exact, length-record, record-leaves, region-by, region-zero, region-set, record-put, record-back, regions-apart}
 
 -- Readers and publishers are read from their words, each from its own.
@@ -25,6 +27,12 @@ readers-exact = record { read = λ x. refl; written = λ f. refl }
 
 publishers-exact : Exact publisherRegion
 publishers-exact = record { read = λ x. refl; written = λ f. refl }
+
+retirements-exact : Exact retirementRegion
+retirements-exact = record { read = λ x. refl; written = λ f. refl }
+
+retired-exact : (p : ℕ) → Exact (retiredRegion p)
+retired-exact p = record { read = λ x. refl; written = λ f. refl }
 
 -- To set a number of a record is to store one of its words.
 pub reader-set : (x : Reader) (n : ℕ)
@@ -43,6 +51,9 @@ pub publisher-set : (y : Publisher) (n : ℕ)
     × (publisherWords (y walk≔ (y .walk looks≔ n)) ≡ set (publisherWords y) 4 n)
     × (publisherWords (y walk≔ (y .walk waits≔ n)) ≡ set (publisherWords y) 5 n)
 publisher-set y n = (refl, refl, refl, refl, refl, refl)
+
+pub retirement-set : (t : Retirement) (n : ℕ) → (retirementWords (t step≔ n) ≡ set (retirementWords t) 0 n) × (retirementWords (t count≔ n) ≡ set (retirementWords t) 1 n)
+retirement-set t n = (refl, refl)
 
 -- Lengths.
 pub length-reader : (w : List ℕ) (r : ℕ) (x : Reader) → length (withReader w r x) ≡ length w
@@ -80,6 +91,45 @@ pub publisher-reader : (w : List ℕ) (r : ℕ) (x : Reader) → r < READERS-MAX
 unfolding publisherAt withReader
 publisher-reader w r x lt = regions-apart readers-exact publishers-exact w r x (inl (omega arith))
 
+-- Retirements and retired slots, where their words agree: they lie behind the publishers.
+pub retirement-by : (w′ w : List ℕ) → ((j : ℕ) → FIRST-RETIREMENT ≤ j → getD w′ j 0 ≡ getD w j 0) → retirementAt w′ ≡ retirementAt w
+unfolding retirementAt
+retirement-by w′ w e = region-by retirements-exact w′ w (λ m low high. e m low)
+
+pub retired-by : (w′ w : List ℕ) → ((j : ℕ) → FIRST-RETIREMENT ≤ j → getD w′ j 0 ≡ getD w j 0) → retiredAt w′ ≡ retiredAt w
+unfolding retiredAt
+retired-by w′ w e = fun-ext (λ p. region-by (retired-exact p) w′ w (λ m low high. e m (omega arith)))
+
+-- What is written before them leaves them: a number of the head, a reader, a publisher.
+behind-head : (w : List ℕ) (j n : ℕ) → j < HEAD → (m : ℕ) → FIRST-RETIREMENT ≤ m → getD (set w j n) m 0 ≡ getD w m 0
+behind-head w j n lt m low = getD-set-other w j m n 0 (λ eq. omega arith)
+
+behind-reader : (w : List ℕ) (r : ℕ) (x : Reader) → r < READERS-MAX → (m : ℕ) → FIRST-RETIREMENT ≤ m → getD (withReader w r x) m 0 ≡ getD w m 0
+unfolding withReader
+behind-reader w r x lt m low = record-leaves readers-exact w r x m (inr (omega arith))
+
+behind-publisher : (w : List ℕ) (p : ℕ) (y : Publisher) → p < PUBLISHERS-MAX → (m : ℕ) → FIRST-RETIREMENT ≤ m → getD (withPublisher w p y) m 0 ≡ getD w m 0
+unfolding withPublisher
+behind-publisher w p y lt m low = record-leaves publishers-exact w p y m (inr (omega arith))
+
+pub retirement-head : (w : List ℕ) (j n : ℕ) → j < HEAD → retirementAt (set w j n) ≡ retirementAt w
+retirement-head w j n lt = retirement-by (set w j n) w (behind-head w j n lt)
+
+pub retired-head : (w : List ℕ) (j n : ℕ) → j < HEAD → retiredAt (set w j n) ≡ retiredAt w
+retired-head w j n lt = retired-by (set w j n) w (behind-head w j n lt)
+
+pub retirement-reader : (w : List ℕ) (r : ℕ) (x : Reader) → r < READERS-MAX → retirementAt (withReader w r x) ≡ retirementAt w
+retirement-reader w r x lt = retirement-by (withReader w r x) w (behind-reader w r x lt)
+
+pub retired-reader : (w : List ℕ) (r : ℕ) (x : Reader) → r < READERS-MAX → retiredAt (withReader w r x) ≡ retiredAt w
+retired-reader w r x lt = retired-by (withReader w r x) w (behind-reader w r x lt)
+
+pub retirement-publisher : (w : List ℕ) (p : ℕ) (y : Publisher) → p < PUBLISHERS-MAX → retirementAt (withPublisher w p y) ≡ retirementAt w
+retirement-publisher w p y lt = retirement-by (withPublisher w p y) w (behind-publisher w p y lt)
+
+pub retired-publisher : (w : List ℕ) (p : ℕ) (y : Publisher) → p < PUBLISHERS-MAX → retiredAt (withPublisher w p y) ≡ retiredAt w
+retired-publisher w p y lt = retired-by (withPublisher w p y) w (behind-publisher w p y lt)
+
 -- A record written is read there, and every other one stays.
 pub reader-put : {B : Type 0} (f : Reader → B) (w : List ℕ) (r : ℕ) (x : Reader) → length w ≡ WORDS → r < READERS-MAX
     → (λ r′. f (readerAt (withReader w r x) r′)) ≡ upd (λ r′. f (readerAt w r′)) r (f x)
@@ -90,6 +140,74 @@ pub publisher-put : {B : Type 0} (f : Publisher → B) (w : List ℕ) (p : ℕ) 
     → (λ q. f (publisherAt (withPublisher w p y) q)) ≡ upd (λ q. f (publisherAt w q)) p (f y)
 unfolding publisherAt withPublisher
 publisher-put f w p y len lt = record-put publishers-exact f w p y (omega arith) lt
+
+pub retirement-put : {B : Type 0} (f : Retirement → B) (w : List ℕ) (p : ℕ) (t : Retirement) → length w ≡ WORDS → p < PUBLISHERS-MAX
+    → (λ q. f (retirementAt (withRetirement w p t) q)) ≡ upd (λ q. f (retirementAt w q)) p (f t)
+unfolding retirementAt withRetirement
+retirement-put f w p t len lt = record-put retirements-exact f w p t (omega arith) lt
+
+pub retired-put : (w : List ℕ) (p i : ℕ) (d : Retired) → length w ≡ WORDS → p < PUBLISHERS-MAX → i < DEFERRED-MAX → retiredAt (withRetired w p i d) ≡ upd (retiredAt w) p (upd (retiredAt w p) i d)
+unfolding retiredAt withRetired
+retired-put w p i d len lt room = fun-ext (λ q. go q (eqb q p) refl)
+  where
+    apart : (q : ℕ) → eqb q p ≡ false → (b : Bool) → ltb q p ≡ b → recordAt (retiredRegion q) (withRecord (retiredRegion p) w i d) ≡ recordAt (retiredRegion q) w
+    apart q ne true e = let l = ltb-true q p e in regions-apart (retired-exact p) (retired-exact q) w i d (inr (omega arith))
+    apart q ne false e = let l = ltb-false q p e in let unequal = eqb-false q p ne in regions-apart (retired-exact p) (retired-exact q) w i d (inl (omega arith))
+
+    go : (q : ℕ) (b : Bool) → eqb q p ≡ b → _≡_ {A = ℕ → Retired} (recordAt (retiredRegion q) (withRecord (retiredRegion p) w i d)) (choose b (upd (recordAt (retiredRegion p) w) i d) (recordAt (retiredRegion q) w))
+    go q true e = rw (eqb-true q p e) (record-put (retired-exact p) (λ (d′ : Retired). d′) w i d (omega arith) room)
+    go q false e = apart q e (ltb q p) refl
+
+-- What is written behind them leaves the head, the readers and the publishers; a retirement leaves the retired slots, and a retired slot the retirements.
+pub length-retirement : (w : List ℕ) (p : ℕ) (t : Retirement) → length (withRetirement w p t) ≡ length w
+unfolding withRetirement
+length-retirement = length-record retirements-exact
+
+pub length-retired : (w : List ℕ) (p i : ℕ) (d : Retired) → length (withRetired w p i d) ≡ length w
+unfolding withRetired
+length-retired w p = length-record (retired-exact p) w
+
+before-retirement : (w : List ℕ) (p : ℕ) (t : Retirement) (j : ℕ) → j < FIRST-RETIREMENT → getD (withRetirement w p t) j 0 ≡ getD w j 0
+unfolding withRetirement
+before-retirement w p t j lt = record-leaves retirements-exact w p t j (inl (omega arith))
+
+before-retired : (w : List ℕ) (p i : ℕ) (d : Retired) (j : ℕ) → j < FIRST-RETIREMENT → getD (withRetired w p i d) j 0 ≡ getD w j 0
+unfolding withRetired
+before-retired w p i d j lt = record-leaves (retired-exact p) w i d j (inl (omega arith))
+
+pub head-retirement : (w : List ℕ) (p : ℕ) (t : Retirement) (j : ℕ) → j < HEAD → getD (withRetirement w p t) j 0 ≡ getD w j 0
+head-retirement w p t j lt = before-retirement w p t j (omega arith)
+
+pub head-retired : (w : List ℕ) (p i : ℕ) (d : Retired) (j : ℕ) → j < HEAD → getD (withRetired w p i d) j 0 ≡ getD w j 0
+head-retired w p i d j lt = before-retired w p i d j (omega arith)
+
+readers-by : (w′ w : List ℕ) → ((j : ℕ) → j < FIRST-RETIREMENT → getD w′ j 0 ≡ getD w j 0) → readerAt w′ ≡ readerAt w
+unfolding readerAt
+readers-by w′ w e = region-by readers-exact w′ w (λ m low high. e m (omega arith))
+
+publishers-by : (w′ w : List ℕ) → ((j : ℕ) → j < FIRST-RETIREMENT → getD w′ j 0 ≡ getD w j 0) → publisherAt w′ ≡ publisherAt w
+unfolding publisherAt
+publishers-by w′ w e = region-by publishers-exact w′ w (λ m low high. e m (omega arith))
+
+pub reader-retirement : (w : List ℕ) (p : ℕ) (t : Retirement) → readerAt (withRetirement w p t) ≡ readerAt w
+reader-retirement w p t = readers-by (withRetirement w p t) w (before-retirement w p t)
+
+pub publisher-retirement : (w : List ℕ) (p : ℕ) (t : Retirement) → publisherAt (withRetirement w p t) ≡ publisherAt w
+publisher-retirement w p t = publishers-by (withRetirement w p t) w (before-retirement w p t)
+
+pub reader-retired : (w : List ℕ) (p i : ℕ) (d : Retired) → readerAt (withRetired w p i d) ≡ readerAt w
+reader-retired w p i d = readers-by (withRetired w p i d) w (before-retired w p i d)
+
+pub publisher-retired : (w : List ℕ) (p i : ℕ) (d : Retired) → publisherAt (withRetired w p i d) ≡ publisherAt w
+publisher-retired w p i d = publishers-by (withRetired w p i d) w (before-retired w p i d)
+
+pub retired-retirement : (w : List ℕ) (p : ℕ) (t : Retirement) → p < PUBLISHERS-MAX → retiredAt (withRetirement w p t) ≡ retiredAt w
+unfolding retiredAt withRetirement
+retired-retirement w p t lt = fun-ext (λ q. regions-apart retirements-exact (retired-exact q) w p t (inl (omega arith)))
+
+pub retirement-retired : (w : List ℕ) (p i : ℕ) (d : Retired) → retirementAt (withRetired w p i d) ≡ retirementAt w
+unfolding retirementAt withRetired
+retirement-retired w p i d = regions-apart (retired-exact p) retirements-exact w i d (inr (omega arith))
 
 -- A record put back as it was read changes nothing.
 pub publisher-back : (w : List ℕ) (p : ℕ) → p < PUBLISHERS-MAX → withPublisher w p (publisherAt w p) ≡ w
@@ -255,6 +373,14 @@ module _ (number rs ps ss ver : ℕ) (x : Reader) where
   pub fresh-publisher : (p : ℕ) → publisherAt (freshWords number rs ps ss ver x) p ≡ noPublisher
   unfolding publisherAt
   fresh-publisher = region-zero publishers-exact (freshWords number rs ps ss ver x) (λ j low high. fresh-behind j (omega arith) ∙ u0-behind j low)
+
+  pub fresh-retirement : (p : ℕ) → retirementAt (freshWords number rs ps ss ver x) p ≡ noRetirement
+  unfolding retirementAt
+  fresh-retirement = region-zero retirements-exact (freshWords number rs ps ss ver x) (λ j low high. fresh-behind j (omega arith) ∙ u0-behind j (omega arith))
+
+  pub fresh-retired : (p i : ℕ) → retiredAt (freshWords number rs ps ss ver x) p i ≡ noRetired
+  unfolding retiredAt
+  fresh-retired p = region-zero (retired-exact p) (freshWords number rs ps ss ver x) (λ j low high. fresh-behind j (omega arith) ∙ u0-behind j (omega arith))
 
   pub fresh-indicator : (i : ℕ) → indicator (freshWords number rs ps ss ver x) i ≡ 0
   unfolding indicator

@@ -1,4 +1,4 @@
--- Where each number of a store stands among its words: a head of 9, 64 readers of 5, 16 publishers of 6. docs/LAYOUT.md has the table.
+-- Where each number of a store stands among its words: a head of 9, 64 readers of 5, 16 publishers of 6; for each publisher a retirement of 2 and room for 8 retired slots of 2. docs/LAYOUT.md has the table.
 use Prim.Native.Nat.{ℕ, zero, suc, _+_, _*_}
 use mathlib.Core.Bool.{Bool}
 use mathlib.Core.List.{List, [], _∷_}
@@ -9,7 +9,9 @@ use Rattle.base.specs.Base.{choose}
 use Rattle.layout.specs.declared.Reader.{Reader}
 use Rattle.layout.specs.declared.Publisher.{Publisher}
 use Rattle.layout.specs.declared.WalkRecord.{WalkRecord}
-use Rattle.calls.specs.Numbers.{READERS-MAX, PUBLISHERS-MAX, TABLE}
+use Rattle.layout.specs.declared.Retirement.{Retirement}
+use Rattle.layout.specs.declared.Retired.{Retired}
+use Rattle.calls.specs.Numbers.{READERS-MAX, PUBLISHERS-MAX, TABLE, DEFERRED-MAX}
 use Rattle.layout.specs.Records.{_published≔_}
 
 -- The head.
@@ -58,9 +60,22 @@ PUBLISHER-WORDS = 6
 abbrev pub FIRST-PUBLISHER : ℕ
 FIRST-PUBLISHER = HEAD + READER-WORDS * READERS-MAX
 
+-- Behind the publishers: for each its checkpoint's step and how many slots it has retired, then for each room for eight retired slots.
+abbrev pub RETIREMENT-WORDS : ℕ
+RETIREMENT-WORDS = 2
+
+abbrev pub FIRST-RETIREMENT : ℕ
+FIRST-RETIREMENT = FIRST-PUBLISHER + PUBLISHER-WORDS * PUBLISHERS-MAX
+
+abbrev pub RETIRED-WORDS : ℕ
+RETIRED-WORDS = 2
+
+abbrev pub FIRST-RETIRED : ℕ
+FIRST-RETIRED = FIRST-RETIREMENT + RETIREMENT-WORDS * PUBLISHERS-MAX
+
 -- The length of a store's words.
 abbrev pub WORDS : ℕ
-WORDS = FIRST-PUBLISHER + PUBLISHER-WORDS * PUBLISHERS-MAX
+WORDS = FIRST-RETIRED + RETIRED-WORDS * DEFERRED-MAX * PUBLISHERS-MAX
 
 abbrev pub kindWord : List ℕ → ℕ
 kindWord w = getD w KIND-AT 0
@@ -112,6 +127,24 @@ publisherOf f = record { place = f 0; held = f 1; walk = record { mark = f 2; ne
 abbrev pub publisherWords : Publisher → List ℕ
 publisherWords y = y .place ∷ y .held ∷ y .walk .mark ∷ y .walk .next ∷ y .walk .looks ∷ y .walk .waits ∷ []
 
+abbrev pub retirementOf : (ℕ → ℕ) → Retirement
+retirementOf f = record { step = f 0; count = f 1 }
+
+abbrev pub retirementWords : Retirement → List ℕ
+retirementWords t = t .step ∷ t .count ∷ []
+
+abbrev pub retiredOf : (ℕ → ℕ) → Retired
+retiredOf f = record { slot = f 0; mark = f 1 }
+
+abbrev pub retiredWords : Retired → List ℕ
+retiredWords d = d .slot ∷ d .mark ∷ []
+
+abbrev pub noRetirement : Retirement
+noRetirement = retirementOf (λ i. 0)
+
+abbrev pub noRetired : Retired
+noRetired = retiredOf (λ i. 0)
+
 abbrev pub noReader : Reader
 noReader = readerOf (λ i. 0)
 
@@ -159,6 +192,20 @@ readerRegion = record { start = HEAD; stride = READER-WORDS; count = READERS-MAX
 abbrev pub publisherRegion : Region Publisher
 publisherRegion = record { start = FIRST-PUBLISHER; stride = PUBLISHER-WORDS; count = PUBLISHERS-MAX; from = publisherOf; words = publisherWords }
 
+-- The region of publishers' retirements, and that of the retired slots of publisher p.
+abbrev pub retirementRegion : Region Retirement
+retirementRegion = record { start = FIRST-RETIREMENT; stride = RETIREMENT-WORDS; count = PUBLISHERS-MAX; from = retirementOf; words = retirementWords }
+
+abbrev pub retiredRegion : ℕ → Region Retired
+retiredRegion p = record { start = FIRST-RETIRED + RETIRED-WORDS * DEFERRED-MAX * p; stride = RETIRED-WORDS; count = DEFERRED-MAX; from = retiredOf; words = retiredWords }
+
+-- The retirement of publisher p, and its retired slot i.
+unfoldable pub retirementAt : List ℕ → ℕ → Retirement
+retirementAt w p = recordAt retirementRegion w p
+
+unfoldable pub retiredAt : List ℕ → ℕ → ℕ → Retired
+retiredAt w p i = recordAt (retiredRegion p) w i
+
 -- Reader r and publisher p, and the words with one of them replaced.
 unfoldable pub readerAt : List ℕ → ℕ → Reader
 readerAt w r = recordAt readerRegion w r
@@ -171,6 +218,12 @@ withReader w r x = withRecord readerRegion w r x
 
 unfoldable pub withPublisher : List ℕ → ℕ → Publisher → List ℕ
 withPublisher w p y = withRecord publisherRegion w p y
+
+unfoldable pub withRetirement : List ℕ → ℕ → Retirement → List ℕ
+withRetirement w p t = withRecord retirementRegion w p t
+
+unfoldable pub withRetired : List ℕ → ℕ → ℕ → Retired → List ℕ
+withRetired w p i d = withRecord (retiredRegion p) w i d
 
 -- The words with each of the first n readers replaced.
 unfoldable pub withReaders : ℕ → List ℕ → Reader → List ℕ

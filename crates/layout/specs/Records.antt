@@ -4,6 +4,7 @@ use Prim.Native.Nat.{ℕ}
 use Rattle.layout.specs.declared.Reader.{Reader}
 use Rattle.layout.specs.declared.Publisher.{Publisher}
 use Rattle.layout.specs.declared.WalkRecord.{WalkRecord}
+use Rattle.layout.specs.declared.Retirement.{Retirement}
 
 -- Readers.
 infixl 20 _place≔_
@@ -55,3 +56,12 @@ walk looks≔ n = record { mark = walk .mark; next = walk .next; looks = n; wait
 infixl 20 _waits≔_
 abbrev pub _waits≔_ : WalkRecord → ℕ → WalkRecord
 walk waits≔ n = record { mark = walk .mark; next = walk .next; looks = walk .looks; waits = n }
+
+-- Retirements.
+infixl 20 _step≔_
+abbrev pub _step≔_ : Retirement → ℕ → Retirement
+t step≔ n = record { step = n; count = t .count }
+
+infixl 20 _count≔_
+abbrev pub _count≔_ : Retirement → ℕ → Retirement
+t count≔ n = record { step = t .step; count = n }

@@ -5,13 +5,12 @@
 ghost use mathlib.Core.Path.{_≡_};
 ghost use Prim.Native.Nat.{_<_};
 ghost use lib.ListN.{length, replicate};
-ghost use Rattle.calls.specs.Numbers.{READERS-MAX, PUBLISHERS-MAX};
-ghost use Rattle.layout.specs.Layout.{WORDS, INDICATORS, kindWord, readers, publishers, slots, current, version, releases, indicator, withCurrent, withVersion, withReleases, withIndicator, readerAt, publisherAt, withReader, withPublisher, withReaders, blankReader, freshWords};
-use calls::PUBLISHERS_MAX;
+ghost use Rattle.calls.specs.Numbers.{READERS-MAX, PUBLISHERS-MAX, DEFERRED-MAX};
+ghost use Rattle.layout.specs.Layout.{WORDS, INDICATORS, kindWord, readers, publishers, slots, current, version, releases, indicator, withCurrent, withVersion, withReleases, withIndicator, readerAt, publisherAt, retirementAt, retiredAt, withReader, withPublisher, withRetirement, withRetired, withReaders, blankReader, freshWords};
 use calls::WalkReply;
 
 // The length of a store's words.
-pub const WORDS: usize = 425;
+pub const WORDS: usize = 713;
 
 // The head.
 const KIND_AT: usize = 0;
@@ -39,6 +38,17 @@ const FIRST_PUBLISHER: usize = 329;
 
 const PUBLISHER_WORDS: usize = 6;
 
+// Behind the publishers' records, for each publisher: its retirement, and room for eight retired slots.
+const FIRST_RETIREMENT: usize = 425;
+
+const RETIREMENT_WORDS: usize = 2;
+
+const FIRST_RETIRED: usize = 457;
+
+const RETIRED_WORDS: usize = 2;
+
+const RETIRED_ROOM: usize = 16;
+
 // A reader's words.
 const PLACE: usize = 0;
 
@@ -60,6 +70,16 @@ const NEXT: usize = 3;
 const LOOKS: usize = 4;
 
 const WAITS: usize = 5;
+
+// A retirement's words.
+const STEP: usize = 0;
+
+const COUNT: usize = 1;
+
+// A retired slot's words.
+const SLOT: usize = 0;
+
+const AWAITED: usize = 1;
 
 pub struct Reader {
     pub place: u64,
@@ -83,6 +103,18 @@ pub struct Publisher {
     pub walk: WalkRecord,
 }
 
+// Beside a publisher's record: the step of its checkpoint, and how many slots it has retired that are not yet free.
+pub struct Retirement {
+    pub step: u64,
+    pub count: u64,
+}
+
+// A retired slot, and the mark that it waits for.
+pub struct Retired {
+    pub slot: u64,
+    pub mark: u64,
+}
+
 // A walk's numbers after its looks, and its reply.
 pub struct WalkResult {
     pub walk: WalkRecord,
@@ -93,6 +125,16 @@ pub fn kind_of(words: &[u64]) -> u64
     requires { ⌜ length (now words) ≡ WORDS ⌝ }
     ensures { λ n. ⌜ n ≡ kindWord (now (words .entry)) ⌝ }
 {
+    words[KIND_AT]
+}
+
+// The kind word of words of any length: 0, which no kind has, where there are none.
+pub fn kind_word(words: &[u64]) -> u64
+    ensures { λ n. ⌜ n ≡ kindWord (now (words .entry)) ⌝ }
+{
+    if words.len() == 0 {
+        return 0;
+    }
     words[KIND_AT]
 }
 
@@ -246,6 +288,47 @@ pub fn put_publisher(words: &mut [u64], p: usize, y: Publisher)
     words[b + WAITS] = y.walk.waits;
 }
 
+pub fn retirement_at(words: &[u64], p: usize) -> Retirement
+    requires { ⌜ (length (now words) ≡ WORDS) × (p < PUBLISHERS-MAX) ⌝ }
+    ensures { λ t. ⌜ t ≡ retirementAt (now (words .entry)) p ⌝ }
+{
+    let b = FIRST_RETIREMENT + RETIREMENT_WORDS * p;
+    Retirement {
+        step: words[b + STEP],
+        count: words[b + COUNT],
+    }
+}
+
+pub fn put_retirement(words: &mut [u64], p: usize, t: Retirement)
+    requires { ⌜ (length (now words) ≡ WORDS) × (p < PUBLISHERS-MAX) ⌝ }
+    ensures { λ _. ⌜ now (words .exit) ≡ withRetirement (now (words .entry)) p t ⌝ }
+{
+    let b = FIRST_RETIREMENT + RETIREMENT_WORDS * p;
+    words[b + STEP] = t.step;
+    words[b + COUNT] = t.count;
+}
+
+// Retired slot i of publisher p.
+pub fn retired_at(words: &[u64], p: usize, i: usize) -> Retired
+    requires { ⌜ (length (now words) ≡ WORDS) × (p < PUBLISHERS-MAX) × (i < DEFERRED-MAX) ⌝ }
+    ensures { λ d. ⌜ d ≡ retiredAt (now (words .entry)) p i ⌝ }
+{
+    let b = FIRST_RETIRED + RETIRED_ROOM * p + RETIRED_WORDS * i;
+    Retired {
+        slot: words[b + SLOT],
+        mark: words[b + AWAITED],
+    }
+}
+
+pub fn put_retired(words: &mut [u64], p: usize, i: usize, d: Retired)
+    requires { ⌜ (length (now words) ≡ WORDS) × (p < PUBLISHERS-MAX) × (i < DEFERRED-MAX) ⌝ }
+    ensures { λ _. ⌜ now (words .exit) ≡ withRetired (now (words .entry)) p i d ⌝ }
+{
+    let b = FIRST_RETIRED + RETIRED_ROOM * p + RETIRED_WORDS * i;
+    words[b + SLOT] = d.slot;
+    words[b + AWAITED] = d.mark;
+}
+
 // Every word 0.
 fn clear(words: &mut [u64])
     ensures { λ _. ⌜ now (words .exit) ≡ replicate (length (now (words .entry))) 0 ⌝ }
@@ -256,14 +339,12 @@ fn clear(words: &mut [u64])
 }
 
 // In words that are all 0: stores what each of the 64 readers has published.
-// The publishers' records are the last of the words.
 fn publish_all(words: &mut [u64], published: u64)
     requires { ⌜ now words ≡ replicate WORDS 0 ⌝ }
     ensures { λ _. ⌜ now (words .exit) ≡ withReaders READERS-MAX (replicate WORDS 0) (blankReader published) ⌝ }
 {
-    let end = words.len() - PUBLISHER_WORDS * PUBLISHERS_MAX as usize;
     let mut at: usize = FIRST_READER + PUBLISHED;
-    while at < end {
+    while at < FIRST_PUBLISHER {
         words[at] = published;
         at += READER_WORDS;
     }

@@ -116,12 +116,12 @@ look-is w es r k x named low is turn =
     rw is (sym (decide-accepts (lookTests (state w es) r k) (look (state w es) r k) (state w es) (lt-leb _ _ named, (le-ltb _ _ low, (not-at _ 5 (rw is at turn), tt)))))
 
 module _ (w : List ℕ) (p : ℕ) (y : Publisher) (named : p < publishers w) (is : y ≡ publisherAt w p) where
-  pub claim-is : (w′ : List ℕ) (exclusive : Bool) (slot : ℕ) → slot < slots w → y .place ≡ PLACE-IDLE → ((es : List ℤ) → exclusive && anotherBusy (state w es) p ≡ false) → ((es : List ℤ) → inUse (state w es) slot ≡ false)
+  pub claim-is : (w′ : List ℕ) (exclusive retiring : Bool) (slot : ℕ) → slot < slots w → y .place ≡ PLACE-IDLE → ((es : List ℤ) → exclusive && anotherBusy (state w es) p ≡ false) → ((es : List ℤ) → inUse retiring (state w es) slot ≡ false)
       → w′ ≡ withPublisher w p (y atPlace PLACE-CLAIMED held≔ slot)
-      → (es : List ℤ) → outcome (Claimed slot) (state w′ es) ≡ decide (claimTests exclusive (state w es) p slot) (claim (state w es) p slot) (state w es)
-  claim-is w′ exclusive slot low turn busy used put es =
-      rw (put, is) (sym (decide-accepts (claimTests exclusive (state w es) p slot) (claim (state w es) p slot) (state w es)
-      (claim-rows exclusive (state w es) p slot (record { publisher-named = named; slot-named = low; in-turn = rw is at turn; nobody-busy = busy es; unused = used es }))))
+      → (es : List ℤ) → outcome (Claimed slot) (state w′ es) ≡ decide (claimTests exclusive retiring (state w es) p slot) (claim (state w es) p slot) (state w es)
+  claim-is w′ exclusive retiring slot low turn busy used put es =
+      rw (put, is) (sym (decide-accepts (claimTests exclusive retiring (state w es) p slot) (claim (state w es) p slot) (state w es)
+      (claim-rows exclusive retiring (state w es) p slot (record { publisher-named = named; slot-named = low; in-turn = rw is at turn; nobody-busy = busy es; unused = used es }))))
 
   pub write-is : (w′ : List ℕ) (es : List ℤ) (v : ℤ) → outOfRange v ≡ false → PLACE-CLAIMED ≤ y .place → y .place ≤ 32
       → w′ ≡ withPublisher w p (y atPlace (y .place + 1))

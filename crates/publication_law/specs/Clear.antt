@@ -2,13 +2,14 @@
 use Prim.Native.Nat.{ℕ, _+_, _-_, _*_, _<_, _≤_}
 use native.Mathlib.Omega.{arith}
 use mathlib.Core.Path.{_≡_, refl}
-use mathlib.Core.Bool.{Bool, false, _&&_}
+use mathlib.Core.Bool.{Bool, true, false, not, _&&_, _||_}
 use mathlib.Core.List.{List}
 use lib.IntN.{ℤ}
 use lib.ListN.{length}
+use lib.Dec.{eqb}
 use borrow.Author.Tests.{eqb-true, eq-eqb, leb-false, lt-leb, not-false}
-use Rattle.base.specs.Rows.{firstOf}
-use Rattle.base.specs.RowLaws.{negated, within, not-outside, none-below, no-below, AllClear, clear}
+use Rattle.base.specs.Rows.{firstOf, outside}
+use Rattle.base.specs.RowLaws.{negated, or-false, and-false, and-not, neither, within, not-outside, none-below, no-below, AllClear, clear}
 use Rattle.calls.specs.Numbers.{READERS-MAX, PUBLISHERS-MAX, SLOTS-MIN, SLOTS-MAX, TABLE, PLACE-IDLE}
 use Rattle.calls.specs.FirstTable.{outOfRange, anyOutOfRange, steep, anySteep, entryOf}
 use Rattle.layout.specs.Layout.{WORDS, publishers, slots}
@@ -16,10 +17,11 @@ use Rattle.statement.specs.Machine.{State, Given}
 use Rattle.statement.specs.Companions.{GoodTable}
 use Rattle.publication_law.specs.Steps.{Versions, publisher, anotherBusy, inUse, claimTests, makingTests}
 
-pub record MakingClear (vs : Versions) (z : Given) (s : State) : Type 0 where
+pub record MakingClear (participants : Bool) (vs : Versions) (z : Given) (s : State) : Type 0 where
   pub long : length (s .words) ≡ WORDS
   pub readers-low : 1 ≤ z .readers
   pub readers-high : z .readers ≤ READERS-MAX
+  pub as-many : participants ≡ true → z .publishers ≡ z .readers
   pub publishers-low : 1 ≤ z .publishers
   pub publishers-high : z .publishers ≤ PUBLISHERS-MAX
   pub slots-low : SLOTS-MIN ≤ z .slots
@@ -30,16 +32,18 @@ pub record MakingClear (vs : Versions) (z : Given) (s : State) : Type 0 where
   pub table-in-range : anyOutOfRange (z .table) ≡ false
   pub table-steps : anySteep (z .table) ≡ false
 
-module _ (vs : Versions) (z : Given) (s : State) where
-  pub making-clear : AllClear (makingTests vs z s) → MakingClear vs z s
+module _ (participants : Bool) (vs : Versions) (z : Given) (s : State) where
+  pub making-clear : AllClear (makingTests participants vs z s) → MakingClear participants vs z s
   making-clear f =
       let rs = within 1 READERS-MAX (z .readers) (f .1 .0) in
-      let ps = within 1 PUBLISHERS-MAX (z .publishers) (f .1 .1 .0) in
+      let row3 = or-false (participants && not (eqb (z .publishers) (z .readers))) (outside 1 PUBLISHERS-MAX (z .publishers)) (f .1 .1 .0) in
+      let ps = within 1 PUBLISHERS-MAX (z .publishers) (row3 .1) in
       let ss = within SLOTS-MIN SLOTS-MAX (z .slots) (f .1 .1 .1 .0) in
       record {
         long = eqb-true _ _ (not-false _ (f .0));
         readers-low = rs .0;
         readers-high = rs .1;
+        as-many = λ e. eqb-true _ _ (not-false _ (and-false participants (not (eqb (z .publishers) (z .readers))) (row3 .0) e));
         publishers-low = ps .0;
         publishers-high = ps .1;
         slots-low = ss .0;
@@ -51,20 +55,20 @@ module _ (vs : Versions) (z : Given) (s : State) where
         table-steps = f .1 .1 .1 .1 .1 .1 .1 .1 .0;
       }
 
-  pub making-rows : MakingClear vs z s → AllClear (makingTests vs z s)
+  pub making-rows : MakingClear participants vs z s → AllClear (makingTests participants vs z s)
   making-rows f = (
     negated _ (eq-eqb _ _ (f .long)),
     (
       not-outside 1 READERS-MAX _ (f .readers-low) (f .readers-high),
       (
-        not-outside 1 PUBLISHERS-MAX _ (f .publishers-low) (f .publishers-high),
+        neither (participants && not (eqb (z .publishers) (z .readers))) (outside 1 PUBLISHERS-MAX (z .publishers)) (and-not participants (not (eqb (z .publishers) (z .readers))) (λ e. negated _ (eq-eqb _ _ (f .as-many e)))) (not-outside 1 PUBLISHERS-MAX _ (f .publishers-low) (f .publishers-high)),
         (not-outside SLOTS-MIN SLOTS-MAX _ (f .slots-low) (f .slots-high), (negated _ (eq-eqb _ _ (f .entries-are)), (f .version-fits, (negated _ (eq-eqb _ _ (f .table-long)), (f .table-in-range, (f .table-steps, tt)))))),
       ),
     ),
   )
 
   -- Its table is a good one.
-  pub table-is-good : MakingClear vs z s → GoodTable (z .table)
+  pub table-is-good : MakingClear participants vs z s → GoodTable (z .table)
   table-is-good f = record {
     long = f .table-long;
     in-range = λ k l. none-below (λ k. outOfRange (entryOf (z .table) k)) _ k (f .table-in-range) (omega (arith, f .table-long));
@@ -72,8 +76,8 @@ module _ (vs : Versions) (z : Given) (s : State) where
   }
 
   -- The same from the number of its first row that applies: there is none.
-  pub making-unrefused : firstOf (makingTests vs z s) ≡ 0 → MakingClear vs z s
-  making-unrefused e = making-clear (clear (makingTests vs z s) refl e)
+  pub making-unrefused : firstOf (makingTests participants vs z s) ≡ 0 → MakingClear participants vs z s
+  making-unrefused e = making-clear (clear (makingTests participants vs z s) refl e)
 
 -- The last two rows do not apply to a good table.
 pub good-in-range : (table : List ℤ) → GoodTable table → anyOutOfRange table ≡ false
@@ -82,15 +86,15 @@ good-in-range table good = no-below (λ k. outOfRange (entryOf table k)) (length
 pub good-steps : (table : List ℤ) → GoodTable table → anySteep table ≡ false
 good-steps table good = no-below (λ k. steep (entryOf table k) (entryOf table (k + 1))) (length table - 1) (λ k l. good .steps-bounded k (omega (arith, good .long)))
 
-pub record ClaimClear (exclusive : Bool) (s : State) (p slot : ℕ) : Type 0 where
+pub record ClaimClear (exclusive retiring : Bool) (s : State) (p slot : ℕ) : Type 0 where
   pub publisher-named : p < publishers (s .words)
   pub slot-named : slot < slots (s .words)
   pub in-turn : publisher s p .place ≡ PLACE-IDLE
   pub nobody-busy : exclusive && anotherBusy s p ≡ false
-  pub unused : inUse s slot ≡ false
+  pub unused : inUse retiring s slot ≡ false
 
-module _ (exclusive : Bool) (s : State) (p slot : ℕ) where
-  pub claim-clear : AllClear (claimTests exclusive s p slot) → ClaimClear exclusive s p slot
+module _ (exclusive retiring : Bool) (s : State) (p slot : ℕ) where
+  pub claim-clear : AllClear (claimTests exclusive retiring s p slot) → ClaimClear exclusive retiring s p slot
   claim-clear f = record {
     publisher-named = leb-false _ _ (f .0);
     slot-named = leb-false _ _ (f .1 .0);
@@ -99,5 +103,5 @@ module _ (exclusive : Bool) (s : State) (p slot : ℕ) where
     unused = f .1 .1 .1 .1 .0;
   }
 
-  pub claim-rows : ClaimClear exclusive s p slot → AllClear (claimTests exclusive s p slot)
+  pub claim-rows : ClaimClear exclusive retiring s p slot → AllClear (claimTests exclusive retiring s p slot)
   claim-rows f = (lt-leb _ _ (f .publisher-named), (lt-leb _ _ (f .slot-named), (negated _ (eq-eqb _ _ (f .in-turn)), (f .nobody-busy, (f .unused, tt)))))

@@ -8,7 +8,7 @@ use mathlib.Core.Path.{_≡_, refl, sym, ap, _∙_}
 use mathlib.Core.Logic.{_≢_, _⊎_, inl, inr}
 use mathlib.Core.Bool.{Bool, true, false, _&&_, _||_}
 use mathlib.Core.List.{List, [], _∷_, _++_}
-use mathlib.Core.Option.{Option, some}
+use mathlib.Core.Option.{Option, none, some}
 use lib.IntN.{ℤ}
 use lib.ListN.{length, length-append}
 use lib.Dec.{leb, eqb}
@@ -19,9 +19,10 @@ use Rattle.calls.specs.declared.Call.the-variants.{Enter, Leave, Claim, Write, 
 use Rattle.calls.specs.declared.Reply.{Reply}
 use Rattle.calls.specs.declared.Reply.the-variants.{At}
 use Rattle.calls.specs.Numbers.{TABLE, PLACE-OUT, PLACE-LOADED-AGAIN, PLACE-OPEN, PLACE-PICKED, PLACE-IDLE, PLACE-CLAIMED, PLACE-WRITTEN, PLACE-SWAPPED}
-use Rattle.calls.specs.Model.{Model, model₀, modelStep, entry}
+use Rattle.calls.specs.Model.{Model, model₀, modelStep, entry, withNote}
 use Rattle.calls.specs.ModelLaws.{entry-old, entry-new}
-use Rattle.calls.specs.Told.{Told, told₀, tell, holds, Role, Has}
+use Rattle.calls.specs.Deferral.{Deferral}
+use Rattle.calls.specs.Told.{Told, told₀, tell, withDeferral, afterPick, holds, Role, Has}
 use Rattle.calls.specs.Told.Role.{current, heldBy, free}
 use Rattle.publication_law.specs.Core.{Hold, CurrentOrFormer, ReaderAgrees, PublisherAgrees, Core}
 use Rattle.publication_law.specs.Core.Hold.{by-claim, by-swap}
@@ -68,15 +69,15 @@ writing-not pl f = go (leb 1 pl) refl (leb pl 33) refl
 
 module _ (h : Model) (t : Told) (n m cur : ℕ) (rpl rpk ppl pcl : ℕ → ℕ) (F : ℕ → ℕ → Bool) (E : ℕ → ℕ → ℤ) (i : Core h t n m cur rpl rpk ppl pcl F E) where
   -- A reader moves, with what is told of the readers and their notes.
-  reader-core : (r pl pk : ℕ) (inside : ℕ → Bool) (picked : ℕ → Option ℕ) (note : ℕ → List ℤ) → ((j : ℕ) → ReaderAgrees n cur F E j (upd rpl r pl j) (upd rpk r pk j) (picked j) (note j))
-      → Core (record { table = h .table; note = note; draft = h .draft }) (record { inside = inside; picked = picked; current = t .current; lastClaim = t .lastClaim; claimed = t .claimed; former = t .former })
+  reader-core : (r pl pk : ℕ) (inside : ℕ → Bool) (picked : ℕ → Option ℕ) (deferral : Deferral) (note : ℕ → List ℤ) → ((j : ℕ) → ReaderAgrees n cur F E j (upd rpl r pl j) (upd rpk r pk j) (picked j) (note j))
+      → Core (record { table = h .table; note = note; draft = h .draft }) (record { inside = inside; picked = picked; current = t .current; lastClaim = t .lastClaim; claimed = t .claimed; former = t .former; deferral = deferral })
       n m cur (upd rpl r pl) (upd rpk r pk) ppl pcl F E
-  reader-core r pl pk inside picked note ok = record { readers = ok; publishers = i .publishers; distinct = i .distinct; current-is = i .current-is; table = i .table; whole = i .whole }
+  reader-core r pl pk inside picked deferral note ok = record { readers = ok; publishers = i .publishers; distinct = i .distinct; current-is = i .current-is; table = i .table; whole = i .whole }
 
   -- ENTER to a place below 4, to 4, and to 5.
   enter-below-4 : (r pl : ℕ) → r < n → rpl r ≤ PLACE-LOADED-AGAIN → pl ≤ PLACE-LOADED-AGAIN
       → Core (modelStep h (Enter r) (At pl)) (tell t (Enter r) (At pl)) n m cur (upd rpl r pl) (upd rpk r (rpk r)) ppl pcl F E
-  enter-below-4 r pl rn old new = rw (ne-eqb pl 4 (λ eq. omega arith), ne-eqb pl 5 (λ eq. omega arith)) (reader-core r pl _ _ _ _ (at-or r (rw (same r) (let at-r = i .readers r in record {
+  enter-below-4 r pl rn old new = rw (ne-eqb pl 4 (λ eq. omega arith), ne-eqb pl 5 (λ eq. omega arith)) (reader-core r pl _ _ _ _ _ (at-or r (rw (same r) (let at-r = i .readers r in record {
     bound = λ _. rn;
     picked-is = at-r .picked-is ∙ rw (ne-eqb (rpl r) 5 (λ eq. omega arith), ne-eqb pl 5 (λ eq. omega arith)) refl;
     current-or-former = λ e. absurd (omega arith);
@@ -85,7 +86,7 @@ module _ (h : Model) (t : Told) (n m cur : ℕ) (rpl rpk ppl pcl : ℕ → ℕ) 
 
   enter-at-4 : (r : ℕ) → r < n
       → Core (modelStep h (Enter r) (At PLACE-OPEN)) (tell t (Enter r) (At PLACE-OPEN)) n m cur (upd rpl r PLACE-OPEN) (upd rpk r (rpk r)) ppl pcl F E
-  enter-at-4 r rn = reader-core r 4 _ _ _ _ (at-or r (rw (same r) (record {
+  enter-at-4 r rn = reader-core r 4 _ _ _ _ _ (at-or r (rw (same r) (record {
     bound = λ _. rn;
     picked-is = refl;
     current-or-former = λ e. absurd (omega arith);
@@ -94,7 +95,7 @@ module _ (h : Model) (t : Told) (n m cur : ℕ) (rpl rpk ppl pcl : ℕ → ℕ) 
 
   enter-at-5 : (r : ℕ) → r < n
       → Core (modelStep h (Enter r) (At PLACE-PICKED)) (tell t (Enter r) (At PLACE-PICKED)) n m cur (upd rpl r PLACE-PICKED) (upd rpk r cur) ppl pcl F E
-  enter-at-5 r rn = reader-core r 5 _ _ _ _ (at-or r (rw (same r, i .current-is) (record {
+  enter-at-5 r rn = reader-core r 5 _ _ _ _ _ (at-or r (rw (same r, i .current-is) (record {
     bound = λ _. rn;
     picked-is = refl;
     current-or-former = λ e. is-current refl;
@@ -107,12 +108,33 @@ module _ (h : Model) (t : Told) (n m cur : ℕ) (rpl rpk ppl pcl : ℕ → ℕ) 
   enter-core r pl pk rn (picks old new e) = rw (new, e) (enter-at-5 r rn)
 
   pub leave-core : (r pk : ℕ) (a : Reply) → Core h (tell t (Leave r) a) n m cur (upd rpl r PLACE-OUT) (upd rpk r pk) ppl pcl F E
-  leave-core r pk a = reader-core r 0 pk _ _ _ (at-or r (rw (same r) (record {
+  leave-core r pk a = reader-core r 0 pk _ _ _ _ (at-or r (rw (same r) (record {
     bound = λ e. absurd (omega arith);
     picked-is = refl;
     current-or-former = λ e. absurd (omega arith);
     noted = λ e. absurd (omega arith);
   })) (λ j e. rw e (i .readers j)))
+
+  -- A pick without a section, and its drop.
+  pub pick-core : (r : ℕ) → r < n → Core (withNote h r (h .table)) (afterPick t r) n m cur (upd rpl r PLACE-PICKED) (upd rpk r cur) ppl pcl F E
+  pick-core r rn = reader-core r 5 cur _ _ _ _ (at-or r (rw (same r, i .current-is) (record {
+    bound = λ _. rn;
+    picked-is = refl;
+    current-or-former = λ e. is-current refl;
+    noted = λ e. i .table;
+  })) (λ j e. rw e (i .readers j)))
+
+  pub drop-core : (r pk : ℕ) (deferral : Deferral) → Core h (withDeferral t (upd (t .picked) r none) (t .former) deferral) n m cur (upd rpl r PLACE-OUT) (upd rpk r pk) ppl pcl F E
+  drop-core r pk deferral = reader-core r 0 pk _ _ deferral _ (at-or r (rw (same r) (record {
+    bound = λ e. absurd (omega arith);
+    picked-is = refl;
+    current-or-former = λ e. absurd (omega arith);
+    noted = λ e. absurd (omega arith);
+  })) (λ j e. rw e (i .readers j)))
+
+  -- Told otherwise of deferred slots.
+  pub told-core : (deferral : Deferral) → Core h (withDeferral t (t .picked) (t .former) deferral) n m cur rpl rpk ppl pcl F E
+  told-core deferral = record { readers = i .readers; publishers = i .publishers; distinct = i .distinct; current-is = i .current-is; table = i .table; whole = i .whole }
 
   -- One publisher moves: each slot that it holds then it held before, or nobody did.
   distinct-moved : (p pl cl : ℕ) (G : ℕ → Bool) → ((x : ℕ) → Hold pl cl G x → Hold (ppl p) (pcl p) (F p) x ⊎ ((q : ℕ) → Hold (ppl q) (pcl q) (F q) x → ⊥))
@@ -260,6 +282,33 @@ module _ (h : Model) (t : Told) (n m cur : ℕ) (rpl rpk ppl pcl : ℕ → ℕ) 
       none-held : (x : ℕ) → Hold 0 cl G x → ⊥
       none-held x held = hold-map 0 cl G x held (λ l _ _. omega arith) (λ e. not-both _ e (G-is x))
 
+  -- Some former slots of a publisher are freed, of which no reader has picked one; f is what is told of former slots then.
+  pub shrink-core : (p : ℕ) (G : ℕ → Bool) (f : ℕ → ℕ → Bool) (deferral : Deferral) → ((x : ℕ) → G x ≡ true → F p x ≡ true) → ((r : ℕ) → rpl r ≡ PLACE-PICKED → F p (rpk r) ≡ true → G (rpk r) ≡ true)
+      → ((q x : ℕ) → f q x ≡ upd F p G q x) → Core h (withDeferral t (t .picked) f deferral) n m cur rpl rpk ppl pcl (upd F p G) E
+  shrink-core p G f deferral fewer kept told = record {
+    readers = readers-moved p G kept;
+    publishers = λ q. let at-q = i .publishers q in record {
+      bound = λ x held. at-q .bound x (before q x held);
+      writing-is = at-q .writing-is;
+      former-is = told q;
+      apart = λ x held. at-q .apart x (before q x held);
+      claim-is = at-q .claim-is;
+      not-former = λ low high e. at-q .not-former low high (was-former q _ e);
+      drafted = at-q .drafted;
+      written = at-q .written;
+    };
+    distinct = λ q q′ x held held′. i .distinct q q′ x (before q x held) (before q′ x held′);
+    current-is = i .current-is;
+    table = i .table;
+    whole = i .whole;
+  }
+    where
+      was-former : (q x : ℕ) → upd F p G q x ≡ true → F q x ≡ true
+      was-former q x = at-or p {Q = λ q. upd F p G q x ≡ true → F q x ≡ true} (rw (same p) (fewer x)) (λ j d. rw d (λ e. e)) q
+
+      before : (q x : ℕ) → Hold (ppl q) (pcl q) (upd F p G q) x → Hold (ppl q) (pcl q) (F q) x
+      before q x held = hold-map _ _ _ _ held (λ low high e. by-claim low high e) (λ e. by-swap (was-former q x e))
+
   -- WRITE of the next entry into the claimed slot.
   pub write-core : (p : ℕ) (v : ℤ) (a : Reply) (G : ℕ → Bool) → PLACE-CLAIMED ≤ ppl p → ppl p ≤ 32 → ((x′ : ℕ) → G x′ ≡ F p x′)
       → Core (modelStep h (Write p v) a) t n m cur rpl rpk (upd ppl p (ppl p + 1)) (upd pcl p (pcl p)) (upd F p G) (upd E (pcl p) (upd (E (pcl p)) (ppl p - 1) v))
@@ -393,7 +442,7 @@ module _ (h : Model) (t : Told) (n m cur : ℕ) (rpl rpk ppl pcl : ℕ → ℕ) 
 
 -- At the start: nothing picked, nothing held, and the entries of slot 0 are the first table.
 pub fresh-core : (first : List ℤ) (n m : ℕ) (E : ℕ → ℕ → ℤ) → length first ≡ TABLE → ((k : ℕ) → k < TABLE → entry first k ≡ some (E 0 k))
-    → Core (model₀ first) told₀ n m 0 (λ r. 0) (λ r. 0) (λ p. 0) (λ p. 0) (λ p x. false) E
+    → Core (model₀ first) (told₀ n) n m 0 (λ r. 0) (λ r. 0) (λ p. 0) (λ p. 0) (λ p x. false) E
 fresh-core first n m E len table = record {
   readers = λ r. record { bound = λ l. absurd (omega arith); picked-is = refl; current-or-former = λ l. absurd (omega arith); noted = λ l. absurd (omega arith) };
   publishers = λ p. record {

@@ -35,7 +35,7 @@ use Rattle.publication_law.specs.KindShows.{WholeInvariant}
 
 module _ (D : Detector) where
   -- At the start nobody is waited for.
-  pub start-own : (number : ℕ) (x : Reader) (z : Given) (s : State) → (let w = made number x z s .words in D .Readers (version w) (readers w) (indicator w) (readerAt w)) → invariantOf D (ghost₀ (z .table)) (made number x z s)
+  pub start-own : (number : ℕ) (x : Reader) (z : Given) (s : State) → (let w = made number x z s .words in D .Readers (version w) (readers w) (indicator w) (readerAt w)) → invariantOf D (ghost₀ (z .readers) (z .table)) (made number x z s)
   start-own number x z s f = record {
     waited-for = λ p r e. clash (sym e);
     counted = λ p. rw (fresh-publisher number (z .readers) (z .publishers) (z .slots) (z .version) x p) (λ l. absurd (omega arith));

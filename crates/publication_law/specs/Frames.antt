@@ -13,10 +13,12 @@ use lib.Dec.{eqb}
 use borrow.Author.Tests.{eqb-false, leb-false}
 use Rattle.base.specs.RowLaws.{AllClear, upd-other}
 use Rattle.calls.specs.declared.Call.{Call}
-use Rattle.calls.specs.declared.Call.the-variants.{Enter, Look, Leave, Claim, Write, Swap, Sync, Raise, Walk, Release}
+use Rattle.calls.specs.declared.Call.the-variants.{Enter, Look, Leave, Claim, Write, Swap, Sync, Raise, Walk, Release, Pick, Checkpoint, Defer}
 use Rattle.layout.specs.declared.Reader.{Reader}
 use Rattle.layout.specs.declared.Publisher.{Publisher}
 use Rattle.layout.specs.declared.WalkResult.{WalkResult}
+use Rattle.layout.specs.declared.Retirement.{Retirement}
+use Rattle.layout.specs.declared.Retired.{Retired}
 use Rattle.layout.specs.Layout.{HEAD, CURRENT-AT, VERSION-AT, RELEASES-AT, INDICATORS-AT, isIndicatorAt, publishers, readerWords, readerAt, publisherAt, withPublisher}
 use Rattle.layout.specs.Records.{_atPlace_}
 use Rattle.layout.specs.Laws.{head-publisher}
@@ -40,9 +42,12 @@ same-own publishes (Sync p) w = refl
 same-own publishes (Raise p) w = record { held = refl; walk = refl }
 same-own publishes (Walk p b) w = (refl, refl)
 same-own publishes (Release p) w = record { held = refl; walk = refl }
+same-own publishes (Pick r) w = record { first = refl; second = refl; published = refl }
+same-own publishes (Checkpoint r) w = record { picked = refl; one = (0, λ j l ne. refl) }
+same-own publishes (Defer p) w = record { first = refl; second = refl; picked = refl; held = refl; next = refl; looks = refl; waits = refl; step = refl; retired = λ i ne. refl }
 
 pub same-framed : (publishes : Bool) (c : Call) (w : List ℕ) → Framed publishes c w w
-same-framed publishes c w = record { long = refl; readers = λ r ne. refl; publishers = λ p ne. refl; own-stays = same-own publishes c w; head = λ j l e. refl; one = none-moved w w (λ j l. refl) }
+same-framed publishes c w = record { long = refl; readers = λ r ne. refl; publishers = λ p ne. refl; retirements = λ p ne. refl; retired = λ p ne. refl; own-stays = same-own publishes c w; head = λ j l e. refl; one = none-moved w w (λ j l. refl) }
 
 -- A reader of which besides its place only word j is new.
 pub place-and-one : (x x′ : Reader) (j : ℕ) → (1 ≢ j → x′ .first ≡ x .first) → (2 ≢ j → x′ .second ≡ x .second) → (3 ≢ j → x′ .published ≡ x .published) → (4 ≢ j → x′ .picked ≡ x .picked)
@@ -63,6 +68,8 @@ publisher-framed publishes c w w′ p y cur ver rel m e own stays one = record {
   long = m .long;
   readers = λ r ne. ap (λ (f : ℕ → Reader). f r) (m .readers-stay);
   publishers = λ q ne. ap (λ (f : ℕ → Publisher). f q) (m .publishers-are) ∙ upd-other (publisherAt w) p y q (λ e′. ne (e ∙ ap some e′));
+  retirements = λ q _. ap (λ (f : ℕ → Retirement). f q) (m .retirements-stay);
+  retired = λ q _. ap (λ (f : ℕ → ℕ → Retired). f q) (m .retired-stay);
   own-stays = own (publisher-written m);
   head = stays;
   one = one;
@@ -75,6 +82,8 @@ reader-framed publishes c w w′ r x m e named stays own = record {
   long = m .long;
   readers = λ r′ ne. ap (λ (f : ℕ → Reader). f r′) (m .readers-are) ∙ upd-other (readerAt w) r x r′ (λ e′. ne (e ∙ ap some e′));
   publishers = λ p ne. ap (λ (f : ℕ → Publisher). f p) (m .publishers-stay);
+  retirements = λ q _. ap (λ (f : ℕ → Retirement). f q) (m .retirements-stay);
+  retired = λ q _. ap (λ (f : ℕ → ℕ → Retired). f q) (m .retired-stay);
   own-stays = own (reader-written m);
   head = λ j l e′. at-head publishes refl j l (sym (ap (λ (f : ℕ → Bool). f j) named) ∙ e′);
   one = m .one;
@@ -101,8 +110,8 @@ module _ (publishes : Bool) (K : DamageRules) (s : State) (f : Undamaged K s) wh
   head-framed c p y j n lt low high e named own = publisher-framed publishes c _ _ p _ _ _ _ (publisher-moves-head f p y lt j n low high) e own
       (λ j′ l e′. getD-set-other (withPublisher (s .words) p y) j j′ n 0 (eqb-false j′ j (sym (ap (λ (f′ : ℕ → Bool). f′ j′) named) ∙ e′)) ∙ head-publisher (s .words) p y j′ l) (one-moved (s .words) (withPublisher (s .words) p y) j n (head-publisher (s .words) p y))
 
-  pub claim-framed : (exclusive : Bool) (p slot : ℕ) → ClaimClear exclusive s p slot → Framed publishes (Claim p slot) (s .words) (claim s p slot .after .words)
-  claim-framed exclusive p slot ok = record-framed (Claim p slot) p _ (ok .publisher-named) refl (ap (λ (own : Publisher). own .walk))
+  pub claim-framed : (exclusive retiring : Bool) (p slot : ℕ) → ClaimClear exclusive retiring s p slot → Framed publishes (Claim p slot) (s .words) (claim s p slot .after .words)
+  claim-framed exclusive retiring p slot ok = record-framed (Claim p slot) p _ (ok .publisher-named) refl (ap (λ (own : Publisher). own .walk))
 
   pub write-framed : (p : ℕ) (v : ℤ) → AllClear (writeTests s p v) → Framed publishes (Write p v) (s .words) (write s p v .after .words)
   write-framed p v ok = record-framed (Write p v) p _ (leb-false _ _ (ok .0)) refl (place-only _ _ _)

@@ -2,12 +2,12 @@
 use Prim.Native.Nat.{ℕ, _+_, _<_, _≤_}
 use native.Mathlib.Omega.{arith}
 use mathlib.Core.Path.{_≡_, refl, sym, _∙_}
-use mathlib.Core.Bool.{false}
+use mathlib.Core.Bool.{Bool, false, _&&_}
 use mathlib.Core.List.{List}
 use lib.IntN.{ℤ}
 use borrow.Author.Tests.{eqb-true, eq-eqb, leb-false, not-false}
 use Rattle.base.specs.Base.{upd}
-use Rattle.base.specs.RowLaws.{AllClear}
+use Rattle.base.specs.RowLaws.{AllClear, or-right}
 use Rattle.calls.specs.declared.Call.the-variants.{Enter, Leave, Sync, Raise, Walk, Release}
 use Rattle.calls.specs.declared.Reply.the-variants.{At, Left, Synced, Walked, Freed}
 use Rattle.calls.specs.declared.WalkReply.{WalkReply}
@@ -22,7 +22,7 @@ use Rattle.layout.specs.declared.WalkResult.{WalkResult}
 use Rattle.layout.specs.Layout.{VERSION-AT, RELEASES-AT, readers, publishers, slots, current, version, releases, noPublisher, slotEntry}
 use Rattle.layout.specs.Records.{_atPlace_, _walk≔_}
 use Rattle.layout.specs.Laws.{fresh-head}
-use Rattle.statement.specs.Machine.{State, state, Outcome, Given}
+use Rattle.statement.specs.Machine.{State, state, Outcome, Given, retires, retiredSlot}
 use Rattle.statement.specs.KeptInvariant.{Ghost, ghost₀, ghostStep}
 use Rattle.publication_law.specs.Steps.{reader, publisher, syncTests, sync, newWalk, raise, placeAfter, walked, walk, releaseTests, release, oneMore, made}
 use Rattle.publication_law.specs.Clear.{MakingClear}
@@ -34,14 +34,14 @@ use Rattle.publication_law.specs.CoreLaws.{enter-core, leave-core, late-
 use Rattle.publication_law.specs.Onward.{Onward}
 use Rattle.publication_law.specs.Core.Hold.{by-swap}
 use Rattle.publication_law.specs.GraceLaws.{enter-grace, leave-grace, early-grace, wait-grace, sync-grace, nobody, release-grace, fresh-grace}
-use Rattle.publication_law.specs.Single.{former-same}
+use Rattle.publication_law.specs.Single.{former-same, formers-same}
 use Rattle.publication_law.specs.Phases.{Phases}
 use Rattle.publication_law.specs.PhaseLaws.{place-phases, move-phases, stay-phases}
 use Rattle.publication_law.specs.Tallied.{Tallied}
 use Rattle.publication_law.specs.TallyLaws.{early-tallied, sync-tallied, wait-tallied, late-tallied, release-tallied, fresh-tallied}
 use Rattle.publication_law.specs.Decide.{raise-split}
 use Rattle.publication_law.specs.Moves.{MovesPublisher, MovesReader, publisher-moves, publisher-moves-head}
-use Rattle.publication_law.specs.Invariant.{formerAt, formers, Invariant}
+use Rattle.publication_law.specs.Invariant.{formers, formersOf, Invariant}
 use Rattle.publication_law.specs.InvariantLaws.{reader-moved, publisher-moved}
 use Rattle.publication_law.specs.GraceInvariant.{GraceInvariant}
 use Rattle.publication_law.specs.GraceInvariantLaws.{reader-moved-grace, publisher-moved-grace}
@@ -62,7 +62,7 @@ module _ (K : DamageRules) (z : Given) (g : Ghost) (s : State) (i : GraceInvaria
         → GraceInvariant K z (ghostStep g (Enter r) (At (x .place))) (state w′ (s .entries))
     enter-keeps rn on = reader-moved-grace K z s _ w′ r x m
         (reader-moved K z g s (i .every) _ w′ r x m ok (enter-core _ _ _ _ _ _ _ _ _ _ _ (i .every .core) r _ _ rn on) (place-phases _ _ _ _ (i .every .phases) r (x .place)))
-        (enter-grace (g .told) _ _ _ _ _ (i .grace) _ r _ _ on (λ p e. i .every .core .publishers p .apart _ (by-swap e) refl)) (i .tallied)
+        (enter-grace (g .told) _ _ _ _ _ (i .grace) _ r _ _ on (λ p e. i .every .core .publishers p .apart _ (by-swap (or-right (retires (K .number) && retiredSlot s p (current (s .words))) _ e)) refl)) (i .tallied)
 
     pub leave-keeps : x .place ≡ PLACE-OUT → GraceInvariant K z (ghostStep g (Leave r) Left) (state w′ (s .entries))
     leave-keeps out = reader-moved-grace K z s _ w′ r x m
@@ -76,16 +76,16 @@ module _ (K : DamageRules) (z : Given) (g : Ghost) (s : State) (i : GraceInvaria
   early-keeps g′ w′ es′ p y cur ver m j same-inside same-pend same-waits same-releases old new = publisher-moved-grace K z s g′ w′ es′ p y cur ver _ m j
       (rw (same-inside, same-pend) (early-grace (g .told) _ _ _ _ _ (i .grace) p _ _ old new)) (rw (same-waits, same-releases) (early-tallied _ _ _ _ _ (i .tallied) p _ _ new))
 
-  pub release-keeps : (p : ℕ) → AllClear (releaseTests s p)
+  pub release-keeps : retires (K .number) ≡ false → (p : ℕ) → AllClear (releaseTests s p)
       → K .publisherDamaged (readers (s .words)) (slots (s .words)) (publisher s p atPlace PLACE-IDLE) ≡ false
       → GraceInvariant K z (ghostStep g (Release p) (Freed (publisher s p .held) (oneMore s))) (release s p .after)
-  release-keeps p f ok =
+  release-keeps none-retired p f ok =
       let lt = leb-false (publishers (s .words)) p (f .0) in
       let at38 = eqb-true (publisher s p .place) 38 (not-false _ (f .1 .0)) in
       let m = publisher-moves-head (i .every .no-damage) p (publisher s p atPlace PLACE-IDLE) lt RELEASES-AT (oneMore s) (omega arith) (omega arith) in
       publisher-moved-grace K z s _ _ _ p _ _ _ _ m
       (publisher-moved K z g s (i .every) _ _ _ p _ _ _ _ m refl (i .every .no-damage .head .current-below) (i .every .no-damage .head .version-fits) ok
-      (release-core _ _ _ _ _ _ _ _ _ _ _ (i .every .core) p _ (Freed (publisher s p .held) (oneMore s)) _ (omega arith) (nobody (g .told) _ _ _ _ _ (i .grace) p at38) (λ slot. refl))
+      (release-core _ _ _ _ _ _ _ _ _ _ _ (i .every .core) p _ (Freed (publisher s p .held) (oneMore s)) _ (omega arith) (λ r five e. nobody (g .told) _ _ _ _ _ (i .grace) p at38 r five (rw none-retired at e)) (λ slot. rw none-retired refl))
       (move-phases _ _ _ _ (i .every .phases) p 0 idle refl))
       (release-grace (g .told) _ _ _ _ _ (i .grace) p _ at38) (release-tallied _ _ _ _ _ (i .tallied) p _)
 
@@ -97,8 +97,8 @@ module _ (K : DamageRules) (z : Given) (g : Ghost) (s : State) (i : GraceInvaria
   raised-in-order p e = i .every .phases .phases p ∙ rw e refl
 
   -- Who is idle is told to hold nothing.
-  pub idle-empty : (p : ℕ) → g .tally .phase p ≡ idle → (slot : ℕ) → holds (g .told) p slot ≡ false
-  idle-empty p e slot = sym (held-told K z g s (i .every) p slot) ∙ rw (eq-eqb (publisher s p .place) 0 (placed K z g s (i .every) p idle e)) refl
+  pub idle-empty : retires (K .number) ≡ false → (p : ℕ) → g .tally .phase p ≡ idle → (slot : ℕ) → holds (g .told) p slot ≡ false
+  idle-empty none-retired p e slot = sym (held-told K z g s (i .every) p slot) ∙ rw (i .every .no-damage .head .kind-is, none-retired, eq-eqb (publisher s p .place) 0 (placed K z g s (i .every) p idle e)) refl
 
 -- SYNC, RAISE and WALK, from what the shared steps need of a kind.
 module _ (K : DamageRules) (law : KindLaw K) (z : Given) (g : Ghost) (s : State) (i : GraceInvariant K z g s) where
@@ -108,8 +108,8 @@ module _ (K : DamageRules) (law : KindLaw K) (z : Given) (g : Ghost) (s : State)
   -- A publisher that holds its former slot before and after.
   late-slots : (p pl : ℕ) → PLACE-SWAPPED ≤ publisher s p .place → PLACE-SWAPPED ≤ pl
       → Core (g .model) (g .told) (readers (s .words)) (publishers (s .words)) (current (s .words)) (λ j. reader s j .place) (λ j. reader s j .picked)
-      (upd (λ q. publisher s q .place) p pl) (upd (λ q. publisher s q .held) p (publisher s p .held)) (upd (λ q. formers (publisher s q)) p (formerAt pl (publisher s p .held))) (slotEntry (s .entries))
-  late-slots p pl low new = late-core _ _ _ _ _ _ _ _ _ _ _ (i .every .core) p pl _ _ (λ l l′. omega arith) (λ l l′. omega arith) (λ slot. former-same (publisher s p .place) pl (publisher s p .held) slot low new)
+      (upd (λ q. publisher s q .place) p pl) (upd (λ q. publisher s q .held) p (publisher s p .held)) (upd (λ q. formersOf (retires (K .number)) s q (publisher s q)) p (formersOf (retires (K .number)) s p (publisher s p atPlace pl))) (slotEntry (s .entries))
+  late-slots p pl low new = late-core _ _ _ _ _ _ _ _ _ _ _ (i .every .core) p pl _ _ (λ l l′. omega arith) (λ l l′. omega arith) (λ slot. formers-same (retires (K .number) && retiredSlot s p slot) (publisher s p .place) pl (publisher s p .held) slot low new)
 
   pub sync-keeps : (p : ℕ) → AllClear (syncTests (K .versions) s p)
       → law .extraDamage (readers (s .words)) (publisher s p atPlace PLACE-SYNCHRONISING walk≔ newWalk (publisher s p .walk) (K .versions .markAt (version (s .words)))) ≡ false
@@ -190,15 +190,15 @@ module _ (K : DamageRules) (law : KindLaw K) (z : Given) (g : Ghost) (s : State)
         (walk-tallied (result .reply) _ ws)
 
 -- A fresh store.
-pub made-grace-invariant : (K : DamageRules) (x : Reader) (z : Given) (s : State) → MakingClear (K .versions) z s → x .place ≡ PLACE-OUT → x .picked ≡ 0
-    → K .readerDamaged (z .readers) (z .slots) x ≡ false → K .publisherDamaged (z .readers) (z .slots) noPublisher ≡ false → GraceInvariant K z (ghost₀ (z .table)) (made (K .number) x z s)
-made-grace-invariant K x z s f out none reader-ok publisher-ok = record {
-  every = every.made-invariant K x z s f out none reader-ok publisher-ok;
+pub made-grace-invariant : (K : DamageRules) (participants : Bool) (x : Reader) (z : Given) (s : State) → MakingClear participants (K .versions) z s → x .place ≡ PLACE-OUT → x .picked ≡ 0
+    → K .readerDamaged (z .readers) (z .slots) x ≡ false → K .publisherDamaged (z .readers) (z .slots) noPublisher ≡ false → GraceInvariant K z (ghost₀ (z .readers) (z .table)) (made (K .number) x z s)
+made-grace-invariant K participants x z s f out none reader-ok publisher-ok = record {
+  every = every.made-invariant K participants x z s f out none reader-ok publisher-ok;
   grace = rw (
     readers-fresh (K .number) x z s (λ (x′ : Reader). x′ .place) out refl,
     readers-fresh (K .number) x z s (λ (x′ : Reader). x′ .picked) none refl,
     publishers-fresh (K .number) x z s (λ (y : Publisher). y .place),
     publishers-fresh (K .number) x z s formers,
-  ) fresh-grace;
+  ) (fresh-grace (z .readers));
   tallied = rw (fresh-head (K .number) (z .readers) (z .publishers) (z .slots) (z .version) x RELEASES-AT (omega arith), publishers-fresh (K .number) x z s (λ (y : Publisher). y .place), publishers-fresh (K .number) x z s (λ (y : Publisher). y .walk .waits)) fresh-tallied;
 }

@@ -89,5 +89,5 @@ module _ (t : Told) (pend : Pend) (rpl rpk ppl : ℕ → ℕ) (F : ℕ → ℕ �
   pub release-grace : (p : ℕ) (G : ℕ → Bool) → ppl p ≡ PLACE-RETURNED → Grace (t .inside) pend rpl rpk (upd ppl p PLACE-IDLE) (upd F p G)
   release-grace p G at38 = move-grace p 0 G (λ r e. absurd (omega (arith, grace .awaited p r e .high))) (λ r five e l. absurd (omega arith))
 
-pub fresh-grace : Grace (told₀ .inside) (λ p r. false) (λ r. 0) (λ r. 0) (λ p. 0) (λ p x. false)
-fresh-grace = record { inside-is = λ r. refl; awaited = λ p r e. clash (sym e); covered = λ p r five. absurd (omega arith) }
+pub fresh-grace : (n : ℕ) → Grace (told₀ n .inside) (λ p r. false) (λ r. 0) (λ r. 0) (λ p. 0) (λ p x. false)
+fresh-grace n = record { inside-is = λ r. refl; awaited = λ p r e. clash (sym e); covered = λ p r five. absurd (omega arith) }

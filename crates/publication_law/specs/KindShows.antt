@@ -11,13 +11,13 @@ use lib.ListN.{getD, length-set}
 use lib.Seq.{getD-set-same, getD-set-other}
 use lib.Dec.{eqb}
 use borrow.Author.Tests.{eqb-true, eq-eqb, leb-false, lt-leb, lt-ltb, ltb-false, le-ltb, not-false}
-use Rattle.base.specs.RowLaws.{clash, not-both, neither, negated, within, AllClear, allAbove}
+use Rattle.base.specs.RowLaws.{clash, or-false, neither, negated, within, AllClear, allAbove, all-above}
 use Rattle.calls.specs.declared.Call.{Call}
-use Rattle.calls.specs.declared.Call.the-variants.{Enter, Look, Leave, Claim, Write, Swap, Sync, Raise, Walk, Release}
+use Rattle.calls.specs.declared.Call.the-variants.{Enter, Look, Leave, Claim, Write, Swap, Sync, Raise, Walk, Release, Pick, Checkpoint, Defer}
 use Rattle.calls.specs.declared.Reply.{Reply}
 use Rattle.calls.specs.declared.Reply.the-variants.{Made, At, Left, Synced, Walked, Freed, Refused}
 use Rattle.calls.specs.declared.WalkReply.the-variants.{Spent, Returned}
-use Rattle.calls.specs.Numbers.{READERS-MAX, NUMBER-MAX, NOT-READING, MODULUS, PLACE-OPEN, PLACE-IDLE, PLACE-CLAIMED, PLACE-WRITTEN, PLACE-SWAPPED, PLACE-RETURNED, DAMAGED}
+use Rattle.calls.specs.Numbers.{TABLE, READERS-MAX, NUMBER-MAX, MODULUS, PLACE-OPEN, PLACE-IDLE, PLACE-CLAIMED, PLACE-WRITTEN, PLACE-SWAPPED, PLACE-RETURNED, DAMAGED}
 use Rattle.calls.specs.ReplyNumbersLaws.{Representable}
 use Rattle.calls.specs.Events.{accepted}
 use Rattle.calls.specs.Events.Event.{_⇒_}
@@ -27,18 +27,18 @@ use Rattle.layout.specs.declared.Reader.{Reader}
 use Rattle.layout.specs.declared.Publisher.{Publisher}
 use Rattle.layout.specs.Layout.{HEAD, READERS-AT, PUBLISHERS-AT, SLOTS-AT, CURRENT-AT, VERSION-AT, RELEASES-AT, readers, publishers, slots, current, version, blankReader, noPublisher}
 use Rattle.layout.specs.Records.{_atPlace_, _held≔_}
-use Rattle.layout.specs.Laws.{publisher-back, fresh-head, fresh-long, fresh-indicator, fresh-reader, fresh-publisher}
-use Rattle.statement.specs.Machine.{State, state, Outcome, outcome, Given, Fresh, events, afterAll}
+use Rattle.layout.specs.Laws.{publisher-back, fresh-head, fresh-long, fresh-indicator, fresh-reader, fresh-publisher, fresh-retirement, fresh-retired}
+use Rattle.statement.specs.Machine.{State, state, Outcome, outcome, Given, Fresh, events, afterAll, retires}
 use Rattle.statement.specs.Demand3.{Demand3}
 use Rattle.statement.specs.Frame.{PlaceAndOne, LeaveStays, nextEntry, Writes}
 use Rattle.publication_tables.specs.FillLaws.{tables-long, tables-entry}
-use Rattle.statement.specs.Companions.{GraceTraits, IsFresh, MakesFresh, MakingAccepts, InTurn, StateCompanions, GraceStateCompanions, GraceCompanions}
+use Rattle.statement.specs.Companions.{GraceTraits, IsFresh, MakesFresh, MakingAccepts, Named, InTurn, StateCompanions, GraceStateCompanions, GraceCompanions}
 use Rattle.statement.specs.KeptInvariant.{Ghost, ghost₀, ghostStep, afterEvent, afterEvents, Back, GraceKeptInvariant, kept-after, grace-demand3, grace-companions}
 use Rattle.publication_law.specs.Steps.{reader, publisher, enterTests, leaveTests, syncTests, sync, raise, walk, oneMore, makingTests, made}
 use Rattle.publication_law.specs.Clear.{MakingClear, making-clear, making-rows, table-is-good, good-in-range, good-steps, claim-clear}
 use Rattle.publication_law.specs.Damage.{DamageRules, sharedDamage}
 use Rattle.publication_law.specs.Table.{damaged, rows, step, making, machine}
-use Rattle.publication_law.specs.SectionRules.{SectionRules, tableBy}
+use Rattle.publication_law.specs.SectionRules.{SectionRules, withoutSections, tableBy}
 use Rattle.publication_law.specs.DamageLaws.{Undamaged, undamaged-to, publisher-below}
 use Rattle.publication_law.specs.Moves.{MovesPublisher, MovesReader, publisher-moves, publisher-moves-head}
 use Rattle.publication_law.specs.Phases.{phaseAt}
@@ -46,9 +46,9 @@ use Rattle.publication_law.specs.PhaseLaws.{phase-turn}
 use Rattle.publication_law.specs.GraceInvariant.{GraceInvariant}
 use Rattle.publication_law.specs.KindLaw.{KindLaw, place-bounded, undamaged-publisher, early-fits}
 use Rattle.publication_law.specs.Keeps.{claim-keeps, write-keeps, swap-keeps, slots-right, picks-right, table-right, placed, idle-told, former-told}
-use Rattle.publication_law.specs.Served.{SharedCalls, named-reader, named-publisher, look-turn, claim-turn, write-turn, swap-turn, look-shelf, claim-not-picked, look-accepted, claims-on, refused-busy, writes-on, swaps-on}
+use Rattle.publication_law.specs.Served.{SharedCalls, named-reader, named-publisher, reader-named, publisher-named, slot-named, look-turn, claim-turn, write-turn, swap-turn, look-shelf, claim-not-picked, look-accepted, claims-on, refused-busy, writes-on, swaps-on}
 use Rattle.publication_law.specs.GraceKeeps.{early-keeps, release-keeps, released-in-order, idle-empty, moved-publisher-undamaged, made-grace-invariant}
-use Rattle.publication_law.specs.TableLaws.{ActFacts, ActLaws, row-numbers, only-damaged}
+use Rattle.publication_law.specs.TableLaws.{ActFacts, ActLaws, lacked-refused, only-damaged}
 use Rattle.publication_law.specs.Calls.{step-undamaged, undamaged-facts}
 use Rattle.publication_law.specs.Decide.{raise-split, decided, decide-accepts}
 use Rattle.publication_law.specs.Frames.{same-framed, reader-framed, claim-framed, write-framed, swap-framed, sync-framed, raise-framed, walk-framed, release-framed}
@@ -62,8 +62,11 @@ pub record KindShows (R : SectionRules) (traits : GraceTraits) : Type 1 where
   pub kind-law : KindLaw (R .damage)
   -- what is said of the kind beside its rules
   pub first-is : traits .every .firstTable ≡ (λ z. z .table)
-  pub lacks-is : (c : Call) → traits .every .lacks c ≡ false
+  pub lacks-is : (c : Call) → traits .every .lacks c ≡ withoutSections c
+  pub apart-is : traits .every .participants ≡ false
+  pub none-retired : retires (R .damage .number) ≡ false
   pub exclusive-is : traits .every .exclusive ≡ R .exclusive
+  pub no-participants : traits .every .participants ≡ false
   pub successor-is : traits .successor ≡ R .damage .versions .markAt
   pub raises-in : (phase : Phase) → traits .every .raisesIn phase ≡ R .raisesAt (firstPlace phase)
   pub walks-in : (phase : Phase) → traits .every .walksIn phase ≡ R .walksAt (firstPlace phase)
@@ -71,8 +74,8 @@ pub record KindShows (R : SectionRules) (traits : GraceTraits) : Type 1 where
   pub last-fits : (ver : ℕ) → ver ≤ traits .every .last → R .damage .versions .tooLarge ver ≡ false
   pub below-last : (ver : ℕ) → ver < traits .every .last → R .damage .versions .isLast ver ≡ false
   pub KindInvariant : Ghost → State → Type 0
-  pub start-own : (z : Given) (s : State) → MakingClear (R .damage .versions) z s → KindInvariant (ghost₀ (z .table)) (made (R .damage .number) (R .freshReader) z s)
-  pub fresh-is : R .freshReader ≡ blankReader NOT-READING
+  pub start-own : (z : Given) (s : State) → MakingClear false (R .damage .versions) z s → KindInvariant (ghost₀ (z .readers) (z .table)) (made (R .damage .number) (R .freshReader) z s)
+  pub fresh-is : (z : Given) → R .freshReader ≡ blankReader (traits .every .freshPublished z)
   pub fresh-reader-fits : (rs ss : ℕ) → R .damage .readerDamaged rs ss (R .freshReader) ≡ false
   pub no-further : (z : Given) (g : Ghost) (s : State) → WholeInvariant (R .damage) KindInvariant z g s → R .further s ≡ false
   -- below 35 a publisher's move does not touch the kind's own invariant
@@ -84,10 +87,10 @@ pub record KindShows (R : SectionRules) (traits : GraceTraits) : Type 1 where
   pub leave-moves : (s : State) → Undamaged (R .damage) s → (r : ℕ) → r < readers (s .words) → MovesReader (s .words) (R .leaveWords s r) r (left s r)
   pub enter-place : (s : State) → Undamaged (R .damage) s → (r : ℕ) → r < readers (s .words) → reader s r .place ≤ PLACE-OPEN → R .entered s r .place ≡ traits .nextPlace (reader s r .place)
   -- which numbers ENTER and LEAVE move of the head, in a kind that publishes readers' versions, and of a reader
-  pub enter-head : traits .publishes ≡ true → (s : State) (r j : ℕ) → j < HEAD → getD (R .enterWords s r) j 0 ≡ getD (s .words) j 0
-  pub leave-head : traits .publishes ≡ true → (s : State) (r j : ℕ) → j < HEAD → getD (R .leaveWords s r) j 0 ≡ getD (s .words) j 0
+  pub enter-head : traits .every .publishes ≡ true → (s : State) (r j : ℕ) → j < HEAD → getD (R .enterWords s r) j 0 ≡ getD (s .words) j 0
+  pub leave-head : traits .every .publishes ≡ true → (s : State) (r j : ℕ) → j < HEAD → getD (R .leaveWords s r) j 0 ≡ getD (s .words) j 0
   pub enter-stays : (s : State) (r : ℕ) → reader s r .place ≤ PLACE-OPEN → PlaceAndOne (reader s r) (R .entered s r)
-  pub leave-stays : (s : State) (r : ℕ) → LeaveStays (traits .publishes) (reader s r) (left s r)
+  pub leave-stays : (s : State) (r : ℕ) → LeaveStays (traits .every .publishes) (reader s r) (left s r)
   pub enter-kept : (z : Given) (g : Ghost) (s : State) → WholeInvariant (R .damage) KindInvariant z g s → (r : ℕ) → AllClear (enterTests s r)
       → WholeInvariant (R .damage) KindInvariant z (ghostStep g (Enter r) (At (R .entered s r .place))) (state (R .enterWords s r) (s .entries))
   pub leave-kept : (z : Given) (g : Ghost) (s : State) → WholeInvariant (R .damage) KindInvariant z g s → (r : ℕ) → AllClear (leaveTests s r)
@@ -119,35 +122,41 @@ module _ (R : SectionRules) (traits : GraceTraits) (L : KindShows R traits) wher
   numbers-above-1 s (Raise p) = refl
   numbers-above-1 s (Walk p b) = refl
   numbers-above-1 s (Release p) = refl
+  numbers-above-1 s (Pick r) = refl
+  numbers-above-1 s (Checkpoint r) = refl
+  numbers-above-1 s (Defer p) = refl
 
-  act-facts : (s : State) (c : Call) → AllClear (rows (tableBy R) s c) → ActFacts (traits .publishes) s c (tableBy R .act s c)
+  act-facts : (s : State) (c : Call) → AllClear (rows (tableBy R) s c) → ActFacts (traits .every .publishes) s c (tableBy R .act s c)
   act-facts s (Enter r) f = record {
     accepts = refl;
     representable = λ _. tt;
-    framed = reader-framed (traits .publishes) (Enter r) _ _ r _ (L .enter-moves s (undamaged-facts (tableBy R) s (f .0)) r (leb-false _ _ (f .1 .0))) refl refl (λ e. L .enter-head e s r)
+    framed = reader-framed (traits .every .publishes) (Enter r) _ _ r _ (L .enter-moves s (undamaged-facts (tableBy R) s (f .0)) r (leb-false _ _ (f .1 .0))) refl refl (λ e. L .enter-head e s r)
         (λ e. subst (λ (x : Reader). PlaceAndOne (reader s r) x) (sym e) (L .enter-stays s r (let less = leb-false 5 (reader s r .place) (f .1 .1 .0) in omega arith)));
     entries-stay = λ _. refl;
   }
-  act-facts s (Look r k) f = record { accepts = refl; representable = λ n. n _; framed = same-framed (traits .publishes) (Look r k) (s .words); entries-stay = λ _. refl }
+  act-facts s (Look r k) f = record { accepts = refl; representable = λ n. n _; framed = same-framed (traits .every .publishes) (Look r k) (s .words); entries-stay = λ _. refl }
   act-facts s (Leave r) f = record {
     accepts = refl;
     representable = λ _. tt;
-    framed = reader-framed (traits .publishes) (Leave r) _ _ r _ (L .leave-moves s (undamaged-facts (tableBy R) s (f .0)) r (leb-false _ _ (f .1 .0))) refl refl (λ e. L .leave-head e s r)
-        (λ e. subst (λ (x : Reader). LeaveStays (traits .publishes) (reader s r) x) (sym e) (L .leave-stays s r));
+    framed = reader-framed (traits .every .publishes) (Leave r) _ _ r _ (L .leave-moves s (undamaged-facts (tableBy R) s (f .0)) r (leb-false _ _ (f .1 .0))) refl refl (λ e. L .leave-head e s r)
+        (λ e. subst (λ (x : Reader). LeaveStays (traits .every .publishes) (reader s r) x) (sym e) (L .leave-stays s r));
     entries-stay = λ _. refl;
   }
-  act-facts s (Claim p slot) f = record { accepts = refl; representable = λ _. tt; framed = claim-framed (traits .publishes) (R .damage) s (undamaged-facts (tableBy R) s (f .0)) (R .exclusive) p slot (claim-clear (R .exclusive) s p slot (f .1)); entries-stay = λ _. refl }
-  act-facts s (Write p v) f = record { accepts = refl; representable = λ _. tt; framed = write-framed (traits .publishes) (R .damage) s (undamaged-facts (tableBy R) s (f .0)) p v (f .1); entries-stay = λ ne. absurd (ne p v refl) }
-  act-facts s (Swap p) f = record { accepts = refl; representable = λ _. tt; framed = swap-framed (traits .publishes) (R .damage) s (undamaged-facts (tableBy R) s (f .0)) p (f .1); entries-stay = λ _. refl }
-  act-facts s (Sync p) f = record { accepts = refl; representable = λ _. tt; framed = sync-framed (traits .publishes) (R .damage) s (undamaged-facts (tableBy R) s (f .0)) (R .damage .versions) p (f .1); entries-stay = λ _. refl }
+  act-facts s (Claim p slot) f = record { accepts = refl; representable = λ _. tt; framed = claim-framed (traits .every .publishes) (R .damage) s (undamaged-facts (tableBy R) s (f .0)) (R .exclusive) (retires (R .damage .number)) p slot (claim-clear (R .exclusive) (retires (R .damage .number)) s p slot (f .1)); entries-stay = λ _. refl }
+  act-facts s (Write p v) f = record { accepts = refl; representable = λ _. tt; framed = write-framed (traits .every .publishes) (R .damage) s (undamaged-facts (tableBy R) s (f .0)) p v (f .1); entries-stay = λ ne. absurd (ne p v refl) }
+  act-facts s (Swap p) f = record { accepts = refl; representable = λ _. tt; framed = swap-framed (traits .every .publishes) (R .damage) s (undamaged-facts (tableBy R) s (f .0)) p (f .1); entries-stay = λ _. refl }
+  act-facts s (Sync p) f = record { accepts = refl; representable = λ _. tt; framed = sync-framed (traits .every .publishes) (R .damage) s (undamaged-facts (tableBy R) s (f .0)) (R .damage .versions) p (f .1); entries-stay = λ _. refl }
   act-facts s (Raise p) f = record {
     accepts = raise-split (λ (o : Outcome). accepted (o .reply) ≡ true) (R .damage .versions) s p (λ _. refl) refl;
     representable = λ _. raise-split (λ (o : Outcome). Representable (o .reply)) (R .damage .versions) s p (λ _. tt) tt;
-    framed = raise-framed (traits .publishes) (R .damage) s (undamaged-facts (tableBy R) s (f .0)) (R .damage .versions) p (leb-false _ _ (f .1 .0));
+    framed = raise-framed (traits .every .publishes) (R .damage) s (undamaged-facts (tableBy R) s (f .0)) (R .damage .versions) p (leb-false _ _ (f .1 .0));
     entries-stay = λ _. raise-split (λ (o : Outcome). o .after .entries ≡ s .entries) (R .damage .versions) s p (λ _. refl) refl;
   }
-  act-facts s (Walk p b) f = record { accepts = refl; representable = λ _. tt; framed = walk-framed (traits .publishes) (R .damage) s (undamaged-facts (tableBy R) s (f .0)) p b (R .looks s p b) (leb-false _ _ (f .1 .0)) (L .mark-stays s p b); entries-stay = λ _. refl }
-  act-facts s (Release p) f = record { accepts = refl; representable = λ _. tt; framed = release-framed (traits .publishes) (R .damage) s (undamaged-facts (tableBy R) s (f .0)) p (f .1); entries-stay = λ _. refl }
+  act-facts s (Walk p b) f = record { accepts = refl; representable = λ _. tt; framed = walk-framed (traits .every .publishes) (R .damage) s (undamaged-facts (tableBy R) s (f .0)) p b (R .looks s p b) (leb-false _ _ (f .1 .0)) (L .mark-stays s p b); entries-stay = λ _. refl }
+  act-facts s (Release p) f = record { accepts = refl; representable = λ _. tt; framed = release-framed (traits .every .publishes) (R .damage) s (undamaged-facts (tableBy R) s (f .0)) p (f .1); entries-stay = λ _. refl }
+  act-facts s (Pick r) f = absurd (clash (f .0))
+  act-facts s (Checkpoint r) f = absurd (clash (f .0))
+  act-facts s (Defer p) f = absurd (clash (f .0))
 
   -- An accepted WRITE stores the next entry of the slot held, which is one of the entries.
   writes-right : (s : State) (p : ℕ) (v : ℤ) → AllClear (rows (tableBy R) s (Write p v)) → Writes s p v (tableBy R .act s (Write p v))
@@ -160,11 +169,11 @@ module _ (R : SectionRules) (traits : GraceTraits) (L : KindShows R traits) wher
         long = length-set (s .entries) (nextEntry s p) v;
       }
 
-  pub act-laws-of : ActLaws (λ s. traits .publishes) (tableBy R)
+  pub act-laws-of : ActLaws (λ s. traits .every .publishes) (tableBy R)
   act-laws-of = record { numbers-above-1 = λ s c _. numbers-above-1 s c; making-numbers = λ z s. refl; acts = act-facts; writes = writes-right }
 
   all-numbers : (s : State) (c : Call) → allAbove 0 (rows (tableBy R) s c) ≡ true
-  all-numbers s c = row-numbers (λ s. traits .publishes) (tableBy R) act-laws-of s c refl
+  all-numbers s c = all-above DAMAGED 0 (omega arith) (tableBy R .tests s c) (numbers-above-1 s c)
 
   -- Each step keeps the invariant.
   module _ (z : Given) (g : Ghost) (s : State) (i : WholeInvariant (R .damage) (L .KindInvariant) z g s) where
@@ -178,7 +187,7 @@ module _ (R : SectionRules) (traits : GraceTraits) (L : KindShows R traits) wher
     claim-kept : (p slot : ℕ) → AllClear (tableBy R .tests s (Claim p slot)) → After (Claim p slot) (tableBy R .act s (Claim p slot))
     unfolding After
     claim-kept p slot f =
-        let ok = claim-clear (R .exclusive) s p slot f in
+        let ok = claim-clear (R .exclusive) (retires (R .damage .number)) s p slot f in
         let y : Publisher = publisher s p atPlace PLACE-CLAIMED held≔ slot in
         let at-place-0 : publisher s p .place ≡ PLACE-IDLE = ok .in-turn in
         let m = publisher-moves (i .shared .every .no-damage) p y (ok .publisher-named) in record {
@@ -221,7 +230,7 @@ module _ (R : SectionRules) (traits : GraceTraits) (L : KindShows R traits) wher
     unfolding After
     release-kept p f =
         let y : Publisher = publisher s p atPlace PLACE-IDLE in record {
-          shared = release-keeps (R .damage) z g s (i .shared) p f (early-fits (L .kind-law) (readers (s .words)) (slots (s .words)) y (omega arith) (λ l. absurd (omega arith)));
+          shared = release-keeps (R .damage) z g s (i .shared) (L .none-retired) p f (early-fits (L .kind-law) (readers (s .words)) (slots (s .words)) y (omega arith) (λ l. absurd (omega arith)));
           own = L .early-own g _ s _ _ p y _ _ (i .own) refl
               (publisher-moves-head (i .shared .every .no-damage) p y (leb-false _ _ (f .0)) RELEASES-AT (oneMore s) (omega arith) (omega arith)) refl (omega arith);
         }
@@ -232,22 +241,25 @@ module _ (R : SectionRules) (traits : GraceTraits) (L : KindShows R traits) wher
         (R .damage .versions) s p (λ _ kept-now. record { shared = kept-now .shared; own = kept-now .own }) (λ kept-now. record { shared = kept-now .shared; own = kept-now .own })
         (L .raise-kept z g s i p (leb-false _ _ (f .0)) (not-false _ (f .1 .0)))
 
-    act-kept : (c : Call) → AllClear (tableBy R .tests s c) → After c (tableBy R .act s c)
+    act-kept : (c : Call) → AllClear (rows (tableBy R) s c) → After c (tableBy R .act s c)
     unfolding After
-    act-kept (Enter r) f = L .enter-kept z g s i r f
+    act-kept (Enter r) f = L .enter-kept z g s i r (f .1)
     act-kept (Look r k) f = record { shared = i .shared; own = i .own }
-    act-kept (Leave r) f = L .leave-kept z g s i r f
-    act-kept (Claim p slot) f = claim-kept p slot f
-    act-kept (Write p v) f = write-kept p v f
-    act-kept (Swap p) f = swap-kept p f
-    act-kept (Sync p) f = L .sync-kept z g s i p f
-    act-kept (Raise p) f = raised-kept p f
-    act-kept (Walk p b) f = L .walk-kept z g s i p b (leb-false _ _ (f .0)) (not-false _ (f .1 .0))
-    act-kept (Release p) f = release-kept p f
+    act-kept (Leave r) f = L .leave-kept z g s i r (f .1)
+    act-kept (Claim p slot) f = claim-kept p slot (f .1)
+    act-kept (Write p v) f = write-kept p v (f .1)
+    act-kept (Swap p) f = swap-kept p (f .1)
+    act-kept (Sync p) f = L .sync-kept z g s i p (f .1)
+    act-kept (Raise p) f = raised-kept p (f .1)
+    act-kept (Walk p b) f = L .walk-kept z g s i p b (leb-false _ _ (f .1 .0)) (not-false _ (f .1 .1 .0))
+    act-kept (Release p) f = release-kept p (f .1)
+    act-kept (Pick r) f = absurd (clash (f .0))
+    act-kept (Checkpoint r) f = absurd (clash (f .0))
+    act-kept (Defer p) f = absurd (clash (f .0))
 
     stepped : (c : Call) → WholeInvariant (R .damage) (L .KindInvariant) z (afterEvent g (c ⇒ step (tableBy R) s c .reply)) (step (tableBy R) s c .after)
     unfolding After step
-    stepped c = decided (After c) (rows (tableBy R) s c) (tableBy R .act s c) s (all-numbers s c) (λ f. act-kept c (f .1)) i
+    stepped c = decided (After c) (rows (tableBy R) s c) (tableBy R .act s c) s (all-numbers s c) (λ f. act-kept c f) i
 
     return-back : (p b looks waits : ℕ) → step (tableBy R) s (Walk p b) .reply ≡ Walked (Returned looks waits) → Back traits z g p looks waits
     unfolding step
@@ -260,15 +272,15 @@ module _ (R : SectionRules) (traits : GraceTraits) (L : KindShows R traits) wher
     release-order p = decided (λ (o : Outcome). accepted (o .reply) ≡ true → g .tally .phase p ≡ returned) (rows (tableBy R) s (Release p)) (tableBy R .act s (Release p)) s refl
         (λ f ok. released-in-order (R .damage) z g s (i .shared) p (f .1)) (λ ok. clash (sym ok))
 
-    not-damaged : (c : Call) → step (tableBy R) s c .reply ≢ Refused DAMAGED
-    not-damaged c = only-damaged (λ s. traits .publishes) (tableBy R) act-laws-of s c refl undamaged-now
+    not-damaged : (c : Call) → withoutSections c ≡ false → step (tableBy R) s c .reply ≢ Refused DAMAGED
+    not-damaged c has = only-damaged (λ s. traits .every .publishes) (tableBy R) act-laws-of s c has undamaged-now
 
-    accepts : (c : Call) → AllClear (tableBy R .tests s c) → step (tableBy R) s c ≡ tableBy R .act s c
+    accepts : (c : Call) → withoutSections c ≡ false → AllClear (tableBy R .tests s c) → step (tableBy R) s c ≡ tableBy R .act s c
     unfolding step
-    accepts c f = decide-accepts (rows (tableBy R) s c) (tableBy R .act s c) s (undamaged-now, f)
+    accepts c has f = decide-accepts (rows (tableBy R) s c) (tableBy R .act s c) s (neither (withoutSections c) (damaged (tableBy R) s) has undamaged-now, f)
 
     -- What every kind serves.
-    shared-calls : SharedCalls (R .exclusive) (machine (tableBy R)) s
+    shared-calls : SharedCalls (R .exclusive) (retires (R .damage .number)) (machine (tableBy R)) s
     shared-calls = record {
       looks = λ r k. sym (step-undamaged (tableBy R) s (Look r k) undamaged-now);
       claims = λ p slot. sym (step-undamaged (tableBy R) s (Claim p slot) undamaged-now);
@@ -277,7 +289,7 @@ module _ (R : SectionRules) (traits : GraceTraits) (L : KindShows R traits) wher
     }
 
     syncs-on : (p : ℕ) → p < z .publishers → g .tally .phase p ≡ swapped → version (s .words) < traits .every .last → accepted (step (tableBy R) s (Sync p) .reply) ≡ true
-    syncs-on p pn ph low = rw (accepts (Sync p) (named-publisher (R .damage) z g s (i .shared .every) p pn, (negated _ (eq-eqb (publisher s p .place) 34 (placed (R .damage) z g s (i .shared .every) p swapped ph)), (L .below-last (version (s .words)) low, tt)))) refl
+    syncs-on p pn ph low = rw (accepts (Sync p) refl (named-publisher (R .damage) z g s (i .shared .every) p pn, (negated _ (eq-eqb (publisher s p .place) 34 (placed (R .damage) z g s (i .shared .every) p swapped ph)), (L .below-last (version (s .words)) low, tt)))) refl
 
     -- Whether RAISE and WALK are in turn is told by the phase.
     turn-told : (f : ℕ → Bool) → ((pl : ℕ) → pl ≤ PLACE-SWAPPED → f pl ≡ false) → (p : ℕ) → p < publishers (s .words) → f (firstPlace (g .tally .phase p)) ≡ f (publisher s p .place)
@@ -294,33 +306,57 @@ module _ (R : SectionRules) (traits : GraceTraits) (L : KindShows R traits) wher
     raises-on p pn e =
         let turn : R .raisesAt (publisher s p .place) ≡ true = sym (raise-told p (leb-false _ _ (named-publisher (R .damage) z g s (i .shared .every) p pn))) ∙ e in
         let f : AllClear (tableBy R .tests s (Raise p)) = (named-publisher (R .damage) z g s (i .shared .every) p pn, (negated _ turn, tt)) in
-        rw (accepts (Raise p) f) (act-facts s (Raise p) (undamaged-now, f) .accepts)
+        rw (accepts (Raise p) refl f) (act-facts s (Raise p) (undamaged-now, f) .accepts)
 
     walks-on : (p b : ℕ) → p < z .publishers → traits .every .walksIn (g .tally .phase p) ≡ true → publisher s p .walk .looks + b ≤ NUMBER-MAX → accepted (step (tableBy R) s (Walk p b) .reply) ≡ true
     walks-on p b pn e few-looks =
         let turn : R .walksAt (publisher s p .place) ≡ true = sym (walk-told p (leb-false _ _ (named-publisher (R .damage) z g s (i .shared .every) p pn))) ∙ e in
-        rw (accepts (Walk p b) (named-publisher (R .damage) z g s (i .shared .every) p pn, (negated _ turn, (le-ltb NUMBER-MAX (publisher s p .walk .looks + b) few-looks, tt)))) refl
+        rw (accepts (Walk p b) refl (named-publisher (R .damage) z g s (i .shared .every) p pn, (negated _ turn, (le-ltb NUMBER-MAX (publisher s p .walk .looks + b) few-looks, tt)))) refl
+
+    -- An accepted call names what the store has.
+    named-clear : (c : Call) → withoutSections c ≡ false → AllClear (tableBy R .tests s c) → Named z c
+    named-clear (Enter r) has f = reader-named (R .damage) z g s (i .shared .every) r (f .0)
+    named-clear (Look r k) has f = (reader-named (R .damage) z g s (i .shared .every) r (f .0), leb-false TABLE k (f .1 .0))
+    named-clear (Leave r) has f = reader-named (R .damage) z g s (i .shared .every) r (f .0)
+    named-clear (Claim p slot) has f = (publisher-named (R .damage) z g s (i .shared .every) p (f .0), slot-named (R .damage) z g s (i .shared .every) slot (f .1 .0))
+    named-clear (Write p v) has f = (publisher-named (R .damage) z g s (i .shared .every) p (f .0), f .1 .0)
+    named-clear (Swap p) has f = publisher-named (R .damage) z g s (i .shared .every) p (f .0)
+    named-clear (Sync p) has f = publisher-named (R .damage) z g s (i .shared .every) p (f .0)
+    named-clear (Raise p) has f = publisher-named (R .damage) z g s (i .shared .every) p (f .0)
+    named-clear (Walk p b) has f = publisher-named (R .damage) z g s (i .shared .every) p (f .0)
+    named-clear (Release p) has f = publisher-named (R .damage) z g s (i .shared .every) p (f .0)
+    named-clear (Pick r) has f = absurd (clash has)
+    named-clear (Checkpoint r) has f = absurd (clash has)
+    named-clear (Defer p) has f = absurd (clash has)
+
+    named-right : (c : Call) → accepted (step (tableBy R) s c .reply) ≡ true → Named z c
+    unfolding step
+    named-right c = decided (λ (o : Outcome). accepted (o .reply) ≡ true → Named z c) (rows (tableBy R) s c) (tableBy R .act s c) s (all-numbers s c)
+        (λ f ok. named-clear c (or-false (withoutSections c) (damaged (tableBy R) s) (f .0) .0) (f .1)) (λ ok. clash (sym ok))
 
     -- An accepted call is in its turn.
     at-phase : (p pl : ℕ) (phase : Phase) → eqb (publisher s p .place) pl ≡ true → phaseAt pl ≡ phase → g .tally .phase p ≡ phase
     at-phase p pl phase e is = i .shared .every .phases .phases p ∙ (ap phaseAt (eqb-true (publisher s p .place) pl e) ∙ is)
 
-    turn-clear : (c : Call) → AllClear (tableBy R .tests s c) → InTurn (traits .every) (g .model) (g .tally) c
-    turn-clear (Enter r) f = let l = leb-false 5 (reader s r .place) (f .1 .0) in omega (arith, i .shared .every .phases .places r)
-    turn-clear (Look r k) f = look-turn (R .damage) z g s (i .shared .every) r k f
-    turn-clear (Leave r) f = let l = ltb-false (reader s r .place) 4 (f .1 .0) in omega (arith, i .shared .every .phases .places r)
-    turn-clear (Claim p slot) f = claim-turn (R .damage) z g s (i .shared .every) (R .exclusive) p slot f
-    turn-clear (Write p v) f = write-turn (R .damage) z g s (i .shared .every) p v f
-    turn-clear (Swap p) f = swap-turn (R .damage) z g s (i .shared .every) p f
-    turn-clear (Sync p) f = at-phase p 34 swapped (not-false _ (f .1 .0)) refl
-    turn-clear (Raise p) f = raise-told p (leb-false _ _ (f .0)) ∙ not-false _ (f .1 .0)
-    turn-clear (Walk p b) f = walk-told p (leb-false _ _ (f .0)) ∙ not-false _ (f .1 .0)
-    turn-clear (Release p) f = released-in-order (R .damage) z g s (i .shared) p f
+    turn-clear : (c : Call) → withoutSections c ≡ false → AllClear (tableBy R .tests s c) → InTurn (traits .every) (g .model) (g .told) (g .tally) c
+    turn-clear (Enter r) has f = let l = leb-false 5 (reader s r .place) (f .1 .0) in omega (arith, i .shared .every .phases .places r)
+    turn-clear (Look r k) has f = look-turn (R .damage) z g s (i .shared .every) r k f
+    turn-clear (Leave r) has f = let l = ltb-false (reader s r .place) 4 (f .1 .0) in omega (arith, i .shared .every .phases .places r)
+    turn-clear (Claim p slot) has f = claim-turn (R .damage) z g s (i .shared .every) (R .exclusive) p slot f
+    turn-clear (Write p v) has f = write-turn (R .damage) z g s (i .shared .every) p v f
+    turn-clear (Swap p) has f = swap-turn (R .damage) z g s (i .shared .every) p f
+    turn-clear (Sync p) has f = at-phase p 34 swapped (not-false _ (f .1 .0)) refl
+    turn-clear (Raise p) has f = raise-told p (leb-false _ _ (f .0)) ∙ not-false _ (f .1 .0)
+    turn-clear (Walk p b) has f = walk-told p (leb-false _ _ (f .0)) ∙ not-false _ (f .1 .0)
+    turn-clear (Release p) has f = released-in-order (R .damage) z g s (i .shared) p f
+    turn-clear (Pick r) has f = absurd (clash has)
+    turn-clear (Checkpoint r) has f = absurd (clash has)
+    turn-clear (Defer p) has f = absurd (clash has)
 
-    turn-right : (c : Call) → accepted (step (tableBy R) s c .reply) ≡ true → InTurn (traits .every) (g .model) (g .tally) c
+    turn-right : (c : Call) → accepted (step (tableBy R) s c .reply) ≡ true → InTurn (traits .every) (g .model) (g .told) (g .tally) c
     unfolding step
-    turn-right c = decided (λ (o : Outcome). accepted (o .reply) ≡ true → InTurn (traits .every) (g .model) (g .tally) c) (rows (tableBy R) s c) (tableBy R .act s c) s (all-numbers s c)
-        (λ f ok. turn-clear c (f .1)) (λ ok. clash (sym ok))
+    turn-right c = decided (λ (o : Outcome). accepted (o .reply) ≡ true → InTurn (traits .every) (g .model) (g .told) (g .tally) c) (rows (tableBy R) s c) (tableBy R .act s c) s (all-numbers s c)
+        (λ f ok. turn-clear c (or-false (withoutSections c) (damaged (tableBy R) s) (f .0) .0) (f .1)) (λ ok. clash (sym ok))
 
     frees-on : (p : ℕ) → p < z .publishers → g .tally .phase p ≡ returned
         → (slot : ℕ) × (g .told .former p slot ≡ true) × (step (tableBy R) s (Release p) .reply ≡ Freed slot ((g .tally .releases + 1) % MODULUS))
@@ -329,12 +365,13 @@ module _ (R : SectionRules) (traits : GraceTraits) (L : KindShows R traits) wher
         let top = place-bounded (L .kind-law) (readers (s .words)) (slots (s .words)) (publisher s p) (i .shared .every .no-damage .publishers-undamaged p (leb-false _ _ (named-publisher (R .damage) z g s (i .shared .every) p pn))) in
         let turn : not (eqb (publisher s p .place) PLACE-RETURNED) ≡ false = negated _ (eq-eqb (publisher s p .place) 38 (omega arith)) in
         let n : oneMore s ≡ (g .tally .releases + 1) % MODULUS = omega (arith, i .shared .tallied .releases-are) in
-        (publisher s p .held, former-told (R .damage) z g s (i .shared .every) p (omega arith), rw (accepts (Release p) (named-publisher (R .damage) z g s (i .shared .every) p pn, (turn, tt)), n) refl)
+        (publisher s p .held, former-told (R .damage) z g s (i .shared .every) p (omega arith), rw (accepts (Release p) refl (named-publisher (R .damage) z g s (i .shared .every) p pn, (turn, tt)), n) refl)
 
     state-companions : StateCompanions (machine (tableBy R)) (traits .every) z (g .model) (g .told) (g .tally) s
     state-companions = record {
-      undamaged = λ c _. not-damaged c;
-      lacked = λ c lacks. absurd (not-both _ lacks (L .lacks-is c));
+      undamaged = λ c has. not-damaged c (sym (L .lacks-is c) ∙ has);
+      lacked = λ c lacks. lacked-refused (tableBy R) s c (sym (L .lacks-is c) ∙ lacks);
+      named = named-right;
       in-turn = turn-right;
       looks = look-accepted (R .damage) z g s (i .shared .every) (R .exclusive) (machine (tableBy R)) shared-calls;
       claims = rw (L .exclusive-is) (claims-on (R .damage) z g s (i .shared .every) (R .exclusive) (machine (tableBy R)) shared-calls);
@@ -349,9 +386,9 @@ module _ (R : SectionRules) (traits : GraceTraits) (L : KindShows R traits) wher
       enters = λ r rn low.
           let same-place : g .tally .place r ≡ reader s r .place = i .shared .every .phases .places r in
           let rs : r < readers (s .words) = omega (arith, i .shared .every .sized .readers-are) in
-          rw (accepts (Enter r) (named-reader (R .damage) z g s (i .shared .every) r rn, (lt-leb 5 (reader s r .place) (omega arith), tt)), same-place) (ap At (L .enter-place s (i .shared .every .no-damage) r rs (omega arith)));
-      leaves = λ r rn four. rw (accepts (Leave r) (named-reader (R .damage) z g s (i .shared .every) r rn, (le-ltb (reader s r .place) 4 (omega (arith, i .shared .every .phases .places r)), tt))) refl;
-      idle-only-if = idle-empty (R .damage) z g s (i .shared);
+          rw (accepts (Enter r) refl (named-reader (R .damage) z g s (i .shared .every) r rn, (lt-leb 5 (reader s r .place) (omega arith), tt)), same-place) (ap At (L .enter-place s (i .shared .every .no-damage) r rs (omega arith)));
+      leaves = λ r rn four. rw (accepts (Leave r) refl (named-reader (R .damage) z g s (i .shared .every) r rn, (le-ltb (reader s r .place) 4 (omega (arith, i .shared .every .phases .places r)), tt))) refl;
+      idle-only-if = idle-empty (R .damage) z g s (i .shared) (L .none-retired);
       syncs = syncs-on;
       raises = raises-on;
       walks = walks-on;
@@ -363,19 +400,19 @@ module _ (R : SectionRules) (traits : GraceTraits) (L : KindShows R traits) wher
   outcome-parts : (o : Outcome) (a : Reply) (s : State) → o ≡ outcome a s → (o .reply ≡ a) × (o .after ≡ s)
   outcome-parts o a s e = (ap (λ (o′ : Outcome). o′ .reply) e, ap (λ (o′ : Outcome). o′ .after) e)
 
-  start : (s : State) (f : Fresh (machine (tableBy R)) s) → WholeInvariant (R .damage) (L .KindInvariant) (f .arguments) (ghost₀ (f .arguments .table)) s
+  start : (s : State) (f : Fresh (machine (tableBy R)) s) → WholeInvariant (R .damage) (L .KindInvariant) (f .arguments) (ghost₀ (f .arguments .readers) (f .arguments .table)) s
   unfolding making
-  start s f = decided (λ (o : Outcome). o ≡ outcome Made s → WholeInvariant (R .damage) (L .KindInvariant) (f .arguments) (ghost₀ (f .arguments .table)) s) (makingTests (R .damage .versions) (f .arguments) (f .lent))
+  start s f = decided (λ (o : Outcome). o ≡ outcome Made s → WholeInvariant (R .damage) (L .KindInvariant) (f .arguments) (ghost₀ (f .arguments .readers) (f .arguments .table)) s) (makingTests false (R .damage .versions) (f .arguments) (f .lent))
       (outcome Made (made (R .damage .number) (R .freshReader) (f .arguments) (f .lent))) (f .lent) refl
-      (λ ok e. subst (λ (s′ : State). WholeInvariant (R .damage) (L .KindInvariant) (f .arguments) (ghost₀ (f .arguments .table)) s′) (outcome-parts _ _ _ e .1) (record {
-        shared = made-grace-invariant (R .damage) (R .freshReader) (f .arguments) (f .lent) (making-clear (R .damage .versions) (f .arguments) (f .lent) ok) (ap (λ (x : Reader). x .place) (L .fresh-is)) (ap (λ (x : Reader). x .picked) (L .fresh-is)) (L .fresh-reader-fits _ _) (early-fits (L .kind-law) (f .arguments .readers) (f .arguments .slots) noPublisher (omega arith) (λ l. absurd (omega arith)));
-        own = L .start-own (f .arguments) (f .lent) (making-clear (R .damage .versions) (f .arguments) (f .lent) ok);
+      (λ ok e. subst (λ (s′ : State). WholeInvariant (R .damage) (L .KindInvariant) (f .arguments) (ghost₀ (f .arguments .readers) (f .arguments .table)) s′) (outcome-parts _ _ _ e .1) (record {
+        shared = made-grace-invariant (R .damage) false (R .freshReader) (f .arguments) (f .lent) (making-clear false (R .damage .versions) (f .arguments) (f .lent) ok) (ap (λ (x : Reader). x .place) (L .fresh-is (f .arguments))) (ap (λ (x : Reader). x .picked) (L .fresh-is (f .arguments))) (L .fresh-reader-fits _ _) (early-fits (L .kind-law) (f .arguments .readers) (f .arguments .slots) noPublisher (omega arith) (λ l. absurd (omega arith)));
+        own = L .start-own (f .arguments) (f .lent) (making-clear false (R .damage .versions) (f .arguments) (f .lent) ok);
       }))
       (λ e. absurd (let said = outcome-parts _ _ _ e .0 in let no : _≡_ {A = ℕ} 0 1 = cc in omega arith))
       (f .made)
 
   -- A fresh store is document 01's, number by number.
-  made-is : (z : Given) (s : State) → MakingClear (R .damage .versions) z s → IsFresh z (made (R .damage .number) (R .freshReader) z s)
+  made-is : (z : Given) (s : State) → MakingClear false (R .damage .versions) z s → IsFresh (traits .every) z (made (R .damage .number) (R .freshReader) z s)
   made-is z s ok =
       let number = R .damage .number in
       let x = R .freshReader in
@@ -385,21 +422,24 @@ module _ (R : SectionRules) (traits : GraceTraits) (L : KindShows R traits) wher
         publishers-given = head PUBLISHERS-AT (omega arith);
         slots-given = head SLOTS-AT (omega arith);
         version-given = head VERSION-AT (omega arith);
+        as-many = λ e. clash (sym e ∙ L .no-participants);
         current-is = head CURRENT-AT (omega arith);
         releases-are = head RELEASES-AT (omega arith);
         indicators-are = fresh-indicator number (z .readers) (z .publishers) (z .slots) (z .version) x;
-        readers-are = λ r l. fresh-reader number (z .readers) (z .publishers) (z .slots) (z .version) x r ∙ rw (lt-ltb r READERS-MAX l) (L .fresh-is);
+        readers-are = λ r l. fresh-reader number (z .readers) (z .publishers) (z .slots) (z .version) x r ∙ rw (lt-ltb r READERS-MAX l) (L .fresh-is z);
         publishers-are = fresh-publisher number (z .readers) (z .publishers) (z .slots) (z .version) x;
-        table-good = table-is-good (R .damage .versions) z s ok;
+        retirements-are = fresh-retirement number (z .readers) (z .publishers) (z .slots) (z .version) x;
+        retired-are = fresh-retired number (z .readers) (z .publishers) (z .slots) (z .version) x;
+        table-good = table-is-good false (R .damage .versions) z s ok;
         entries-long = tables-long (z .table) (ok .table-long) (z .slots);
         entries-are = tables-entry (z .table) (ok .table-long) (z .slots);
       }
 
-  pub makes-fresh-of : MakesFresh (machine (tableBy R))
+  pub makes-fresh-of : MakesFresh (machine (tableBy R)) (traits .every)
   unfolding making
-  makes-fresh-of s f = decided (λ (o : Outcome). o ≡ outcome Made s → IsFresh (f .arguments) s) (makingTests (R .damage .versions) (f .arguments) (f .lent))
+  makes-fresh-of s f = decided (λ (o : Outcome). o ≡ outcome Made s → IsFresh (traits .every) (f .arguments) s) (makingTests false (R .damage .versions) (f .arguments) (f .lent))
       (outcome Made (made (R .damage .number) (R .freshReader) (f .arguments) (f .lent))) (f .lent) refl
-      (λ ok e. subst (IsFresh (f .arguments)) (outcome-parts _ _ _ e .1) (made-is (f .arguments) (f .lent) (making-clear (R .damage .versions) (f .arguments) (f .lent) ok)))
+      (λ ok e. subst (IsFresh (traits .every) (f .arguments)) (outcome-parts _ _ _ e .1) (made-is (f .arguments) (f .lent) (making-clear false (R .damage .versions) (f .arguments) (f .lent) ok)))
       (λ e. absurd (let said = outcome-parts _ _ _ e .0 in let no : _≡_ {A = ℕ} 0 1 = cc in omega arith))
       (f .made)
 
@@ -422,9 +462,9 @@ module _ (R : SectionRules) (traits : GraceTraits) (L : KindShows R traits) wher
   }
 
   -- What the invariant gives after every list from fresh.
-  pub reached : (s : State) (f : Fresh (machine (tableBy R)) s) (cs : List Call) → WholeInvariant (R .damage) (L .KindInvariant) (f .arguments) (afterEvents (ghost₀ (traits .every .firstTable (f .arguments))) (events (machine (tableBy R)) s cs)) (afterAll (machine (tableBy R)) s cs)
+  pub reached : (s : State) (f : Fresh (machine (tableBy R)) s) (cs : List Call) → WholeInvariant (R .damage) (L .KindInvariant) (f .arguments) (afterEvents (ghost₀ (f .arguments .readers) (traits .every .firstTable (f .arguments))) (events (machine (tableBy R)) s cs)) (afterAll (machine (tableBy R)) s cs)
   unfolding kept
-  reached s f cs = kept-after (machine (tableBy R)) (traits .every) (kept .every) (f .arguments) (ghost₀ (traits .every .firstTable (f .arguments))) s (kept .every .start s f) cs
+  reached s f cs = kept-after (machine (tableBy R)) (traits .every) (kept .every) (f .arguments) (ghost₀ (f .arguments .readers) (traits .every .firstTable (f .arguments))) s (kept .every .start s f) cs
 
   pub demand3-of : Demand3 (machine (tableBy R)) (traits .every .firstTable)
   demand3-of = grace-demand3 (machine (tableBy R)) traits kept
@@ -434,7 +474,7 @@ module _ (R : SectionRules) (traits : GraceTraits) (L : KindShows R traits) wher
 
   -- The damage test is false after every list from fresh.
   pub never-damaged-of : (s : State) → Fresh (machine (tableBy R)) s → (cs : List Call) → damaged (tableBy R) (afterAll (machine (tableBy R)) s cs) ≡ false
-  never-damaged-of s f cs = go (ghost₀ (f .arguments .table)) s (start s f) cs
+  never-damaged-of s f cs = go (ghost₀ (f .arguments .readers) (f .arguments .table)) s (start s f) cs
     where
       go : (g : Ghost) (s′ : State) → WholeInvariant (R .damage) (L .KindInvariant) (f .arguments) g s′ → (cs : List Call) → damaged (tableBy R) (afterAll (machine (tableBy R)) s′ cs) ≡ false
       go g s′ i [] = undamaged-now (f .arguments) g s′ i
@@ -443,11 +483,12 @@ module _ (R : SectionRules) (traits : GraceTraits) (L : KindShows R traits) wher
   -- A making with every argument in its range is accepted.
   pub making-accepts-of : MakingAccepts (machine (tableBy R)) (traits .every)
   unfolding making
-  making-accepts-of z s long rs-low rs-high ps-low ps-high ss-low ss-high len low good = rw (decide-accepts (makingTests (R .damage .versions) z s) (outcome Made (made (R .damage .number) (R .freshReader) z s)) s
-      (making-rows (R .damage .versions) z s (record {
+  making-accepts-of z s long rs-low rs-high ps-low ps-high ss-low ss-high len low good as-many = rw (decide-accepts (makingTests false (R .damage .versions) z s) (outcome Made (made (R .damage .number) (R .freshReader) z s)) s
+      (making-rows false (R .damage .versions) z s (record {
         long = long;
         readers-low = rs-low;
         readers-high = rs-high;
+        as-many = λ e. absurd (clash (sym e));
         publishers-low = ps-low;
         publishers-high = ps-high;
         slots-low = ss-low;

@@ -1,7 +1,7 @@
 -- A step writes one record, and perhaps one number of the head: what the words then hold, by the laws of the layout. Assumes nothing.
 use Prim.Native.Nat.{ℕ, _<_, _≤_}
 use native.Mathlib.Omega.{arith}
-use mathlib.Core.Path.{_≡_, refl, ap, _∙_, fun-ext}
+use mathlib.Core.Path.{_≡_, refl, sym, ap, _∙_, fun-ext}
 use mathlib.Core.Bool.{Bool, true, false}
 use mathlib.Core.List.{List}
 use lib.ListN.{getD, set, length, length-set}
@@ -13,8 +13,8 @@ use Rattle.base.specs.RowLaws.{same}
 use Rattle.calls.specs.Numbers.{READERS-MAX, PUBLISHERS-MAX}
 use Rattle.layout.specs.declared.Reader.{Reader}
 use Rattle.layout.specs.declared.Publisher.{Publisher}
-use Rattle.layout.specs.Layout.{HEAD, indicator, CURRENT-AT, VERSION-AT, RELEASES-AT, WORDS, readers, publishers, current, version, releases, readerAt, publisherAt, withReader, withPublisher}
-use Rattle.layout.specs.Laws.{length-reader, length-publisher, head-reader, head-publisher, reader-head, publisher-head, reader-publisher, publisher-reader, reader-put, publisher-put, indicator-by}
+use Rattle.layout.specs.Layout.{HEAD, indicator, CURRENT-AT, VERSION-AT, RELEASES-AT, WORDS, readers, publishers, current, version, releases, readerAt, publisherAt, retirementAt, retiredAt, withReader, withPublisher}
+use Rattle.layout.specs.Laws.{length-reader, length-publisher, head-reader, head-publisher, reader-head, publisher-head, reader-publisher, publisher-reader, reader-put, publisher-put, retirement-head, retired-head, retirement-reader, retired-reader, retirement-publisher, retired-publisher, indicator-by}
 use Rattle.statement.specs.Machine.{State}
 use Rattle.statement.specs.Frame.{One}
 use Rattle.publication_law.specs.Damage.{DamageRules}
@@ -27,12 +27,20 @@ none-moved w w′ stays = (0, λ j l ne. stays j l)
 pub one-moved : (w w′ : List ℕ) (j n : ℕ) → ((j′ : ℕ) → j′ < HEAD → getD w′ j′ 0 ≡ getD w j′ 0) → One w (set w′ j n)
 one-moved w w′ j n stays = (j, λ j′ l ne. getD-set-other w′ j j′ n 0 ne ∙ stays j′ l)
 
-upd-field : {A B : Type 0} (f : A → B) (after before : ℕ → A) (i : ℕ) (value : A) → after ≡ upd before i value → _≡_ {A = ℕ → B} (λ j. f (after j)) (upd (λ j. f (before j)) i (f value))
+pub upd-field : {A B : Type 0} (f : A → B) (after before : ℕ → A) (i : ℕ) (value : A) → after ≡ upd before i value → _≡_ {A = ℕ → B} (λ j. f (after j)) (upd (λ j. f (before j)) i (f value))
 upd-field f after before i value e = fun-ext (λ j. ap (λ (all : ℕ → _). f (all j)) e ∙ go (eqb j i) j)
   where
     go : (b : Bool) (j : ℕ) → f (choose b value (before j)) ≡ choose b (f value) (f (before j))
     go true j = refl
     go false j = refl
+
+-- A value replaced by itself.
+pub upd-same : {A : Type 0} (f : ℕ → A) (i : ℕ) → upd f i (f i) ≡ f
+upd-same f i = fun-ext (λ j. go j (eqb j i) refl)
+  where
+    go : (j : ℕ) (b : Bool) → eqb j i ≡ b → choose b (f i) (f j) ≡ f j
+    go j true e = ap f (sym (eqb-true j i e))
+    go j false e = refl
 
 -- w′ is w with publisher p replaced by y, and this current slot, version and number of releases.
 pub record MovesPublisher (w w′ : List ℕ) (p : ℕ) (y : Publisher) (cur ver rel : ℕ) : Type 0 where
@@ -44,6 +52,8 @@ pub record MovesPublisher (w w′ : List ℕ) (p : ℕ) (y : Publisher) (cur ver
   pub releases-is : releases w′ ≡ rel
   pub readers-stay : readerAt w′ ≡ readerAt w
   pub publishers-are : publisherAt w′ ≡ upd (publisherAt w) p y
+  pub retirements-stay : retirementAt w′ ≡ retirementAt w
+  pub retired-stay : retiredAt w′ ≡ retiredAt w
 
 -- The record that was written is the one that is read.
 pub publisher-written : {w w′ : List ℕ} {p : ℕ} {y : Publisher} {cur ver rel : ℕ} → MovesPublisher w w′ p y cur ver rel → publisherAt w′ p ≡ y
@@ -64,6 +74,8 @@ moves-publisher w p y len lt = record {
   releases-is = head-publisher w p y RELEASES-AT (omega arith);
   readers-stay = reader-publisher w p y;
   publishers-are = publisher-put (λ (y′ : Publisher). y′) w p y len lt;
+  retirements-stay = retirement-publisher w p y lt;
+  retired-stay = retired-publisher w p y lt;
 }
 
 -- .. and one of current slot, version and releases replaced besides.
@@ -78,6 +90,8 @@ moves-head w w′ p y cur ver rel m len j n low high = record {
   releases-is = read RELEASES-AT rel (m .releases-is);
   readers-stay = reader-head w′ j n (omega arith) ∙ m .readers-stay;
   publishers-are = publisher-head w′ j n (omega arith) ∙ m .publishers-are;
+  retirements-stay = retirement-head w′ j n (omega arith) ∙ m .retirements-stay;
+  retired-stay = retired-head w′ j n (omega arith) ∙ m .retired-stay;
 }
   where
     read : (j′ n′ : ℕ) → getD w′ j′ 0 ≡ n′ → getD (set w′ j n) j′ 0 ≡ choose (eqb j′ j) n n′
@@ -94,6 +108,8 @@ pub record MovesReader (w w′ : List ℕ) (r : ℕ) (x : Reader) : Type 0 where
   pub one : One w w′
   pub readers-are : readerAt w′ ≡ upd (readerAt w) r x
   pub publishers-stay : publisherAt w′ ≡ publisherAt w
+  pub retirements-stay : retirementAt w′ ≡ retirementAt w
+  pub retired-stay : retiredAt w′ ≡ retiredAt w
 
 pub reader-written : {w w′ : List ℕ} {r : ℕ} {x : Reader} → MovesReader w w′ r x → readerAt w′ r ≡ x
 reader-written {r = r} m = ap (λ (f : ℕ → Reader). f r) (m .readers-are) ∙ rw (same r) refl
@@ -109,6 +125,8 @@ moves-reader w r x len lt = record {
   one = none-moved w (withReader w r x) (head-reader w r x);
   readers-are = reader-put (λ (x′ : Reader). x′) w r x len lt;
   publishers-stay = publisher-reader w r x lt;
+  retirements-stay = retirement-reader w r x lt;
+  retired-stay = retired-reader w r x lt;
 }
 
 -- .. and word j of the indicators replaced besides.
@@ -119,6 +137,8 @@ moves-indicator w r x m j n low high = record {
   one = one-moved w (withReader w r x) j n (head-reader w r x);
   readers-are = reader-head (withReader w r x) j n high ∙ m .readers-are;
   publishers-stay = publisher-head (withReader w r x) j n high ∙ m .publishers-stay;
+  retirements-stay = retirement-head (withReader w r x) j n high ∙ m .retirements-stay;
+  retired-stay = retired-head (withReader w r x) j n high ∙ m .retired-stay;
 }
 
 -- Of a store that is fine: each of its publishers and readers has a record.

@@ -1,4 +1,4 @@
--- What is promised of a kind with sections, SYNC and WALK, in one record; and the facts of a WALK that every kind has. Assumes nothing.
+-- What is promised of every kind, and of a kind with sections, SYNC and WALK besides, each in one record; and the facts of a WALK that every kind has. Assumes nothing.
 use Prim.Native.Nat.{ℕ, _<_, _≤_}
 use native.Mathlib.Omega.{arith}
 use mathlib.Core.Path.{_≡_, refl, sym, ap, _∙_}
@@ -25,7 +25,7 @@ use Rattle.statement.specs.Machine.{State, Outcome, Given, Fresh, afterAll}
 use Rattle.statement.specs.Demand3.{Demand3}
 use Rattle.statement.specs.Frame.{Frame}
 use Rattle.statement.specs.Looks.{LooksInRange, FirstTableUntilSwap, WritesInRange, looks-in-range, first-table-until-swap}
-use Rattle.statement.specs.Companions.{GraceTraits, MakingAccepts, MakesFresh, RefusedLeaves, GraceCompanions}
+use Rattle.statement.specs.Companions.{Traits, GraceTraits, MakingAccepts, MakesFresh, RefusedLeaves, Companions, GraceCompanions}
 use Rattle.publication_law.specs.Steps.{publisher, raise, walked}
 use Rattle.publication_law.specs.Table.{Table, damaged, rows, step, making, machine}
 use Rattle.publication_law.specs.SectionRules.{SectionRules, tableBy}
@@ -49,25 +49,31 @@ pub record RaiseFacts (successor : ℕ → ℕ) (s : State) (p : ℕ) (o : Outco
   pub shared : successor (version (s .words)) ≢ publisher s p .walk .mark → (o .reply ≡ Shared) × (version (o .after .words) ≡ version (s .words))
   pub record-is : publisher (o .after) p ≡ publisher s p atPlace PLACE-RAISED
 
-pub record Promises (T : Table) (traits : GraceTraits) : Type 0 where
-  pub demand3 : Demand3 (machine T) (traits .every .firstTable)
-  pub companions : GraceCompanions (machine T) traits
+-- What is promised of every kind.
+pub record EveryPromises (T : Table) (traits : Traits) : Type 0 where
+  pub demand3 : Demand3 (machine T) (traits .firstTable)
+  pub companions : Companions (machine T) traits
   -- every accepted look is of a pitch in range, and of the table lent to the making until a SWAP is accepted
   pub looks-in-range : LooksInRange (machine T)
   pub first-table-until-swap : FirstTableUntilSwap (machine T)
   -- the damage test is false after every list from fresh
   pub never-damaged : (s : State) → Fresh (machine T) s → (cs : List Call) → damaged T (afterAll (machine T) s cs) ≡ false
-  pub making-accepts : MakingAccepts (machine T) (traits .every)
+  pub making-accepts : MakingAccepts (machine T) traits
   pub refused-leaves : RefusedLeaves (machine T)
   pub frame : Frame (λ s. traits .publishes) (machine T)
   -- a fresh store is document 01's, number by number
-  pub makes-fresh : MakesFresh (machine T)
-  -- what an accepted SYNC and an accepted RAISE reply and store, for every state
-  pub sync-facts : (s : State) (p : ℕ) → accepted (step T s (Sync p) .reply) ≡ true → SyncFacts (traits .successor) s p (step T s (Sync p))
-  pub raise-facts : (s : State) (p : ℕ) → accepted (step T s (Raise p) .reply) ≡ true → RaiseFacts (traits .successor) s p (step T s (Raise p))
+  pub makes-fresh : MakesFresh (machine T) traits
   -- every reply of a store whose entries are pitches of 64 bits has three numbers for C that no other representable reply has
   pub representable : (s : State) (c : Call) → ((j : ℕ) → PitchFitsWord (getD (s .entries) j (pos 0))) → Representable (step T s c .reply)
   pub representable-making : (z : Given) (s : State) → Representable (making T z s .reply)
+
+-- .. and of a kind with sections, SYNC and WALK besides.
+pub record Promises (T : Table) (traits : GraceTraits) : Type 0 where
+  pub every : EveryPromises T (traits .every)
+  pub companions : GraceCompanions (machine T) traits
+  -- what an accepted SYNC and an accepted RAISE reply and store, for every state
+  pub sync-facts : (s : State) (p : ℕ) → accepted (step T s (Sync p) .reply) ≡ true → SyncFacts (traits .successor) s p (step T s (Sync p))
+  pub raise-facts : (s : State) (p : ℕ) → accepted (step T s (Raise p) .reply) ≡ true → RaiseFacts (traits .successor) s p (step T s (Raise p))
   -- a WALK with no looks that replies spent leaves the whole state as it was
   pub walk-zero : (s : State) (p : ℕ) → step T s (Walk p 0) .reply ≡ Walked Spent → step T s (Walk p 0) .after ≡ s
 
@@ -121,19 +127,22 @@ module _ (R : SectionRules) (traits : GraceTraits) (L : KindShows R traits) wher
 
 pub promises-of : (R : SectionRules) (traits : GraceTraits) → KindShows R traits → Promises (tableBy R) traits
 promises-of R traits L = record {
-  demand3 = demand3-of R traits L;
+  every = record {
+    demand3 = demand3-of R traits L;
+    companions = λ s f cs. companions-of R traits L s f cs .every;
+    looks-in-range = looks-in-range (machine (tableBy R)) (writes-in-range R traits L) (own-table R traits L) (traits .every) (makes-fresh-of R traits L);
+    first-table-until-swap = first-table-until-swap (machine (tableBy R)) (own-table R traits L);
+    never-damaged = never-damaged-of R traits L;
+    making-accepts = making-accepts-of R traits L;
+    refused-leaves = refused-leaves-of-acts (λ s. traits .every .publishes) (tableBy R) (act-laws-of R traits L);
+    frame = frame-of-table (λ s. traits .every .publishes) (tableBy R) (act-laws-of R traits L);
+    makes-fresh = makes-fresh-of R traits L;
+    representable = representable-of-table (λ s. traits .every .publishes) (tableBy R) (act-laws-of R traits L);
+    representable-making = representable-making-of-table (λ s. traits .every .publishes) (tableBy R) (act-laws-of R traits L);
+  };
   companions = companions-of R traits L;
-  looks-in-range = looks-in-range (machine (tableBy R)) (writes-in-range R traits L) (own-table R traits L) (makes-fresh-of R traits L);
-  first-table-until-swap = first-table-until-swap (machine (tableBy R)) (own-table R traits L);
-  never-damaged = never-damaged-of R traits L;
-  making-accepts = making-accepts-of R traits L;
-  refused-leaves = refused-leaves-of-acts (λ s. traits .publishes) (tableBy R) (act-laws-of R traits L);
-  frame = frame-of-table (λ s. traits .publishes) (tableBy R) (act-laws-of R traits L);
-  makes-fresh = makes-fresh-of R traits L;
   sync-facts = sync-facts-of R traits L;
   raise-facts = raise-facts-of R traits L;
-  representable = representable-of-table (λ s. traits .publishes) (tableBy R) (act-laws-of R traits L);
-  representable-making = representable-making-of-table (λ s. traits .publishes) (tableBy R) (act-laws-of R traits L);
   walk-zero = walk-zero-of R traits L;
 }
 

@@ -20,7 +20,7 @@ use Rattle.calls.specs.Told.{Has}
 use Rattle.calls.specs.Told.Role.{free}
 use Rattle.calls.specs.Tally.Phase.{idle, writing}
 use Rattle.layout.specs.Layout.{readers, publishers, slots, current}
-use Rattle.statement.specs.Machine.{State, Outcome, Given, Machine}
+use Rattle.statement.specs.Machine.{State, Outcome, Given, Machine, retires}
 use Rattle.statement.specs.KeptInvariant.{Ghost}
 use Rattle.publication_law.specs.Steps.{reader, publisher, decide, anotherBusy, lookTests, look, claimTests, claim, writeTests, write, swapTests, swap}
 use Rattle.publication_law.specs.Clear.{claim-clear, claim-rows}
@@ -32,9 +32,9 @@ use Rattle.publication_law.specs.Invariant.{Invariant}
 use Rattle.publication_law.specs.Keeps.{claim-unpicked, look-right, placed, busy-told, free-told}
 
 -- At a state the four calls of a machine are the shared ones.
-pub record SharedCalls (exclusive : Bool) (M : Machine) (s : State) : Type 0 where
+pub record SharedCalls (exclusive retiring : Bool) (M : Machine) (s : State) : Type 0 where
   pub looks : (r k : ℕ) → M .step s (Look r k) ≡ decide (lookTests s r k) (look s r k) s
-  pub claims : (p x : ℕ) → M .step s (Claim p x) ≡ decide (claimTests exclusive s p x) (claim s p x) s
+  pub claims : (p x : ℕ) → M .step s (Claim p x) ≡ decide (claimTests exclusive retiring s p x) (claim s p x) s
   pub writes : (p : ℕ) (v : ℤ) → M .step s (Write p v) ≡ decide (writeTests s p v) (write s p v) s
   pub swaps : (p : ℕ) → M .step s (Swap p) ≡ decide (swapTests s p) (swap s p) s
 
@@ -46,15 +46,25 @@ module _ (K : DamageRules) (z : Given) (g : Ghost) (s : State) (i : Invariant K 
   pub named-publisher : (p : ℕ) → p < z .publishers → leb (publishers (s .words)) p ≡ false
   named-publisher p l = lt-leb (publishers (s .words)) p (omega (arith, i .sized .publishers-are))
 
-  named-slot : (x : ℕ) → x < z .slots → leb (slots (s .words)) x ≡ false
+  pub named-slot : (x : ℕ) → x < z .slots → leb (slots (s .words)) x ≡ false
   named-slot x l = lt-leb (slots (s .words)) x (omega (arith, i .sized .slots-are))
+
+  -- .. and those of the store are the ones as made.
+  pub reader-named : (r : ℕ) → leb (readers (s .words)) r ≡ false → r < z .readers
+  reader-named r e = omega (arith, leb-false (readers (s .words)) r e, i .sized .readers-are)
+
+  pub publisher-named : (p : ℕ) → leb (publishers (s .words)) p ≡ false → p < z .publishers
+  publisher-named p e = omega (arith, leb-false (publishers (s .words)) p e, i .sized .publishers-are)
+
+  pub slot-named : (x : ℕ) → leb (slots (s .words)) x ≡ false → x < z .slots
+  slot-named x e = omega (arith, leb-false (slots (s .words)) x e, i .sized .slots-are)
 
   -- A call to which no row applies is in its turn.
   pub look-turn : (r k : ℕ) → AllClear (lookTests s r k) → g .tally .place r ≡ PLACE-PICKED
   look-turn r k f = i .phases .places r ∙ eqb-true (reader s r .place) 5 (not-false _ (f .1 .1 .0))
 
-  pub claim-turn : (exclusive : Bool) (p x : ℕ) → AllClear (claimTests exclusive s p x) → g .tally .phase p ≡ idle
-  claim-turn exclusive p x f = i .phases .phases p ∙ ap phaseAt (claim-clear exclusive s p x f .in-turn)
+  pub claim-turn : (exclusive : Bool) (p x : ℕ) → AllClear (claimTests exclusive (retires (K .number)) s p x) → g .tally .phase p ≡ idle
+  claim-turn exclusive p x f = i .phases .phases p ∙ ap phaseAt (claim-clear exclusive (retires (K .number)) s p x f .in-turn)
 
   pub write-turn : (p : ℕ) (v : ℤ) → AllClear (writeTests s p v) → (g .tally .phase p ≡ writing) × (length (g .model .draft p) < TABLE)
   write-turn p v f =
@@ -72,15 +82,15 @@ module _ (K : DamageRules) (z : Given) (g : Ghost) (s : State) (i : Invariant K 
   nobody-busy exclusive p f = and-not exclusive (anotherBusy s p) (λ d. no-below _ (publishers (s .words)) (λ q l. and-not (not (eqb q p)) (not (eqb (publisher s q .place) PLACE-IDLE))
       (λ ne. negated _ (eq-eqb (publisher s q .place) 0 (placed K z g s i q idle (f d q (eqb-false q p (not-true _ ne))))))))
 
-  module _ (exclusive : Bool) (M : Machine) (served : SharedCalls exclusive M s) where
+  module _ (exclusive : Bool) (M : Machine) (served : SharedCalls exclusive (retires (K .number)) M s) where
     -- Demand 3's looks and claims.
     pub look-shelf : (r k : ℕ) → accepted (M .step s (Look r k) .reply) ≡ true → (v : ℤ) × (M .step s (Look r k) .reply ≡ Pitch v) × (entry (g .model .note r) k ≡ some v)
     look-shelf r k = rw (served .looks r k) (decided (λ (o : Outcome). accepted (o .reply) ≡ true → (v : ℤ) × (o .reply ≡ Pitch v) × (entry (g .model .note r) k ≡ some v)) (lookTests s r k) (look s r k) s refl
         (λ f ok. (_, refl, look-right K z g s i r k f)) (λ ok. clash (sym ok)))
 
     pub claim-not-picked : (p x r : ℕ) → accepted (M .step s (Claim p x) .reply) ≡ true → ¬ (g .told .picked r ≡ some x)
-    claim-not-picked p x r = rw (served .claims p x) (decided (λ (o : Outcome). accepted (o .reply) ≡ true → ¬ (g .told .picked r ≡ some x)) (claimTests exclusive s p x) (claim s p x) s refl
-        (λ f ok. claim-unpicked K z g s i exclusive p x (claim-clear exclusive s p x f) r) (λ ok. clash (sym ok)))
+    claim-not-picked p x r = rw (served .claims p x) (decided (λ (o : Outcome). accepted (o .reply) ≡ true → ¬ (g .told .picked r ≡ some x)) (claimTests exclusive (retires (K .number)) s p x) (claim s p x) s refl
+        (λ f ok. claim-unpicked K z g s i exclusive p x (claim-clear exclusive (retires (K .number)) s p x f) r) (λ ok. clash (sym ok)))
 
     -- The companions.
     pub look-accepted : (r k : ℕ) → r < z .readers → k < TABLE → g .tally .place r ≡ PLACE-PICKED → accepted (M .step s (Look r k) .reply) ≡ true
@@ -94,7 +104,7 @@ module _ (K : DamageRules) (z : Given) (g : Ghost) (s : State) (i : Invariant K 
         → (exclusive ≡ true → (q : ℕ) → q ≢ p → g .tally .phase q ≡ idle) → M .step s (Claim p x) .reply ≡ Claimed x
     claims-on p x pn xn is-free idle-now others = rw (
       served .claims p x,
-      decide-accepts (claimTests exclusive s p x) (claim s p x) s (claim-rows exclusive s p x (record {
+      decide-accepts (claimTests exclusive (retires (K .number)) s p x) (claim s p x) s (claim-rows exclusive (retires (K .number)) s p x (record {
         publisher-named = leb-false _ _ (named-publisher p pn);
         slot-named = leb-false _ _ (named-slot x xn);
         in-turn = placed K z g s i p idle idle-now;

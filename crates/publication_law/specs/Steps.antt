@@ -19,7 +19,7 @@ use Rattle.layout.specs.declared.WalkRecord.{WalkRecord}
 use Rattle.layout.specs.declared.WalkResult.{WalkResult}
 use Rattle.layout.specs.Layout.{WORDS, readers, publishers, slots, current, version, releases, withCurrent, withVersion, withReleases, readerAt, publisherAt, withPublisher, freshWords, entryAt}
 use Rattle.layout.specs.Records.{_atPlace_, _held≔_, _walk≔_, _mark≔_, _next≔_, _looks≔_, _waits≔_}
-use Rattle.statement.specs.Machine.{State, state, Outcome, outcome, Given, heldSlot}
+use Rattle.statement.specs.Machine.{State, state, Outcome, outcome, Given, holdsSlot}
 
 -- What a kind fixes of versions and marks.
 pub record Versions : Type 0 where
@@ -96,15 +96,15 @@ leaveTests s r = noSuchReader s r ∷ readerTurn (ltb (reader s r .place) PLACE-
 abbrev pub anotherBusy : State → ℕ → Bool
 anotherBusy s p = anyBelow (λ q. not (eqb q p) && not (eqb (publisher s q .place) PLACE-IDLE)) (publishers (s .words))
 
--- A slot is free if it is not current and no publisher at a place other than 0 holds it.
-abbrev pub inUse : State → ℕ → Bool
-inUse s slot = eqb (current (s .words)) slot || anyBelow (λ q. heldSlot s q slot) (publishers (s .words))
+-- A slot is free if it is not current and no publisher holds it; in a kind that retires slots the retired ones are held too.
+abbrev pub inUse : Bool → State → ℕ → Bool
+inUse retiring s slot = eqb (current (s .words)) slot || anyBelow (λ q. holdsSlot retiring s q slot) (publishers (s .words))
 
 -- CLAIM p s: 0 to 1, holds s.
-abbrev pub claimTests : Bool → State → ℕ → ℕ → List Test
-claimTests exclusive s p slot =
+abbrev pub claimTests : Bool → Bool → State → ℕ → ℕ → List Test
+claimTests exclusive retiring s p slot =
     noSuchPublisher s p ∷ noSuchSlot s slot ∷ publisherTurn (not (eqb (publisher s p .place) PLACE-IDLE))
-    ∷ ((exclusive && anotherBusy s p) gives BUSY) ∷ (inUse s slot gives SLOT-IN-USE) ∷ []
+    ∷ ((exclusive && anotherBusy s p) gives BUSY) ∷ (inUse retiring s slot gives SLOT-IN-USE) ∷ []
 
 abbrev pub claim : State → ℕ → ℕ → Outcome
 claim s p slot = outcome (Claimed slot) (putPublisher s p (publisher s p atPlace PLACE-CLAIMED held≔ slot))
@@ -189,11 +189,12 @@ tableTests table =
 
 -- Making. 1 at any other length of the words, before all else;
 -- 2 readers, 3 publishers, 4 slots out of range; 5 entries' length; 6 first version above the last; then the first table.
-abbrev pub makingTests : Versions → Given → State → List Test
-makingTests vs z s =
+-- In a kind of participants publishers that are not as many as readers get 3 too.
+abbrev pub makingTests : Bool → Versions → Given → State → List Test
+makingTests participants vs z s =
     (not (eqb (length (s .words)) WORDS) gives DAMAGED)
     ∷ (outside 1 READERS-MAX (z .readers) gives BAD-READERS)
-    ∷ (outside 1 PUBLISHERS-MAX (z .publishers) gives BAD-PUBLISHERS)
+    ∷ (((participants && not (eqb (z .publishers) (z .readers))) || outside 1 PUBLISHERS-MAX (z .publishers)) gives BAD-PUBLISHERS)
     ∷ (outside SLOTS-MIN SLOTS-MAX (z .slots) gives BAD-SLOTS)
     ∷ (not (eqb (length (s .entries)) (z .slots * TABLE)) gives BAD-ENTRIES)
     ∷ (vs .tooLarge (z .version) gives BAD-VERSION)

@@ -84,6 +84,7 @@ module _ (M N : Machine) where
     state-same traits known = record {
       undamaged = λ c has. rw (e c) (known .undamaged c has);
       lacked = λ c lacks. rw (e c) (known .lacked c lacks);
+      named = λ c. rw (e c) (known .named c);
       in-turn = λ c. rw (e c) (known .in-turn c);
       looks = λ r k. rw (e (Look r k)) (known .looks r k);
       claims = λ p slot. rw (e (Claim p slot)) (known .claims p slot);
@@ -154,8 +155,8 @@ module _ (M N : Machine) where
     pub making-accepts-alike : (traits : Traits) → MakingAccepts M traits → MakingAccepts N traits
     making-accepts-alike traits promise z s = rw (like .makings z s) (promise z s)
 
-    pub makes-fresh-alike : MakesFresh M → MakesFresh N
-    makes-fresh-alike promise s f = promise s (fresh-alike s f)
+    pub makes-fresh-alike : (traits : Traits) → MakesFresh M traits → MakesFresh N traits
+    makes-fresh-alike traits promise s f = promise s (fresh-alike s f)
 
     -- From an accepted making on: the same replies, and the same states.
     made-fresh : (z : Given) (s : State) → M .making z s .reply ≡ Made → Fresh M (M .making z s .after)

@@ -1,18 +1,18 @@
 -- The companions of demand 3, without which a store of no use would meet it: what every kind serves, and what a kind with sections and grace periods serves besides.
 use Prim.Native.Nat.{ℕ, _+_, _*_, _%_, _<_, _≤_}
 use mathlib.Core.Path.{_≡_}
-use mathlib.Core.Logic.{_≢_}
+use mathlib.Core.Logic.{_≢_, _⊎_}
 use mathlib.Core.Bool.{Bool, true, false}
 use mathlib.Core.List.{List, _∷_, _++_}
 use mathlib.Core.Option.{some}
 use lib.IntN.{ℤ}
 use lib.ListN.{length}
 use Rattle.calls.specs.declared.Call.{Call}
-use Rattle.calls.specs.declared.Call.the-variants.{Enter, Look, Leave, Claim, Write, Swap, Sync, Raise, Walk, Release}
+use Rattle.calls.specs.declared.Call.the-variants.{Enter, Look, Leave, Claim, Write, Swap, Sync, Raise, Walk, Release, Pick, Checkpoint, Defer}
 use Rattle.calls.specs.declared.Reply.{Reply}
 use Rattle.calls.specs.declared.Reply.the-variants.{Made, At, Left, Claimed, Written, Swapped, Walked, Freed, Refused}
 use Rattle.calls.specs.declared.WalkReply.the-variants.{Returned}
-use Rattle.calls.specs.Numbers.{READERS-MAX, PUBLISHERS-MAX, SLOTS-MIN, SLOTS-MAX, TABLE, NOT-READING, NUMBER-MAX, MODULUS, PLACE-OPEN, PLACE-PICKED, DAMAGED, BUSY}
+use Rattle.calls.specs.Numbers.{READERS-MAX, PUBLISHERS-MAX, SLOTS-MIN, SLOTS-MAX, TABLE, NUMBER-MAX, MODULUS, PLACE-OPEN, PLACE-PICKED, DAMAGED, BUSY}
 use Rattle.calls.specs.FirstTable.{outOfRange, steep, entryOf}
 use Rattle.calls.specs.Events.{Event, accepted}
 use Rattle.calls.specs.Events.Event.{_⇒_}
@@ -20,8 +20,8 @@ use Rattle.calls.specs.Model.{Model, modelOf}
 use Rattle.calls.specs.Told.{Told, toldBy, holds, Has}
 use Rattle.calls.specs.Told.Role.{free}
 use Rattle.calls.specs.Tally.{Phase, Tally, tallyOf}
-use Rattle.calls.specs.Tally.Phase.{idle, writing, swapped, raised, returned}
-use Rattle.layout.specs.Layout.{WORDS, readers, publishers, slots, current, version, releases, indicator, noPublisher, blankReader, readerAt, publisherAt, entryAt}
+use Rattle.calls.specs.Tally.Phase.{idle, writing, swapped, synchronising, raised, returned}
+use Rattle.layout.specs.Layout.{WORDS, readers, publishers, slots, current, version, releases, indicator, noPublisher, noRetirement, noRetired, blankReader, readerAt, publisherAt, retirementAt, retiredAt, entryAt}
 use Rattle.statement.specs.Machine.{State, outcome, Given, Machine, Fresh, events, afterAll}
 
 -- In what the kinds differ here.
@@ -34,6 +34,12 @@ pub record Traits : Type 0 where
   pub lacks : Call → Bool
   -- whether a claim needs that every other publisher is idle
   pub exclusive : Bool
+  -- whether reader and publisher of one number are one participant, so that there are as many of one as of the other
+  pub participants : Bool
+  -- what each reader of a fresh store has published
+  pub freshPublished : Given → ℕ
+  -- whether readers publish versions, so that a LEAVE publishes too; a kind that does not counts readers in its indicators
+  pub publishes : Bool
   -- the phases in which RAISE and WALK are in turn; a kind without them has none
   pub raisesIn : Phase → Bool
   pub walksIn : Phase → Bool
@@ -47,8 +53,6 @@ pub record GraceTraits : Type 0 where
   pub successor : ℕ → ℕ
   -- the place that follows a reader's place
   pub nextPlace : ℕ → ℕ
-  -- whether readers publish versions, so that a LEAVE publishes too
-  pub publishes : Bool
 
 -- A table that a store may start with: 32 entries, each in range, and no two neighbours more than STEP-MAX apart.
 pub record GoodTable (table : List ℤ) : Type 0 where
@@ -56,56 +60,87 @@ pub record GoodTable (table : List ℤ) : Type 0 where
   pub in-range : (k : ℕ) → k < TABLE → outOfRange (entryOf table k) ≡ false
   pub steps-bounded : (k : ℕ) → k + 1 < TABLE → steep (entryOf table k) (entryOf table (k + 1)) ≡ false
 
--- A making with every argument in its range, lent words and entries of the right lengths and a good table, is accepted.
+-- A making with every argument in its range, lent words and entries of the right lengths and a good table, and in a kind of participants as many readers as publishers, is accepted.
 abbrev pub MakingAccepts : Machine → Traits → Type 0
 MakingAccepts M traits = (z : Given) (s : State) → length (s .words) ≡ WORDS → 1 ≤ z .readers → z .readers ≤ READERS-MAX → 1 ≤ z .publishers → z .publishers ≤ PUBLISHERS-MAX
-    → SLOTS-MIN ≤ z .slots → z .slots ≤ SLOTS-MAX → length (s .entries) ≡ z .slots * TABLE → z .version ≤ traits .last → GoodTable (z .table) → M .making z s .reply ≡ Made
+    → SLOTS-MIN ≤ z .slots → z .slots ≤ SLOTS-MAX → length (s .entries) ≡ z .slots * TABLE → z .version ≤ traits .last → GoodTable (z .table) → (traits .participants ≡ true → z .publishers ≡ z .readers) → M .making z s .reply ≡ Made
 
--- A fresh store, to the letter: entry k of every slot is entry k of the lent table, which is a good one; slot 0 current, readers and publishers at place 0, published versions NOT_READING, the version and the sizes as given
+-- A fresh store, to the letter: entry k of every slot is entry k of the lent table, which is a good one; in a kind of participants as many publishers as readers; slot 0 current, readers and publishers at place 0, published versions as the kind's fresh readers have them, the version and the sizes as given
 -- and every other number 0.
-pub record IsFresh (z : Given) (s : State) : Type 0 where
+pub record IsFresh (traits : Traits) (z : Given) (s : State) : Type 0 where
   pub long : length (s .words) ≡ WORDS
   pub readers-given : readers (s .words) ≡ z .readers
   pub publishers-given : publishers (s .words) ≡ z .publishers
   pub slots-given : slots (s .words) ≡ z .slots
   pub version-given : version (s .words) ≡ z .version
+  pub as-many : traits .participants ≡ true → z .publishers ≡ z .readers
   pub current-is : current (s .words) ≡ 0
   pub releases-are : releases (s .words) ≡ 0
   pub indicators-are : (i : ℕ) → indicator (s .words) i ≡ 0
-  pub readers-are : (r : ℕ) → r < READERS-MAX → readerAt (s .words) r ≡ blankReader NOT-READING
+  pub readers-are : (r : ℕ) → r < READERS-MAX → readerAt (s .words) r ≡ blankReader (traits .freshPublished z)
   pub publishers-are : (p : ℕ) → publisherAt (s .words) p ≡ noPublisher
+  pub retirements-are : (p : ℕ) → retirementAt (s .words) p ≡ noRetirement
+  pub retired-are : (p i : ℕ) → retiredAt (s .words) p i ≡ noRetired
   pub table-good : GoodTable (z .table)
   pub entries-long : length (s .entries) ≡ z .slots * TABLE
   pub entries-are : (slot k : ℕ) → slot < z .slots → k < TABLE → entryOf (s .entries) (entryAt slot k) ≡ entryOf (z .table) k
 
-abbrev pub MakesFresh : Machine → Type 0
-MakesFresh M = (s : State) (f : Fresh M s) → IsFresh (f .arguments) s
+abbrev pub MakesFresh : Machine → Traits → Type 0
+MakesFresh M traits = (s : State) (f : Fresh M s) → IsFresh traits (f .arguments) s
 
 -- A refused call changes neither the store nor the entries, and a refused making leaves both as lent.
 pub record RefusedLeaves (M : Machine) : Type 0 where
   pub step : (s : State) (c : Call) (n : ℕ) → M .step s c .reply ≡ Refused n → M .step s c .after ≡ s
   pub making : (z : Given) (s : State) (n : ℕ) → M .making z s .reply ≡ Refused n → M .making z s .after ≡ s
 
--- The turn of each call, by what the calls told: a reader's place, a publisher's phase and its draft.
-abbrev pub InTurn : Traits → Model → Tally → Call → Type 0
-InTurn traits h u (Enter r) = u .place r < PLACE-PICKED
-InTurn traits h u (Look r k) = u .place r ≡ PLACE-PICKED
-InTurn traits h u (Leave r) = PLACE-OPEN ≤ u .place r
-InTurn traits h u (Claim p slot) = u .phase p ≡ idle
-InTurn traits h u (Write p v) = (u .phase p ≡ writing) × (length (h .draft p) < TABLE)
-InTurn traits h u (Swap p) = (u .phase p ≡ writing) × (length (h .draft p) ≡ TABLE)
-InTurn traits h u (Sync p) = u .phase p ≡ swapped
-InTurn traits h u (Raise p) = traits .raisesIn (u .phase p) ≡ true
-InTurn traits h u (Walk p b) = traits .walksIn (u .phase p) ≡ true
-InTurn traits h u (Release p) = u .phase p ≡ returned
+-- Outside a checkpoint, and not between the two DEFERs of a deferral, as told.
+abbrev pub OutsideCheckpoint : Told → ℕ → Type 0
+OutsideCheckpoint t r = t .deferral .step r ≡ 0
+
+abbrev pub NotDeferring : Tally → ℕ → Type 0
+NotDeferring u p = u .phase p ≢ synchronising
+
+-- The turn of each call, by what the calls told: a reader's place, a publisher's phase and its draft, a participant's checkpoint.
+abbrev pub InTurn : Traits → Model → Told → Tally → Call → Type 0
+InTurn traits h t u (Enter r) = u .place r < PLACE-PICKED
+InTurn traits h t u (Look r k) = u .place r ≡ PLACE-PICKED
+InTurn traits h t u (Leave r) = PLACE-OPEN ≤ u .place r
+InTurn traits h t u (Claim p slot) = u .phase p ≡ idle
+InTurn traits h t u (Write p v) = (u .phase p ≡ writing) × (length (h .draft p) < TABLE)
+InTurn traits h t u (Swap p) = (u .phase p ≡ writing) × (length (h .draft p) ≡ TABLE)
+InTurn traits h t u (Sync p) = u .phase p ≡ swapped
+InTurn traits h t u (Raise p) = traits .raisesIn (u .phase p) ≡ true
+InTurn traits h t u (Walk p b) = traits .walksIn (u .phase p) ≡ true
+InTurn traits h t u (Release p) = u .phase p ≡ returned
+InTurn traits h t u (Pick r) = OutsideCheckpoint t r × NotDeferring u r
+InTurn traits h t u (Checkpoint r) = NotDeferring u r
+InTurn traits h t u (Defer p) = OutsideCheckpoint t p × ((u .phase p ≡ swapped) ⊎ (u .phase p ≡ synchronising))
+
+-- What a call names is there, in a store made with the arguments z: the reader, the publisher, the slot, the entry of a table; and a pitch is in range.
+abbrev pub Named : Given → Call → Type 0
+Named z (Enter r) = r < z .readers
+Named z (Look r k) = (r < z .readers) × (k < TABLE)
+Named z (Leave r) = r < z .readers
+Named z (Claim p slot) = (p < z .publishers) × (slot < z .slots)
+Named z (Write p v) = (p < z .publishers) × (outOfRange v ≡ false)
+Named z (Swap p) = p < z .publishers
+Named z (Sync p) = p < z .publishers
+Named z (Raise p) = p < z .publishers
+Named z (Walk p b) = p < z .publishers
+Named z (Release p) = p < z .publishers
+Named z (Pick r) = r < z .readers
+Named z (Checkpoint r) = r < z .readers
+Named z (Defer p) = p < z .publishers
 
 -- What holds of a state after a list of calls that told h, t and u.
 pub record StateCompanions (M : Machine) (traits : Traits) (z : Given) (h : Model) (t : Told) (u : Tally) (s : State) : Type 0 where
   -- never damaged: no call that the kind has is refused with 1, and every call that it lacks is, and changes nothing
   pub undamaged : (c : Call) → traits .lacks c ≡ false → M .step s c .reply ≢ Refused DAMAGED
   pub lacked : (c : Call) → traits .lacks c ≡ true → M .step s c ≡ outcome (Refused DAMAGED) s
+  -- an accepted call names what the store has
+  pub named : (c : Call) → accepted (M .step s c .reply) ≡ true → Named z c
   -- order: a call is accepted in its turn alone
-  pub in-turn : (c : Call) → accepted (M .step s c .reply) ≡ true → InTurn traits h u c
+  pub in-turn : (c : Call) → accepted (M .step s c .reply) ≡ true → InTurn traits h t u c
   -- LOOK is accepted after the pick
   pub looks : (r k : ℕ) → r < z .readers → k < TABLE → u .place r ≡ PLACE-PICKED → accepted (M .step s (Look r k) .reply) ≡ true
   -- an idle publisher's CLAIM of a slot told free, both in range, is accepted (exclusive: if every other one is idle too, else 31)
@@ -139,14 +174,14 @@ pub record GraceStateCompanions (M : Machine) (traits : GraceTraits) (z : Given)
 
 -- What stands beside demand 3 after every list of calls on a fresh state ..
 pub record ListCompanions (M : Machine) (traits : Traits) (z : Given) (s : State) (cs : List Call) : Type 0 where
-  pub state-companions : StateCompanions M traits z (modelOf (traits .firstTable z) (events M s cs)) (toldBy (events M s cs)) (tallyOf (events M s cs)) (afterAll M s cs)
+  pub state-companions : StateCompanions M traits z (modelOf (traits .firstTable z) (events M s cs)) (toldBy (z .readers) (events M s cs)) (tallyOf (events M s cs)) (afterAll M s cs)
   -- whole tables: the model's table always has 32 entries
   pub tables : length (modelOf (traits .firstTable z) (events M s cs) .table) ≡ TABLE
 
 -- .. and in a kind with sections and grace periods.
 pub record GraceListCompanions (M : Machine) (traits : GraceTraits) (z : Given) (s : State) (cs : List Call) : Type 0 where
   pub every : ListCompanions M (traits .every) z s cs
-  pub state-companions : GraceStateCompanions M traits z (modelOf (traits .every .firstTable z) (events M s cs)) (toldBy (events M s cs)) (tallyOf (events M s cs)) (afterAll M s cs)
+  pub state-companions : GraceStateCompanions M traits z (modelOf (traits .every .firstTable z) (events M s cs)) (toldBy (z .readers) (events M s cs)) (tallyOf (events M s cs)) (afterAll M s cs)
   -- order: of a publisher's CLAIM, SWAP, SYNC, quiet, RAISE, return and RELEASE the last one before a return is a RAISE ..
   pub returns-after : (pre post : List Event) (p b looks waits : ℕ) → events M s cs ≡ pre ++ (Walk p b ⇒ Walked (Returned looks waits)) ∷ post → tallyOf pre .phase p ≡ raised
   -- .. and the last one before an accepted RELEASE is a return

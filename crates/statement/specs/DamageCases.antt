@@ -62,8 +62,8 @@ abbrev times : ℕ → List ℕ → List ℕ
 times zero l = []
 times (suc n) l = l ++ times n l
 
-abbrev pub spelled : ℕ → State
-spelled kind = state (kind ∷ 1 ∷ 1 ∷ 2 ∷ 0 ∷ 0 ∷ 0 ∷ 0 ∷ 0 ∷ times 64 (0 ∷ 0 ∷ 0 ∷ 18446744073709551615 ∷ 0 ∷ []) ++ times 16 (0 ∷ 0 ∷ 0 ∷ 0 ∷ 0 ∷ 0 ∷ [])) (replicate 64 (pos 90000))
+abbrev pub spelled : ℕ → ℕ → State
+spelled kind published = state (kind ∷ 1 ∷ 1 ∷ 2 ∷ 0 ∷ 0 ∷ 0 ∷ 0 ∷ 0 ∷ times 64 (0 ∷ 0 ∷ 0 ∷ published ∷ 0 ∷ []) ++ times 16 (0 ∷ 0 ∷ 0 ∷ 0 ∷ 0 ∷ 0 ∷ []) ++ times 288 (0 ∷ [])) (replicate 64 (pos 90000))
 
 -- The five numbers of a reader and the six of a publisher, in the layout's order.
 abbrev pub readerAs : (place first second published picked : ℕ) → Reader

@@ -9,14 +9,14 @@ use lib.IntN.{ℤ, pos}
 use lib.ListN.{getD, length}
 use lib.Dec.{eqb}
 use Rattle.calls.specs.declared.Call.{Call}
-use Rattle.calls.specs.declared.Call.the-variants.{Enter, Look, Leave, Claim, Write, Swap, Sync, Raise, Walk, Release}
+use Rattle.calls.specs.declared.Call.the-variants.{Enter, Look, Leave, Claim, Write, Swap, Sync, Raise, Walk, Release, Pick, Checkpoint, Defer}
 use Rattle.calls.specs.Events.{accepted}
 use Rattle.layout.specs.declared.Reader.{Reader}
 use Rattle.layout.specs.declared.Publisher.{Publisher}
-use Rattle.layout.specs.Layout.{HEAD, CURRENT-AT, VERSION-AT, RELEASES-AT, isIndicatorAt, readerWords, readerAt, publisherAt, entryAt}
+use Rattle.layout.specs.Layout.{HEAD, CURRENT-AT, VERSION-AT, RELEASES-AT, isIndicatorAt, readerWords, readerAt, publisherAt, retirementAt, retiredAt, entryAt}
 use Rattle.statement.specs.Machine.{State, Outcome, Machine}
 
--- The reader or the publisher that a call names.
+-- The reader, the publisher, and the publisher's retired slots that a call names. DEFER p names participant p, as reader and as publisher.
 abbrev pub readerNamed : Call → Option ℕ
 readerNamed (Enter r) = some r
 readerNamed (Look r k) = some r
@@ -28,6 +28,9 @@ readerNamed (Sync p) = none
 readerNamed (Raise p) = none
 readerNamed (Walk p b) = none
 readerNamed (Release p) = none
+readerNamed (Pick r) = some r
+readerNamed (Checkpoint r) = some r
+readerNamed (Defer p) = some p
 
 abbrev pub publisherNamed : Call → Option ℕ
 publisherNamed (Enter r) = none
@@ -40,8 +43,26 @@ publisherNamed (Sync p) = some p
 publisherNamed (Raise p) = some p
 publisherNamed (Walk p b) = some p
 publisherNamed (Release p) = some p
+publisherNamed (Pick r) = none
+publisherNamed (Checkpoint r) = none
+publisherNamed (Defer p) = some p
 
--- The words of the head that a call may move: SWAP the current slot, RAISE the version, RELEASE the releases;
+abbrev pub retirementNamed : Call → Option ℕ
+retirementNamed (Enter r) = none
+retirementNamed (Look r k) = none
+retirementNamed (Leave r) = none
+retirementNamed (Claim p slot) = none
+retirementNamed (Write p v) = none
+retirementNamed (Swap p) = none
+retirementNamed (Sync p) = none
+retirementNamed (Raise p) = none
+retirementNamed (Walk p b) = none
+retirementNamed (Release p) = none
+retirementNamed (Pick r) = none
+retirementNamed (Checkpoint r) = some r
+retirementNamed (Defer p) = some p
+
+-- The words of the head that a call may move: SWAP the current slot, RAISE and DEFER the version, RELEASE the releases;
 -- ENTER and LEAVE an indicator, in a kind that does not publish readers' versions but counts readers there.
 abbrev pub headNamed : Bool → Call → ℕ → Bool
 headNamed publishes (Enter r) i = not publishes && isIndicatorAt i
@@ -54,6 +75,9 @@ headNamed publishes (Sync p) i = false
 headNamed publishes (Raise p) i = eqb i VERSION-AT
 headNamed publishes (Walk p b) i = false
 headNamed publishes (Release p) i = eqb i RELEASES-AT
+headNamed publishes (Pick r) i = false
+headNamed publishes (Checkpoint r) i = false
+headNamed publishes (Defer p) i = eqb i VERSION-AT
 
 -- Of the head at most one word moved.
 abbrev pub One : List ℕ → List ℕ → Type 0
@@ -75,6 +99,29 @@ pub record HeldAndWalkStay (y y′ : Publisher) : Type 0 where
   pub held : y′ .held ≡ y .held
   pub walk : y′ .walk ≡ y .walk
 
+-- PICK: the place and the picked slot may move.
+pub record PickStays (reader reader′ : Reader) : Type 0 where
+  pub first : reader′ .first ≡ reader .first
+  pub second : reader′ .second ≡ reader .second
+  pub published : reader′ .published ≡ reader .published
+
+-- CHECKPOINT r: of the reader the place and at most one of the loaded, the least and the observed epoch may move; of r's retirement step and count, and its retired slots.
+pub record CheckpointStays (reader reader′ : Reader) : Type 0 where
+  pub picked : reader′ .picked ≡ reader .picked
+  pub one : PlaceAndOne reader reader′
+
+-- DEFER p: of reader p the place and the observed epoch may move, of publisher p the place and the mark, of its retirement the count, and the first place behind its retired slots.
+pub record DeferStays (p : ℕ) (w w′ : List ℕ) : Type 0 where
+  pub first : readerAt w′ p .first ≡ readerAt w p .first
+  pub second : readerAt w′ p .second ≡ readerAt w p .second
+  pub picked : readerAt w′ p .picked ≡ readerAt w p .picked
+  pub held : publisherAt w′ p .held ≡ publisherAt w p .held
+  pub next : publisherAt w′ p .walk .next ≡ publisherAt w p .walk .next
+  pub looks : publisherAt w′ p .walk .looks ≡ publisherAt w p .walk .looks
+  pub waits : publisherAt w′ p .walk .waits ≡ publisherAt w p .walk .waits
+  pub step : retirementAt w′ p .step ≡ retirementAt w p .step
+  pub retired : (i : ℕ) → i ≢ retirementAt w p .count → retiredAt w′ p i ≡ retiredAt w p i
+
 -- What stays of the record that a call names, in a kind that publishes readers' versions or does not: of LOOK all; CLAIM may move place and held,
 -- WRITE, RAISE and RELEASE the place, SWAP place and held, SYNC place and walk, WALK place, next, looks and waits,
 -- ENTER the place and at most one more, LEAVE the place and, where it publishes, the published version.
@@ -89,12 +136,17 @@ NamedStays publishes (Sync p) w w′ = publisherAt w′ p .held ≡ publisherAt 
 NamedStays publishes (Raise p) w w′ = HeldAndWalkStay (publisherAt w p) (publisherAt w′ p)
 NamedStays publishes (Walk p b) w w′ = (publisherAt w′ p .held ≡ publisherAt w p .held) × (publisherAt w′ p .walk .mark ≡ publisherAt w p .walk .mark)
 NamedStays publishes (Release p) w w′ = HeldAndWalkStay (publisherAt w p) (publisherAt w′ p)
+NamedStays publishes (Pick r) w w′ = PickStays (readerAt w r) (readerAt w′ r)
+NamedStays publishes (Checkpoint r) w w′ = CheckpointStays (readerAt w r) (readerAt w′ r)
+NamedStays publishes (Defer p) w w′ = DeferStays p w w′
 
 -- Only what is named moved.
 pub record Framed (publishes : Bool) (c : Call) (w w′ : List ℕ) : Type 0 where
   pub long : length w′ ≡ length w
   pub readers : (r : ℕ) → readerNamed c ≢ some r → readerAt w′ r ≡ readerAt w r
   pub publishers : (p : ℕ) → publisherNamed c ≢ some p → publisherAt w′ p ≡ publisherAt w p
+  pub retirements : (p : ℕ) → retirementNamed c ≢ some p → retirementAt w′ p ≡ retirementAt w p
+  pub retired : (p : ℕ) → retirementNamed c ≢ some p → retiredAt w′ p ≡ retiredAt w p
   pub own-stays : NamedStays publishes c w w′
   pub head : (i : ℕ) → i < HEAD → headNamed publishes c i ≡ false → getD w′ i 0 ≡ getD w i 0
   pub one : One w w′

@@ -23,7 +23,7 @@ pub record FreeSlot (M : Machine) (z : Given) (t : Told) (s : State) (p : ℕ) :
 abbrev pub FindsFreeSlot : Machine → Type 0
 FindsFreeSlot M = (s : State) (f : Fresh M s) (cs : List Call) → f .arguments .publishers < f .arguments .slots
     → (p : ℕ) → p < f .arguments .publishers → tallyOf (events M s cs) .phase p ≡ idle
-    → FreeSlot M (f .arguments) (toldBy (events M s cs)) (afterAll M s cs) p
+    → FreeSlot M (f .arguments) (toldBy (f .arguments .readers) (events M s cs)) (afterAll M s cs) p
 
 pub finds-free-slot-alike : (M N : Machine) → Alike M N → FindsFreeSlot M → FindsFreeSlot N
 finds-free-slot-alike M N like promise s f cs room p pn idle-now =

@@ -6,7 +6,7 @@ use mathlib.Core.Path.{_≡_, refl, sym, ap, _∙_, subst}
 use mathlib.Core.Logic.{_⊎_, inl, inr}
 use mathlib.Core.Bool.{Bool, true, false}
 use mathlib.Core.List.{List, [], _∷_, _++_}
-use mathlib.Core.Option.{Option, some}
+use mathlib.Core.Option.{Option, none, some}
 use lib.IntN.{ℤ}
 use lib.ListN.{length}
 use lib.Dec.{eqb}
@@ -14,7 +14,7 @@ use borrow.Author.Tests.{eqb-true}
 use Rattle.base.specs.Base.{choose, upd, is}
 use Rattle.base.specs.RowLaws.{not-both, same, choose-split}
 use Rattle.calls.specs.declared.Call.{Call}
-use Rattle.calls.specs.declared.Call.the-variants.{Enter, Look, Leave, Claim, Write, Swap, Sync, Raise, Walk, Release}
+use Rattle.calls.specs.declared.Call.the-variants.{Enter, Look, Leave, Claim, Write, Swap, Sync, Raise, Walk, Release, Pick, Checkpoint, Defer}
 use Rattle.calls.specs.declared.Reply.{Reply}
 use Rattle.calls.specs.declared.Reply.the-variants.{Pitch, Walked}
 use Rattle.calls.specs.declared.WalkReply.the-variants.{Returned}
@@ -22,7 +22,7 @@ use Rattle.calls.specs.Numbers.{TABLE, PLACE-OPEN, PLACE-PICKED}
 use Rattle.calls.specs.Events.{Event, accepted, placeOf, movedBy, foldEvents}
 use Rattle.calls.specs.Events.Event.{_⇒_}
 use Rattle.calls.specs.Model.{Model, model₀, modelStep, entry}
-use Rattle.calls.specs.Told.{Told, told₀, tell, afterEnter}
+use Rattle.calls.specs.Told.{Told, told₀, tell, afterEnter, afterCheckpoint}
 use Rattle.calls.specs.Tally.{Tally, tally₀, tally}
 use Rattle.calls.specs.Tally.Phase.{raised, returned}
 use Rattle.statement.specs.Machine.{State, Given, Machine, Fresh, events, afterAll}
@@ -44,6 +44,9 @@ pending pend t (Sync p) = upd pend p (t .inside)
 pending pend t (Raise p) = pend
 pending pend t (Walk p b) = pend
 pending pend t (Release p) = pend
+pending pend t (Pick r) = pend
+pending pend t (Checkpoint r) = pend
+pending pend t (Defer p) = pend
 
 -- All that the calls told, with what is pending.
 pub record Ghost : Type 0 where
@@ -52,8 +55,8 @@ pub record Ghost : Type 0 where
   pub pend : Pend
   pub tally : Tally
 
-abbrev pub ghost₀ : List ℤ → Ghost
-ghost₀ first = record { model = model₀ first; told = told₀; pend = λ p r. false; tally = tally₀ }
+abbrev pub ghost₀ : ℕ → List ℤ → Ghost
+ghost₀ n first = record { model = model₀ first; told = told₀ n; pend = λ p r. false; tally = tally₀ }
 
 -- After an accepted call, and after any call.
 abbrev pub ghostStep : Ghost → Call → Reply → Ghost
@@ -94,7 +97,7 @@ pub record Back (traits : GraceTraits) (z : Given) (g : Ghost) (p looks waits : 
 -- An invariant of a kind, which holds of every fresh state and is kept by every step, and what it gives.
 pub record KeptInvariant (M : Machine) (traits : Traits) : Type 1 where
   pub Inv : Given → Ghost → State → Type 0
-  pub start : (s : State) (f : Fresh M s) → Inv (f .arguments) (ghost₀ (traits .firstTable (f .arguments))) s
+  pub start : (s : State) (f : Fresh M s) → Inv (f .arguments) (ghost₀ (f .arguments .readers) (traits .firstTable (f .arguments))) s
   pub keep : (z : Given) (g : Ghost) (s : State) → Inv z g s → (c : Call) → Inv z (afterEvent g (c ⇒ M .step s c .reply)) (M .step s c .after)
   pub look : (z : Given) (g : Ghost) (s : State) → Inv z g s → (r k : ℕ)
       → accepted (M .step s (Look r k) .reply) ≡ true → (v : ℤ) × (M .step s (Look r k) .reply ≡ Pitch v) × (entry (g .model .note r) k ≡ some v)
@@ -160,6 +163,11 @@ entered-inside t r′ r place e = choose-split (λ (t′ : Told). t′ .inside r
     there true d = rw (d, ← eqb-true r r′ d) e
     there false d = rw d e
 
+-- Nor does a CHECKPOINT.
+checked-inside : (t : Told) (r′ r : ℕ) (step : Option ℕ) → t .inside r ≡ true → afterCheckpoint t r′ step .inside r ≡ true
+checked-inside t r′ r none e = e
+checked-inside t r′ r (some k) e = e
+
 still-call : (g : Ghost) (p r : ℕ) → Still g p r → (c : Call) (a : Reply) → (c ≡ Leave r) ⊎ Still (ghostStep g c a) p r
 still-call g p r awaits (Enter r′) a = inr (record { awaited = awaits .awaited; opened = entered-inside (g .told) r′ r (placeOf a) (awaits .opened) })
 still-call g p r awaits (Look r′ k) a = inr (record { awaited = awaits .awaited; opened = awaits .opened })
@@ -179,6 +187,9 @@ still-call g p r awaits (Sync q) a = inr (record { awaited = go (eqb p q); opene
 still-call g p r awaits (Raise q) a = inr (record { awaited = awaits .awaited; opened = awaits .opened })
 still-call g p r awaits (Walk q b) a = inr (record { awaited = awaits .awaited; opened = awaits .opened })
 still-call g p r awaits (Release q) a = inr (record { awaited = awaits .awaited; opened = awaits .opened })
+still-call g p r awaits (Pick r′) a = inr (record { awaited = awaits .awaited; opened = awaits .opened })
+still-call g p r awaits (Checkpoint r′) a = inr (record { awaited = awaits .awaited; opened = checked-inside (g .told) r′ r (placeOf a) (awaits .opened) })
+still-call g p r awaits (Defer q) a = inr (record { awaited = awaits .awaited; opened = awaits .opened })
 
 still-one : (g : Ghost) (p r : ℕ) → Still g p r → (c : Call) (a : Reply) → ((c ≡ Leave r) × (accepted a ≡ true)) ⊎ Still (afterEvent g (c ⇒ a)) p r
 still-one g p r awaits c a = go (accepted a) refl (still-call g p r awaits c a)
@@ -211,49 +222,49 @@ still-synced g p r a ok e = rw ok (record { awaited = rw (same p) e; opened = e 
 
 -- What an invariant gives after every list from fresh.
 module _ (M : Machine) (traits : Traits) (kept : KeptInvariant M traits) (s : State) (f : Fresh M s) (cs : List Call) where
-  to : (pre : List Event) (c : Call) (a : Reply) (post : List Event) → events M s cs ≡ pre ++ (c ⇒ a) ∷ post → Reach M traits kept (f .arguments) (ghost₀ (traits .firstTable (f .arguments))) pre c a post
-  to pre c a post e = reach M traits kept (f .arguments) (ghost₀ (traits .firstTable (f .arguments))) s (kept .start s f) cs pre c a post e
+  to : (pre : List Event) (c : Call) (a : Reply) (post : List Event) → events M s cs ≡ pre ++ (c ⇒ a) ∷ post → Reach M traits kept (f .arguments) (ghost₀ (f .arguments .readers) (traits .firstTable (f .arguments))) pre c a post
+  to pre c a post e = reach M traits kept (f .arguments) (ghost₀ (f .arguments .readers) (traits .firstTable (f .arguments))) s (kept .start s f) cs pre c a post e
 
-  ending : kept .Inv (f .arguments) (afterEvents (ghost₀ (traits .firstTable (f .arguments))) (events M s cs)) (afterAll M s cs)
-  ending = kept-after M traits kept (f .arguments) (ghost₀ (traits .firstTable (f .arguments))) s (kept .start s f) cs
+  ending : kept .Inv (f .arguments) (afterEvents (ghost₀ (f .arguments .readers) (traits .firstTable (f .arguments))) (events M s cs)) (afterAll M s cs)
+  ending = kept-after M traits kept (f .arguments) (ghost₀ (f .arguments .readers) (traits .firstTable (f .arguments))) s (kept .start s f) cs
 
-  due : Returns M s cs → Due M (traits .firstTable (f .arguments)) s cs
+  due : Returns M (f .arguments .readers) s cs → Due M (traits .firstTable (f .arguments)) (f .arguments .readers) s cs
   due returns = record {
     looks = λ pre post r k a e ok.
         let there = to pre (Look r k) a post e in
         let found = kept .look _ _ (there .at-state) (there .inv) r k (rw (there .reply-is) at ok) in
-        (found .0, there .reply-is ∙ found .1, rw (← all-model (ghost₀ (traits .firstTable (f .arguments))) pre) (found .2));
+        (found .0, there .reply-is ∙ found .1, rw (← all-model (ghost₀ (f .arguments .readers) (traits .firstTable (f .arguments))) pre) (found .2));
     returns = returns;
-    slots = rw (← all-told (ghost₀ (traits .firstTable (f .arguments))) (events M s cs)) (kept .slots _ _ _ ending);
-    picks = rw (← all-told (ghost₀ (traits .firstTable (f .arguments))) (events M s cs)) (kept .picks _ _ _ ending);
+    slots = rw (← all-told (ghost₀ (f .arguments .readers) (traits .firstTable (f .arguments))) (events M s cs)) (kept .slots _ _ _ ending);
+    picks = rw (← all-told (ghost₀ (f .arguments .readers) (traits .firstTable (f .arguments))) (events M s cs)) (kept .picks _ _ _ ending);
     claims = λ pre post p slot r a e ok picked.
         let there = to pre (Claim p slot) a post e in
-        kept .claim _ _ (there .at-state) (there .inv) p slot r (rw (there .reply-is) at ok) (rw (all-told (ghost₀ (traits .firstTable (f .arguments))) pre) picked);
+        kept .claim _ _ (there .at-state) (there .inv) p slot r (rw (there .reply-is) at ok) (rw (all-told (ghost₀ (f .arguments .readers) (traits .firstTable (f .arguments))) pre) picked);
   }
 
   list-companions : ListCompanions M traits (f .arguments) s cs
   list-companions = record {
-    state-companions = rw (← all-model (ghost₀ (traits .firstTable (f .arguments))) (events M s cs), ← all-told (ghost₀ (traits .firstTable (f .arguments))) (events M s cs), ← all-tally (ghost₀ (traits .firstTable (f .arguments))) (events M s cs)) (kept .state-companions _ _ _ ending);
-    tables = rw (← all-model (ghost₀ (traits .firstTable (f .arguments))) (events M s cs)) (kept .table _ _ _ ending);
+    state-companions = rw (← all-model (ghost₀ (f .arguments .readers) (traits .firstTable (f .arguments))) (events M s cs), ← all-told (ghost₀ (f .arguments .readers) (traits .firstTable (f .arguments))) (events M s cs), ← all-tally (ghost₀ (f .arguments .readers) (traits .firstTable (f .arguments))) (events M s cs)) (kept .state-companions _ _ _ ending);
+    tables = rw (← all-model (ghost₀ (f .arguments .readers) (traits .firstTable (f .arguments))) (events M s cs)) (kept .table _ _ _ ending);
   }
 
   -- Returns, where a return shows that nobody is waited for any more; and of a machine that accepts no SYNC.
-  pub returns-waited : ((z : Given) (g : Ghost) (s : State) → kept .Inv z g s → (p b looks waits : ℕ) → M .step s (Walk p b) .reply ≡ Walked (Returned looks waits) → (r : ℕ) → g .pend p r ≡ false) → Returns M s cs
+  pub returns-waited : ((z : Given) (g : Ghost) (s : State) → kept .Inv z g s → (p b looks waits : ℕ) → M .step s (Walk p b) .reply ≡ Walked (Returned looks waits) → (r : ℕ) → g .pend p r ≡ false) → Returns M (f .arguments .readers) s cs
   returns-waited none-pending pre mid post p b looks waits r a e ok inside =
       let there = to pre (Sync p) a (mid ++ (Walk p b ⇒ Walked (Returned looks waits)) ∷ post) e in
       let reply = M .step (there .at-state) (Sync p) .reply in
       let later = reach M traits kept (f .arguments) _ (M .step (there .at-state) (Sync p) .after) (kept .keep _ _ (there .at-state) (there .inv) (Sync p)) (there .rest) mid (Walk p b) (Walked (Returned looks waits)) post (there .post-is) in
       or-left (LeftIn r mid) _
-      (still _ p r (still-synced (afterEvents (ghost₀ (traits .firstTable (f .arguments))) pre) p r reply (rw (there .reply-is) at ok) (rw (all-told (ghost₀ (traits .firstTable (f .arguments))) pre) inside)) mid)
+      (still _ p r (still-synced (afterEvents (ghost₀ (f .arguments .readers) (traits .firstTable (f .arguments))) pre) p r reply (rw (there .reply-is) at ok) (rw (all-told (ghost₀ (f .arguments .readers) (traits .firstTable (f .arguments))) pre) inside)) mid)
       (none-pending _ _ (later .at-state) (later .inv) p b looks waits (sym (later .reply-is)) r)
 
-  pub returns-never : ((s : State) (p : ℕ) → accepted (M .step s (Sync p) .reply) ≡ false) → Returns M s cs
+  pub returns-never : ((s : State) (p : ℕ) → accepted (M .step s (Sync p) .reply) ≡ false) → Returns M (f .arguments .readers) s cs
   returns-never no-sync pre mid post p b looks waits r a e ok inside =
       let there = to pre (Sync p) a (mid ++ (Walk p b ⇒ Walked (Returned looks waits)) ∷ post) e in
       absurd (not-both _ (rw (there .reply-is) at ok) (no-sync (there .at-state) p))
 
 -- The theorems. Demand 3 asks, beside what every kind keeps, for its returns.
-pub demand3 : (M : Machine) (traits : Traits) → KeptInvariant M traits → ((s : State) → Fresh M s → (cs : List Call) → Returns M s cs) → Demand3 M (traits .firstTable)
+pub demand3 : (M : Machine) (traits : Traits) → KeptInvariant M traits → ((s : State) (f : Fresh M s) (cs : List Call) → Returns M (f .arguments .readers) s cs) → Demand3 M (traits .firstTable)
 demand3 M traits kept returns s f cs = due M traits kept s f cs (returns s f cs)
 
 pub companions : (M : Machine) (traits : Traits) → KeptInvariant M traits → Companions M traits
@@ -261,21 +272,21 @@ companions M traits kept s f cs = list-companions M traits kept s f cs
 
 -- .. and of a kind with sections and grace periods.
 module _ (M : Machine) (traits : GraceTraits) (kept : GraceKeptInvariant M traits) (s : State) (f : Fresh M s) (cs : List Call) where
-  waited : Returns M s cs
+  waited : Returns M (f .arguments .readers) s cs
   waited = returns-waited M (traits .every) (kept .every) s f cs (λ z g s i p b looks waits e. kept .back z g s i p b looks waits e .none-pending)
 
   grace-list-companions : GraceListCompanions M traits (f .arguments) s cs
   grace-list-companions = record {
     every = companions M (traits .every) (kept .every) s f cs;
-    state-companions = rw (← all-model (ghost₀ (traits .every .firstTable (f .arguments))) (events M s cs), ← all-told (ghost₀ (traits .every .firstTable (f .arguments))) (events M s cs), ← all-tally (ghost₀ (traits .every .firstTable (f .arguments))) (events M s cs)) (kept .state-companions _ _ _ (ending M (traits .every) (kept .every) s f cs));
+    state-companions = rw (← all-model (ghost₀ (f .arguments .readers) (traits .every .firstTable (f .arguments))) (events M s cs), ← all-told (ghost₀ (f .arguments .readers) (traits .every .firstTable (f .arguments))) (events M s cs), ← all-tally (ghost₀ (f .arguments .readers) (traits .every .firstTable (f .arguments))) (events M s cs)) (kept .state-companions _ _ _ (ending M (traits .every) (kept .every) s f cs));
     returns-after = λ pre post p b looks waits e. let there = to M (traits .every) (kept .every) s f cs pre (Walk p b) (Walked (Returned looks waits)) post e in
-        rw (← all-tally (ghost₀ (traits .every .firstTable (f .arguments))) pre) (kept .back _ _ (there .at-state) (there .inv) p b looks waits (sym (there .reply-is)) .in-order);
+        rw (← all-tally (ghost₀ (f .arguments .readers) (traits .every .firstTable (f .arguments))) pre) (kept .back _ _ (there .at-state) (there .inv) p b looks waits (sym (there .reply-is)) .in-order);
     releases-after = λ pre post p a e ok. let there = to M (traits .every) (kept .every) s f cs pre (Release p) a post e in
-        rw (← all-tally (ghost₀ (traits .every .firstTable (f .arguments))) pre) (kept .release _ _ (there .at-state) (there .inv) p (rw (there .reply-is) at ok));
+        rw (← all-tally (ghost₀ (f .arguments .readers) (traits .every .firstTable (f .arguments))) pre) (kept .release _ _ (there .at-state) (there .inv) p (rw (there .reply-is) at ok));
     looks-are = λ pre post p b looks waits e. let there = to M (traits .every) (kept .every) s f cs pre (Walk p b) (Walked (Returned looks waits)) post e in
         kept .back _ _ (there .at-state) (there .inv) p b looks waits (sym (there .reply-is)) .looks-are;
     waits-are = λ pre post p b looks waits e. let there = to M (traits .every) (kept .every) s f cs pre (Walk p b) (Walked (Returned looks waits)) post e in
-        rw (← all-tally (ghost₀ (traits .every .firstTable (f .arguments))) pre) (kept .back _ _ (there .at-state) (there .inv) p b looks waits (sym (there .reply-is)) .waits-are);
+        rw (← all-tally (ghost₀ (f .arguments .readers) (traits .every .firstTable (f .arguments))) pre) (kept .back _ _ (there .at-state) (there .inv) p b looks waits (sym (there .reply-is)) .waits-are);
   }
 
 pub grace-demand3 : (M : Machine) (traits : GraceTraits) → GraceKeptInvariant M traits → Demand3 M (traits .every .firstTable)

@@ -8,6 +8,7 @@ pub mod FreeSlot
 -- What gives them: an invariant that each step keeps; another machine that is alike.
 pub mod KeptInvariant
 pub mod Alike
+pub mod Quiescent
 -- Examples that name no kind, and what refutes a store.
 pub mod Examples
 pub mod Precedence

@@ -10,7 +10,7 @@ use Rattle.base.specs.Base.{is}
 use Rattle.base.specs.Options.{none-some}
 use Rattle.base.specs.RowLaws.{clash, choose-split, same, at-or}
 use Rattle.calls.specs.declared.Call.{Call}
-use Rattle.calls.specs.declared.Call.the-variants.{Enter, Look, Leave, Claim, Write, Swap, Sync, Raise, Walk, Release}
+use Rattle.calls.specs.declared.Call.the-variants.{Enter, Look, Leave, Claim, Write, Swap, Sync, Raise, Walk, Release, Pick, Checkpoint, Defer}
 use Rattle.calls.specs.declared.Reply.{Reply}
 use Rattle.calls.specs.declared.Reply.the-variants.{Pitch}
 use Rattle.calls.specs.Numbers.{PLACE-PICKED}
@@ -21,7 +21,7 @@ use Rattle.calls.specs.Model.{Model, model₀, modelStep, entry, withNote}
 use Rattle.calls.specs.ModelLaws.{entry-is, appended-entries}
 use Rattle.statement.specs.Machine.{State, Machine, Fresh, events}
 use Rattle.statement.specs.Demand3.{Demand3}
-use Rattle.statement.specs.Companions.{MakesFresh}
+use Rattle.statement.specs.Companions.{Traits, MakesFresh}
 
 -- Every accepted LOOK gave a pitch in range.
 abbrev pub LooksInRange : Machine → Type 0
@@ -60,6 +60,9 @@ module _ (P Q : ℕ → ℤ → Type 0) where
   Brings (Raise p) = Unit {0}
   Brings (Walk p b) = Unit {0}
   Brings (Release p) = Unit {0}
+  Brings (Pick r) = Unit {0}
+  Brings (Checkpoint r) = Unit {0}
+  Brings (Defer p) = Unit {0}
 
   abbrev AllBring : List Event → Type 0
   AllBring [] = Unit {0}
@@ -83,6 +86,9 @@ module _ (P Q : ℕ → ℤ → Type 0) where
   step-has h (Raise p) a f b = f
   step-has h (Walk p n) a f b = f
   step-has h (Release p) a f b = f
+  step-has h (Pick r) a f b = noted h r f
+  step-has h (Checkpoint r) a f b = f
+  step-has h (Defer p) a f b = f
 
   shelf-has : (h : Model) (es : List Event) → ShelfHas h → AllBring es → ShelfHas (foldEvents modelStep h es)
   shelf-has h [] f b = f
@@ -107,13 +113,16 @@ module _ (M : Machine) (writes : WritesInRange M) where
   brings-range s (Raise p) ok = tt
   brings-range s (Walk p b) ok = tt
   brings-range s (Release p) ok = tt
+  brings-range s (Pick r) ok = tt
+  brings-range s (Checkpoint r) ok = tt
+  brings-range s (Defer p) ok = tt
 
   all-bring-range : (s : State) (cs : List Call) → AllBring InRange InRange (events M s cs)
   all-bring-range s [] = tt
   all-bring-range s (c ∷ cs) = (brings-range s c, all-bring-range (M .step s c .after) cs)
 
-  pub looks-in-range : Demand3 M (λ z. z .table) → MakesFresh M → LooksInRange M
-  looks-in-range promise fresh s f cs pre post r k a e ok =
+  pub looks-in-range : Demand3 M (λ z. z .table) → (traits : Traits) → MakesFresh M traits → LooksInRange M
+  looks-in-range promise traits fresh s f cs pre post r k a e ok =
       let found = promise s f cs .looks pre post r k a e ok in
       let good = fresh s f .table-good in
       let has = shelf-has InRange InRange (model₀ (f .arguments .table)) pre
@@ -140,6 +149,9 @@ unswapped-bring P ((c ⇒ a) ∷ es) none = (brings c none, unswapped-bring P es
     brings (Raise p) none ok = tt
     brings (Walk p b) none ok = tt
     brings (Release p) none ok = tt
+    brings (Pick r) none ok = tt
+    brings (Checkpoint r) none ok = tt
+    brings (Defer p) none ok = tt
 
 pub first-table-until-swap : (M : Machine) → Demand3 M (λ z. z .table) → FirstTableUntilSwap M
 first-table-until-swap M promise s f cs pre post r k a e ok none =

@@ -1,19 +1,20 @@
 -- A kind of store as a machine over words and entries, its lists of calls, and what every store records.
 use Prim.Native.Nat.{ℕ}
 use mathlib.Core.Path.{_≡_}
-use mathlib.Core.Bool.{Bool, not, _&&_}
+use mathlib.Core.Bool.{Bool, not, _&&_, _||_}
 use mathlib.Core.List.{List, [], _∷_}
 use mathlib.Core.Option.{Option, none, some}
 use lib.IntN.{ℤ}
 use lib.Dec.{eqb}
 use Rattle.base.specs.Base.{choose}
+use Rattle.base.specs.Rows.{anyBelow}
 use Rattle.calls.specs.declared.Call.{Call}
 use Rattle.calls.specs.declared.Reply.{Reply}
 use Rattle.calls.specs.declared.Reply.the-variants.{Made}
-use Rattle.calls.specs.Numbers.{PLACE-IDLE, PLACE-PICKED}
+use Rattle.calls.specs.Numbers.{KIND-REST, PLACE-IDLE, PLACE-PICKED}
 use Rattle.calls.specs.Events.{Event}
 use Rattle.calls.specs.Events.Event.{_⇒_}
-use Rattle.layout.specs.Layout.{current, readerAt, publisherAt}
+use Rattle.layout.specs.Layout.{kindWord, current, readerAt, publisherAt, retirementAt, retiredAt}
 
 -- A store with its entries, as they are lent.
 pub record State : Type 0 where
@@ -64,12 +65,23 @@ module _ (M : Machine) where
   events s [] = []
   events s (c ∷ cs) = (c ⇒ M .step s c .reply) ∷ events (M .step s c .after) cs
 
--- What every store records: its current slot, what each publisher at a place other than 0 holds, what each reader at place 5 picked.
+-- What every store records: its current slot, what each publisher holds, what each reader at place 5 picked.
 abbrev pub currentSlot : State → ℕ
 currentSlot s = current (s .words)
 
+-- The kinds whose publishers retire slots: hold some beside the one that their record names, until these are free.
+abbrev pub retires : ℕ → Bool
+retires kind = eqb kind KIND-REST
+
+abbrev pub retiredSlot : State → ℕ → ℕ → Bool
+retiredSlot s p slot = anyBelow (λ i. eqb (retiredAt (s .words) p i .slot) slot) (retirementAt (s .words) p .count)
+
+-- A publisher holds the slots that it has retired, in a kind that retires slots, and at a place other than 0 the slot that its record names.
+abbrev pub holdsSlot : Bool → State → ℕ → ℕ → Bool
+holdsSlot retiring s p slot = (retiring && retiredSlot s p slot) || (not (eqb (publisherAt (s .words) p .place) PLACE-IDLE) && eqb (publisherAt (s .words) p .held) slot)
+
 abbrev pub heldSlot : State → ℕ → ℕ → Bool
-heldSlot s p slot = not (eqb (publisherAt (s .words) p .place) PLACE-IDLE) && eqb (publisherAt (s .words) p .held) slot
+heldSlot s p slot = holdsSlot (retires (kindWord (s .words))) s p slot
 
 abbrev pub pickedSlot : State → ℕ → Option ℕ
 pickedSlot s r = choose (eqb (readerAt (s .words) r .place) PLACE-PICKED) (some (readerAt (s .words) r .picked)) none

@@ -28,7 +28,7 @@ thenAll v v′ n = v ∷ replicate n v′
 abbrev pub makingRows : Machine → ℕ → List Example
 makingRows M last =
     let short = thenAll (pos 95001) (pos 0) 30 in
-    makes M (given 0 0 1 (last + 1) short) (lent 424 31) (Refused 1)
+    makes M (given 0 0 1 (last + 1) short) (lent 712 31) (Refused 1)
     ∷ makes M (given 0 0 1 (last + 1) short) (lent WORDS 31) (Refused 2)
     ∷ makes M (given 1 0 1 (last + 1) short) (lent WORDS 31) (Refused 3)
     ∷ makes M (given 1 1 1 (last + 1) short) (lent WORDS 31) (Refused 4)
@@ -66,14 +66,15 @@ tableEnds M last =
     ∷ makes M (given 1 1 2 last (ramp 32 0 3000)) (lent WORDS 64) Made
     ∷ []
 
--- The ends of making: 64 readers, 16 publishers and 32 slots on 425 words and 1024 entries are made; one more of each gets 2, 3, 4 and 1.
+-- The ends of making: 64 readers, 16 publishers and 32 slots on 713 words and 1024 entries are made; one more of each gets 2, 3, 4 and 1; the 425 words of 0.3.0 get 1.
 abbrev pub makingEnds : Machine → List Example
 makingEnds M =
-    makes M (givenFeathered 64 16 32 0) (lent 425 1024) Made
-    ∷ makes M (givenFeathered 65 16 32 0) (lent 425 1024) (Refused 2)
-    ∷ makes M (givenFeathered 64 17 32 0) (lent 425 1024) (Refused 3)
-    ∷ makes M (givenFeathered 64 16 33 0) (lent 425 1056) (Refused 4)
-    ∷ makes M (givenFeathered 64 16 32 0) (lent 426 1024) (Refused 1)
+    makes M (givenFeathered 64 16 32 0) (lent 713 1024) Made
+    ∷ makes M (givenFeathered 65 16 32 0) (lent 713 1024) (Refused 2)
+    ∷ makes M (givenFeathered 64 17 32 0) (lent 713 1024) (Refused 3)
+    ∷ makes M (givenFeathered 64 16 33 0) (lent 713 1056) (Refused 4)
+    ∷ makes M (givenFeathered 64 16 32 0) (lent 714 1024) (Refused 1)
+    ∷ makes M (givenFeathered 64 16 32 0) (lent 425 1024) (Refused 1)
     ∷ []
 
 -- The calls that are not allowed at place 0 and have no second argument to test, on a fresh store: 10 before 20, 11 before 21, a pair for each call.

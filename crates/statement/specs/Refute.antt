@@ -3,21 +3,21 @@ use Prim.Native.Nat.{ℕ}
 use mathlib.Core.Path.{_≡_, refl, sym, ap, _∙_}
 use mathlib.Core.Bool.{Bool, true, false, _||_}
 use mathlib.Core.List.{List, [], _∷_, _++_}
-use mathlib.Core.Option.{Option, none}
+use mathlib.Core.Option.{Option, none, some}
 use lib.IntN.{ℤ}
 use lib.Dec.{eqb}
 use borrow.Author.Tests.{eqb-true}
 use Rattle.base.specs.Base.{choose, upd, is}
 use Rattle.base.specs.RowLaws.{clash, or-right}
 use Rattle.calls.specs.declared.Call.{Call}
-use Rattle.calls.specs.declared.Call.the-variants.{Enter, Look, Leave, Claim, Write, Swap, Sync, Raise, Walk, Release}
+use Rattle.calls.specs.declared.Call.the-variants.{Enter, Look, Leave, Claim, Write, Swap, Sync, Raise, Walk, Release, Pick, Checkpoint, Defer}
 use Rattle.calls.specs.declared.Reply.{Reply}
 use Rattle.calls.specs.declared.Reply.the-variants.{Walked}
 use Rattle.calls.specs.declared.WalkReply.the-variants.{Returned}
 use Rattle.calls.specs.Numbers.{PLACE-OPEN, PLACE-PICKED}
 use Rattle.calls.specs.Events.{Event, accepted, placeOf, movedBy, foldEvents}
 use Rattle.calls.specs.Events.Event.{_⇒_}
-use Rattle.calls.specs.Told.{Told, told₀, tell, afterEnter, withSection}
+use Rattle.calls.specs.Told.{Told, told₀, tell, afterEnter, withSection, afterCheckpoint}
 use Rattle.statement.specs.Machine.{State, Given, Machine, Fresh, events, afterAll}
 use Rattle.statement.specs.Demand3.{LeftIn, Demand3}
 
@@ -32,6 +32,9 @@ isLeave (Sync p) = false
 isLeave (Raise p) = false
 isLeave (Walk p b) = false
 isLeave (Release p) = false
+isLeave (Pick r) = false
+isLeave (Checkpoint r) = false
+isLeave (Defer p) = false
 
 -- Whether some event is a LEAVE.
 unfoldable pub someLeave : List Event → Bool
@@ -62,6 +65,9 @@ openedFrom place opened (Sync p) a = opened
 openedFrom place opened (Raise p) a = opened
 openedFrom place opened (Walk p b) a = opened
 openedFrom place opened (Release p) a = opened
+openedFrom place opened (Pick r) a = opened
+openedFrom place opened (Checkpoint r) a = opened
+openedFrom place opened (Defer p) a = opened
 
 -- Demand 3's returns, with sections counted so.
 abbrev pub ReturnsFrom : ℕ → Machine → Type 0
@@ -98,6 +104,10 @@ inside-same ((c ⇒ a) ∷ es) opened t e r = inside-same es (movedBy (openedFro
         go false true = other q j (opened q) (t .inside q) (e q)
         go false false = stay (eqb j q) refl
 
+    checked : (r : ℕ) (step : Option ℕ) (j : ℕ) → opened j ≡ afterCheckpoint t r step .inside j
+    checked r none j = e j
+    checked r (some k) j = e j
+
     one : (c : Call) (taken : Bool) (j : ℕ) → choose taken (openedFrom PLACE-OPEN opened c a) opened j ≡ choose taken (tell t c a) t .inside j
     one c false j = e j
     one (Enter q) true j = enters q j (placeOf a)
@@ -110,6 +120,9 @@ inside-same ((c ⇒ a) ∷ es) opened t e r = inside-same es (movedBy (openedFro
     one (Raise p) true j = e j
     one (Walk p b) true j = e j
     one (Release p) true j = e j
+    one (Pick r) true j = e j
+    one (Checkpoint r) true j = checked r (placeOf a) j
+    one (Defer p) true j = e j
 
 pub returns-from-4 : (M : Machine) (first : Given → List ℤ) → Demand3 M first → ReturnsFrom PLACE-OPEN M
-returns-from-4 M first promise s f cs pre mid post p b looks waits r a e ok inside = promise s f cs .returns pre mid post p b looks waits r a e ok (sym (inside-same pre (λ r. false) told₀ (λ r. refl) r) ∙ inside)
+returns-from-4 M first promise s f cs pre mid post p b looks waits r a e ok inside = promise s f cs .returns pre mid post p b looks waits r a e ok (sym (inside-same pre (λ r. false) (told₀ (f .arguments .readers)) (λ r. refl) r) ∙ inside)

@@ -4,7 +4,7 @@ use mathlib.Core.List.{List, [], _∷_, _++_}
 use Rattle.base.specs.Rows.{anyBelow, countBelow}
 use Rattle.calls.specs.declared.Call.the-variants.{Enter, Claim}
 use Rattle.calls.specs.declared.Reply.the-variants.{At, Claimed, Refused}
-use Rattle.calls.specs.Numbers.{KIND-OLD}
+use Rattle.calls.specs.Numbers.{KIND-OLD, NOT-READING}
 use Rattle.calls.specs.FirstTable.{tables}
 use Rattle.layout.specs.Layout.{indicator, readerAt, publisherAt, withReader, withPublisher, withReaders, freshWords}
 use Rattle.statement.specs.Machine.{State}
@@ -39,11 +39,11 @@ indicators =
 unfoldable pub clauses : List Case
 clauses = ownPlaces ++ (indicators ++ (walking 9223372036854775807 36 ++ sharedCases 9223372036854775807))
 
-pub fresh-spelled : freshOf TwoPhase small ≡ spelled KIND-OLD
+pub fresh-spelled : freshOf TwoPhase small ≡ spelled KIND-OLD NOT-READING
 unfolding withReader withReaders freshWords anyBelow making tables
 fresh-spelled = refl
 
-on-spelled : AllHold (casesOn TwoPhase (spelled KIND-OLD) clauses)
+on-spelled : AllHold (casesOn TwoPhase (spelled KIND-OLD NOT-READING) clauses)
 unfolding clauses indicator readerAt publisherAt withReader withPublisher withReaders freshWords anyBelow countBelow damaged onward lookAt step making tables
 on-spelled = (refl, (refl, (refl, (refl, (refl, (refl, (refl, (refl, (refl, (refl, (refl, (refl, (refl, (refl, (refl, (refl, (refl, (refl, (refl, (refl, (refl, (refl, (refl, (refl, (refl, (refl, (refl, (refl, (refl, (refl, (refl, (refl, (refl, (refl, (refl, (refl, (refl, (refl, (refl, (refl, (refl, (refl, (refl, (refl, (refl, (refl, (refl, (refl, (refl, tt)))))))))))))))))))))))))))))))))))))))))))))))))
 

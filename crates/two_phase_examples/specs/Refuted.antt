@@ -9,7 +9,7 @@ use lib.Dec.{ltb, eqb}
 use Rattle.base.specs.Base.{choose}
 use Rattle.base.specs.Rows.{anyBelow, countBelow}
 use Rattle.calls.specs.declared.Call.{Call}
-use Rattle.calls.specs.declared.Call.the-variants.{Enter, Look, Leave, Claim, Write, Swap, Sync, Raise, Walk, Release}
+use Rattle.calls.specs.declared.Call.the-variants.{Enter, Look, Leave, Claim, Write, Swap, Sync, Raise, Walk, Release, Pick, Checkpoint, Defer}
 use Rattle.calls.specs.declared.Reply.the-variants.{Synced, Raised, Walked}
 use Rattle.calls.specs.declared.WalkReply.the-variants.{Spent, Returned}
 use Rattle.calls.specs.Numbers.{PLACE-SYNCHRONISING, PLACE-RAISED}
@@ -51,6 +51,9 @@ publishedStep s (Sync p) = step (tableBy several) s (Sync p)
 publishedStep s (Raise p) = step (tableBy several) s (Raise p)
 publishedStep s (Walk p b) = choose (breaksOff s p) (outcome (Walked Spent) (putPublisher s p (publisher s p atPlace PLACE-RAISED))) (step (tableBy several) s (Walk p b))
 publishedStep s (Release p) = step (tableBy several) s (Release p)
+publishedStep s (Pick r) = step (tableBy several) s (Pick r)
+publishedStep s (Checkpoint r) = step (tableBy several) s (Checkpoint r)
+publishedStep s (Defer p) = step (tableBy several) s (Defer p)
 
 pub Published : Machine
 unfolding several breaksOff publishedStep
@@ -82,7 +85,7 @@ unfolding Published publishedStep breaksOff several start small before trap trap
 trap-events = refl
 
 -- The reader's section is open then ..
-reader-inside : toldBy (events Published start before) .inside 0 ≡ true
+reader-inside : toldBy 1 (events Published start before) .inside 0 ≡ true
 unfolding Published publishedStep breaksOff several start small before indicator readerAt publisherAt withReader withPublisher withReaders freshWords anyBelow countBelow damaged onward lookAt step making tables
 reader-inside = refl
 
@@ -92,7 +95,7 @@ start-fresh = record { arguments = small; lent = lentFor small; made = refl }
 
 -- .. and nobody leaves before U returns.
 pub published-refuted : Demand3 Published (λ z. z .table) → ⊥
-unfolding someLeave trapped
+unfolding someLeave trapped start-fresh
 published-refuted promise =
     let mid : List Event = (Raise 0 ⇒ Raised) ∷ (Walk 1 1 ⇒ Walked Spent) ∷ [] in
     not-left 0 mid refl

@@ -21,7 +21,7 @@ pub old-promises : Promises rules traits
 old-promises = promises-of fixed traits kind-shows
 
 pub old-demand3 : Demand3 TwoPhase (λ z. z .table)
-old-demand3 = old-promises .demand3
+old-demand3 = old-promises .every .demand3
 
 pub old-walk-zero : (s : State) (p : ℕ) → step rules s (Walk p 0) .reply ≡ Walked Spent → step rules s (Walk p 0) .after ≡ s
 old-walk-zero = old-promises .walk-zero

@@ -3,25 +3,28 @@ use Prim.Native.Nat.{_+_}
 use mathlib.Core.Bool.{true, false, _||_}
 use lib.Dec.{eqb}
 use Rattle.base.specs.Base.{choose}
-use Rattle.calls.specs.Numbers.{PLACE-OUT, PLACE-LOADED, PLACE-OPEN, PLACE-PICKED}
+use Rattle.calls.specs.Numbers.{NOT-READING, PLACE-OUT, PLACE-LOADED, PLACE-OPEN, PLACE-PICKED}
 use Rattle.calls.specs.Tally.{inPhase}
 use Rattle.calls.specs.Tally.Phase.{synchronising, quiet, raised}
 use Rattle.statement.specs.Companions.{GraceTraits}
+use Rattle.publication_law.specs.SectionRules.{withoutSections}
 
 -- The last version is 2^63 - 1; a return passes two looks; a mark is one above the version; WALK follows SYNC, RAISE follows a quiet and WALK follows RAISE;
--- no call is lacking; ENTER goes 1, 4, 5; readers publish no version; a claim needs that every other publisher is idle.
+-- the calls without sections are lacking; ENTER goes 1, 4, 5; readers publish no version, and a fresh one has NOT_READING; a claim needs that every other publisher is idle.
 abbrev pub traits : GraceTraits
 traits = record {
   every = record {
     firstTable = λ z. z .table;
     last = 9223372036854775807;
-    lacks = λ c. false;
+    lacks = withoutSections;
     exclusive = true;
+    participants = false;
+    freshPublished = λ z. NOT-READING;
+    publishes = false;
     raisesIn = inPhase quiet;
     walksIn = λ phase. inPhase synchronising phase || inPhase raised phase;
   };
   passes = λ z. 2;
   successor = λ ver. ver + 1;
   nextPlace = λ place. choose (eqb place PLACE-OUT) PLACE-LOADED (choose (eqb place PLACE-LOADED) PLACE-OPEN PLACE-PICKED);
-  publishes = false;
 }

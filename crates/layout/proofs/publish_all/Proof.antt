@@ -15,26 +15,17 @@ use Rattle.layout.proofs.publish_all.Reads as reads
 use Rattle.layout.proofs.publish_all.Lts as lts
 
 abbrev Inv-loop : tie.InvT-loop
-Inv-loop words₀ published end at₀ words at =
-    (r : ℕ) × (r ≤ READERS-MAX) × (at ≡ HEAD + READER-WORDS * r + 3) × (end ≡ FIRST-PUBLISHER) × (length words ≡ WORDS) × (words ≡ withReaders r (replicate WORDS 0) (blankReader published))
+Inv-loop words₀ published at₀ words at =
+    (r : ℕ) × (r ≤ READERS-MAX) × (at ≡ HEAD + READER-WORDS * r + 3) × (length words ≡ WORDS) × (words ≡ withReaders r (replicate WORDS 0) (blankReader published))
 
 abbrev μ-loop : tie.MeasureT-loop
-μ-loop words₀ published end at₀ words at = end - at
-
-cast-end : tie.Need-cast-end Inv-loop μ-loop
-cast-end c = search needs
-
-mul-end : tie.Need-mul-end Inv-loop μ-loop
-mul-end c = search needs
-
-sub-end : tie.Need-sub-end Inv-loop μ-loop
-sub-end c = let l = ap length (c .pre) ∙ length-replicate {A = ℕ} WORDS 0 in omega arith
+μ-loop words₀ published at₀ words at = FIRST-PUBLISHER - at
 
 add-at : tie.Need-add-at Inv-loop μ-loop
 add-at c = search needs
 
 loop-holds : tie.Need-loop-holds Inv-loop μ-loop
-loop-holds c = let l = ap length (c .pre) ∙ length-replicate {A = ℕ} WORDS 0 in (0, omega arith, omega arith, omega arith, l, c .pre ∙ sym (readers-none _ _))
+loop-holds c = let l = ap length (c .pre) ∙ length-replicate {A = ℕ} WORDS 0 in (0, omega arith, omega arith, l, c .pre ∙ sym (readers-none _ _))
 
 mul-words : tie.Need-mul-words Inv-loop μ-loop
 mul-words c = search needs
@@ -50,13 +41,13 @@ loop-less c = search needs
 
 loop-again : tie.Need-loop-again Inv-loop μ-loop
 loop-again c = let k = c .before .loop in
-    (k .inv .0 + 1, omega arith, omega arith, k .inv .3, simp length-set (k .inv .4), rw (k .inv .5, k .inv .2) (publish-next _ _))
+    (k .inv .0 + 1, omega arith, omega arith, simp length-set (k .inv .3), rw (k .inv .4, k .inv .2) (publish-next _ _))
 
 same-length : tie.Need-same-length Inv-loop μ-loop
-same-length c = (c .before .loop .inv .4) ∙ sym (ap length (c .before .before .pre) ∙ length-replicate {A = ℕ} WORDS 0)
+same-length c = (c .before .loop .inv .3) ∙ sym (ap length (c .before .before .pre) ∙ length-replicate {A = ℕ} WORDS 0)
 
 returns : tie.Need-returns Inv-loop μ-loop
-returns c = let k = c .before .loop in let e : k .inv .0 ≡ READERS-MAX = omega arith in rw e at (k .inv .5)
+returns c = let k = c .before .loop in let e : k .inv .0 ≡ READERS-MAX = omega arith in rw e at (k .inv .4)
 
 pub publish-all-spec : {M : Type 1} → statement M
 publish-all-spec =
@@ -64,9 +55,6 @@ publish-all-spec =
     (tie.spec
     Inv-loop
     μ-loop
-    cast-end
-    mul-end
-    sub-end
     add-at
     loop-holds
     mul-words

@@ -1,0 +1,5 @@
+pub mod Examples
+pub mod Precedence
+pub mod DamageCases
+pub mod Refuted
+pub mod Carried
