@@ -1,4 +1,4 @@
-// The two stores as a Rattle program uses them: by value, every call a method that hands the store back with its reply.
+// The stores as a Rattle program uses them: by value, every call a method that hands the store back with its reply.
 // Each reply is a line of standard output in the run sheet's words, in the order of the calls;
 // of a table's 32 WRITEs the last alone. The file stdout has what is expected, worked out by hand from document 01.
 ghost use mathlib.Core.Path.{_≡_};
@@ -9,6 +9,7 @@ use calls::Reply;
 use calls::TABLE;
 use calls::WalkReply;
 use grace_version::GraceVersion;
+use qsbr::Qsbr;
 use two_phase::TwoPhase;
 
 const LAST_ENTRY: u16 = 31;
@@ -78,6 +79,7 @@ fn show_reply(reply: Reply) {
         Reply::Walked(w) => show_walk(w),
         Reply::Freed(slot, releases) => show_two(b"freed", slot, releases),
         Reply::Refused(n) => show_one(b"refused", n),
+        Reply::Picked(slot) => show_one(b"picked", slot),
     }
 }
 
@@ -91,6 +93,14 @@ fn show_new(stepped: grace_version::Stepped) -> GraceVersion
 }
 
 fn show_old(stepped: two_phase::Stepped) -> TwoPhase
+    ensures { λ s. ⌜ s ≡ stepped .store ⌝ }
+{
+    let reply = stepped.reply;
+    show_reply(reply);
+    stepped.store
+}
+
+fn show_rest(stepped: qsbr::Stepped) -> Qsbr
     ensures { λ s. ⌜ s ≡ stepped .store ⌝ }
 {
     let reply = stepped.reply;
@@ -126,6 +136,17 @@ fn write_old(store: TwoPhase, entries: &mut [Pitch], p: u16) -> TwoPhase {
     show_old(store.write(entries, p, new_pitch(LAST_ENTRY)))
 }
 
+fn write_rest(store: Qsbr, entries: &mut [Pitch], p: u16) -> Qsbr {
+    let mut store = store;
+    let mut k: u16 = 0;
+    while k < LAST_ENTRY {
+        let stepped = store.write(entries, p, new_pitch(k));
+        store = stepped.store;
+        k += 1;
+    }
+    show_rest(store.write(entries, p, new_pitch(LAST_ENTRY)))
+}
+
 // ENTER up to the pick: places 1 to 5 of the new store, and 1, 4, 5 of the old.
 fn pick_new(store: GraceVersion, entries: &[Pitch], r: u16) -> GraceVersion {
     let store = show_new(store.enter(entries, r));
@@ -152,6 +173,20 @@ fn swap_in_old(store: TwoPhase, entries: &mut [Pitch], p: u16, slot: u16) -> Two
     let store = show_old(store.claim(entries, p, slot));
     let store = write_old(store, entries, p);
     show_old(store.swap(entries, p))
+}
+
+fn swap_in_rest(store: Qsbr, entries: &mut [Pitch], p: u16, slot: u16) -> Qsbr {
+    let store = show_rest(store.claim(entries, p, slot));
+    let store = write_rest(store, entries, p);
+    show_rest(store.swap(entries, p))
+}
+
+// A whole CHECKPOINT of one of 2 participants: 4 steps.
+fn rest_at(store: Qsbr, entries: &[Pitch], r: u16) -> Qsbr {
+    let store = show_rest(store.checkpoint(entries, r));
+    let store = show_rest(store.checkpoint(entries, r));
+    let store = show_rest(store.checkpoint(entries, r));
+    show_rest(store.checkpoint(entries, r))
 }
 
 // The new store, 2 readers. Reader 1 has picked the old table when the new one is swapped in.
@@ -231,6 +266,30 @@ fn wait_old(store: TwoPhase, entries: &[Pitch]) {
     show_old(store.look(entries, 0, LAST_ENTRY));
 }
 
+// The rest store, 2 participants. Participant 1 has picked the old table when participant 0 swaps the new one in.
+fn publish_rest(entries: &mut [Pitch], table: &[Pitch]) {
+    let store = show_rest(Qsbr::make(entries, table, 2, 2, 3, 0));
+    let store = show_rest(store.pick(entries, 1));
+    let store = show_rest(store.look(entries, 1, 0));
+    let store = swap_in_rest(store, entries, 0, 1);
+    free_deferred(store, entries);
+}
+
+// The old table's slot is deferred. The next checkpoint of participant 0 frees nothing, since participant 1 has not yet come to its own; the one after that frees the slot.
+fn free_deferred(store: Qsbr, entries: &[Pitch]) {
+    let store = show_rest(store.defer(entries, 0));
+    let store = show_rest(store.defer(entries, 0));
+    let store = rest_at(store, entries, 0);
+    let store = show_rest(store.claim(entries, 1, 0));
+    let store = show_rest(store.look(entries, 1, 0));
+    let store = rest_at(store, entries, 1);
+    let store = rest_at(store, entries, 0);
+    let store = show_rest(store.claim(entries, 1, 0));
+    let store = show_rest(store.pick(entries, 1));
+    let store = show_rest(store.look(entries, 1, 0));
+    show_rest(store.look(entries, 1, LAST_ENTRY));
+}
+
 fn main() {
     let mut two_slots = [0; 2 * TABLE];
     let mut three_slots = [0; 3 * TABLE];
@@ -243,4 +302,7 @@ fn main() {
     show_one(b"old store: the last version is", TwoPhase::LAST);
     show(b"old store: a publication, a reader of the old table, a second publisher");
     publish_old(&mut three_slots, &feathered);
+    show_one(b"rest store: the last version is", Qsbr::LAST);
+    show(b"rest store: a publication, and a loop that keeps the old table until its checkpoint");
+    publish_rest(&mut three_slots, &feathered);
 }

@@ -1,15 +1,16 @@
-// Making and the ten calls for words of any kind: the kind word tells which store's call is run.
-// In place on the lent words and entries.
+// Making and the thirteen calls for words of any kind: the kind word tells which store's call is run.
+// In place on the lent words and entries. A call that the kind lacks gets 1.
 // Each is total, and its contract is the step (or the making) of kinds_law. `run` takes any call as a value.
 // It knows nothing of a store but its length and its kind word.
 ghost use mathlib.Core.Path.{_≡_};
-ghost use Rattle.calls.specs.declared.Call.the-variants.{Enter, Look, Leave, Claim, Write, Swap, Sync, Raise, Walk, Release};
+ghost use Rattle.calls.specs.declared.Call.the-variants.{Enter, Look, Leave, Claim, Write, Swap, Sync, Raise, Walk, Release, Pick, Checkpoint, Defer};
 ghost use Rattle.statement.specs.Machine.{state, outcome, given};
 ghost use Rattle.kinds_law.specs.Kinds.{anyStep, anyMaking};
 use calls::Call;
 use calls::DAMAGED;
 use calls::KIND_NEW;
 use calls::KIND_OLD;
+use calls::KIND_REST;
 use calls::Pitch;
 use calls::Reply;
 use layout::WORDS;
@@ -39,11 +40,14 @@ pub fn make(
         KIND_OLD => {
             two_phase_making::make(words, entries, table, readers, publishers, slots, version)
         }
+        KIND_REST => {
+            qsbr_making::make(words, entries, table, readers, publishers, slots, version)
+        }
         _ => Reply::Refused(DAMAGED),
     }
 }
 
-// ENTER r: one place on. Replies with the place.
+// ENTER r: one place on. Replies with the place. Rest lacks it.
 pub fn enter(words: &mut [u64], entries: &[Pitch], r: u16) -> Reply
     ensures { λ a. ⌜ outcome a (state (now (words .exit)) (now (entries .entry)))
         ≡ anyStep (state (now (words .entry)) (now (entries .entry))) (Enter r) ⌝ }
@@ -55,6 +59,7 @@ pub fn enter(words: &mut [u64], entries: &[Pitch], r: u16) -> Reply
     match kind {
         KIND_NEW => grace_version_readers::enter(words, entries, r),
         KIND_OLD => two_phase_readers::enter(words, entries, r),
+        KIND_REST => Reply::Refused(DAMAGED),
         _ => Reply::Refused(DAMAGED),
     }
 }
@@ -71,11 +76,12 @@ pub fn look(words: &[u64], entries: &[Pitch], r: u16, k: u16) -> Reply
     match kind {
         KIND_NEW => grace_version_readers::look(words, entries, r, k),
         KIND_OLD => two_phase_readers::look(words, entries, r, k),
+        KIND_REST => qsbr_readers::look(words, entries, r, k),
         _ => Reply::Refused(DAMAGED),
     }
 }
 
-// LEAVE r (places 4, 5): to 0.
+// LEAVE r (places 4, 5): to 0. Rest lacks it.
 pub fn leave(words: &mut [u64], entries: &[Pitch], r: u16) -> Reply
     ensures { λ a. ⌜ outcome a (state (now (words .exit)) (now (entries .entry)))
         ≡ anyStep (state (now (words .entry)) (now (entries .entry))) (Leave r) ⌝ }
@@ -87,6 +93,7 @@ pub fn leave(words: &mut [u64], entries: &[Pitch], r: u16) -> Reply
     match kind {
         KIND_NEW => grace_version_readers::leave(words, entries, r),
         KIND_OLD => two_phase_readers::leave(words, entries, r),
+        KIND_REST => Reply::Refused(DAMAGED),
         _ => Reply::Refused(DAMAGED),
     }
 }
@@ -103,6 +110,7 @@ pub fn claim(words: &mut [u64], entries: &[Pitch], p: u16, slot: u16) -> Reply
     match kind {
         KIND_NEW => grace_version_publishers::claim(words, entries, p, slot),
         KIND_OLD => two_phase_publishers::claim(words, entries, p, slot),
+        KIND_REST => qsbr_publishers::claim(words, entries, p, slot),
         _ => Reply::Refused(DAMAGED),
     }
 }
@@ -119,6 +127,7 @@ pub fn write(words: &mut [u64], entries: &mut [Pitch], p: u16, v: Pitch) -> Repl
     match kind {
         KIND_NEW => grace_version_publishers::write(words, entries, p, v),
         KIND_OLD => two_phase_publishers::write(words, entries, p, v),
+        KIND_REST => qsbr_publishers::write(words, entries, p, v),
         _ => Reply::Refused(DAMAGED),
     }
 }
@@ -135,11 +144,12 @@ pub fn swap(words: &mut [u64], entries: &[Pitch], p: u16) -> Reply
     match kind {
         KIND_NEW => grace_version_publishers::swap(words, entries, p),
         KIND_OLD => two_phase_publishers::swap(words, entries, p),
+        KIND_REST => qsbr_publishers::swap(words, entries, p),
         _ => Reply::Refused(DAMAGED),
     }
 }
 
-// SYNC p: 34 to 35, with the mark one above the version.
+// SYNC p: 34 to 35, with the mark one above the version. Rest lacks it.
 pub fn sync(words: &mut [u64], entries: &[Pitch], p: u16) -> Reply
     ensures { λ a. ⌜ outcome a (state (now (words .exit)) (now (entries .entry)))
         ≡ anyStep (state (now (words .entry)) (now (entries .entry))) (Sync p) ⌝ }
@@ -151,11 +161,12 @@ pub fn sync(words: &mut [u64], entries: &[Pitch], p: u16) -> Reply
     match kind {
         KIND_NEW => grace_version_versions::sync(words, entries, p),
         KIND_OLD => two_phase_versions::sync(words, entries, p),
+        KIND_REST => Reply::Refused(DAMAGED),
         _ => Reply::Refused(DAMAGED),
     }
 }
 
-// RAISE p (new at 35, old at 36): the version becomes the mark, if it is one before it.
+// RAISE p (new at 35, old at 36): the version becomes the mark, if it is one before it. Rest lacks it.
 pub fn raise(words: &mut [u64], entries: &[Pitch], p: u16) -> Reply
     ensures { λ a. ⌜ outcome a (state (now (words .exit)) (now (entries .entry)))
         ≡ anyStep (state (now (words .entry)) (now (entries .entry))) (Raise p) ⌝ }
@@ -167,11 +178,12 @@ pub fn raise(words: &mut [u64], entries: &[Pitch], p: u16) -> Reply
     match kind {
         KIND_NEW => grace_version_versions::raise(words, entries, p),
         KIND_OLD => two_phase_versions::raise(words, entries, p),
+        KIND_REST => Reply::Refused(DAMAGED),
         _ => Reply::Refused(DAMAGED),
     }
 }
 
-// WALK p b: up to b looks (old: at most one).
+// WALK p b: up to b looks (old: at most one). Rest lacks it.
 pub fn walk(words: &mut [u64], entries: &[Pitch], p: u16, b: u16) -> Reply
     ensures { λ a. ⌜ outcome a (state (now (words .exit)) (now (entries .entry)))
         ≡ anyStep (state (now (words .entry)) (now (entries .entry))) (Walk p b) ⌝ }
@@ -183,11 +195,12 @@ pub fn walk(words: &mut [u64], entries: &[Pitch], p: u16, b: u16) -> Reply
     match kind {
         KIND_NEW => grace_version_walk::walk(words, entries, p, b),
         KIND_OLD => two_phase_walk::walk(words, entries, p, b),
+        KIND_REST => Reply::Refused(DAMAGED),
         _ => Reply::Refused(DAMAGED),
     }
 }
 
-// RELEASE p: 38 to 0, which frees the held slot; one more release.
+// RELEASE p: 38 to 0, which frees the held slot; one more release. Rest lacks it.
 pub fn release(words: &mut [u64], entries: &[Pitch], p: u16) -> Reply
     ensures { λ a. ⌜ outcome a (state (now (words .exit)) (now (entries .entry)))
         ≡ anyStep (state (now (words .entry)) (now (entries .entry))) (Release p) ⌝ }
@@ -199,6 +212,58 @@ pub fn release(words: &mut [u64], entries: &[Pitch], p: u16) -> Reply
     match kind {
         KIND_NEW => grace_version_publishers::release(words, entries, p),
         KIND_OLD => two_phase_publishers::release(words, entries, p),
+        KIND_REST => Reply::Refused(DAMAGED),
+        _ => Reply::Refused(DAMAGED),
+    }
+}
+
+// PICK r: picks the current slot, and replies with it. New and old lack it.
+pub fn pick(words: &mut [u64], entries: &[Pitch], r: u16) -> Reply
+    ensures { λ a. ⌜ outcome a (state (now (words .exit)) (now (entries .entry)))
+        ≡ anyStep (state (now (words .entry)) (now (entries .entry))) (Pick r) ⌝ }
+{
+    if words.len() != WORDS {
+        return Reply::Refused(DAMAGED);
+    }
+    let kind = kind_of(words);
+    match kind {
+        KIND_NEW => Reply::Refused(DAMAGED),
+        KIND_OLD => Reply::Refused(DAMAGED),
+        KIND_REST => qsbr_readers::pick(words, entries, r),
+        _ => Reply::Refused(DAMAGED),
+    }
+}
+
+// CHECKPOINT r: one step on. Replies with the step. New and old lack it.
+pub fn checkpoint(words: &mut [u64], entries: &[Pitch], r: u16) -> Reply
+    ensures { λ a. ⌜ outcome a (state (now (words .exit)) (now (entries .entry)))
+        ≡ anyStep (state (now (words .entry)) (now (entries .entry))) (Checkpoint r) ⌝ }
+{
+    if words.len() != WORDS {
+        return Reply::Refused(DAMAGED);
+    }
+    let kind = kind_of(words);
+    match kind {
+        KIND_NEW => Reply::Refused(DAMAGED),
+        KIND_OLD => Reply::Refused(DAMAGED),
+        KIND_REST => qsbr_checkpoint::checkpoint(words, entries, r),
+        _ => Reply::Refused(DAMAGED),
+    }
+}
+
+// DEFER p: 34 to 35 raises the epoch, 35 to 0 queues the held slot. Replies with the place. New and old lack it.
+pub fn defer(words: &mut [u64], entries: &[Pitch], p: u16) -> Reply
+    ensures { λ a. ⌜ outcome a (state (now (words .exit)) (now (entries .entry)))
+        ≡ anyStep (state (now (words .entry)) (now (entries .entry))) (Defer p) ⌝ }
+{
+    if words.len() != WORDS {
+        return Reply::Refused(DAMAGED);
+    }
+    let kind = kind_of(words);
+    match kind {
+        KIND_NEW => Reply::Refused(DAMAGED),
+        KIND_OLD => Reply::Refused(DAMAGED),
+        KIND_REST => qsbr_deferral::defer(words, entries, p),
         _ => Reply::Refused(DAMAGED),
     }
 }
@@ -219,5 +284,8 @@ pub fn run(words: &mut [u64], entries: &mut [Pitch], call: Call) -> Reply
         Call::Raise(p) => raise(words, entries, p),
         Call::Walk(p, b) => walk(words, entries, p, b),
         Call::Release(p) => release(words, entries, p),
+        Call::Pick(r) => pick(words, entries, r),
+        Call::Checkpoint(r) => checkpoint(words, entries, r),
+        Call::Defer(p) => defer(words, entries, p),
     }
 }

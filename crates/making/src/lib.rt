@@ -1,6 +1,7 @@
 // What the kinds share of making: for any words, any entries, any first table and any numbers.
-// Its contracts cite publication_law.
+// A kind of participants tests by itself that it has as many publishers as readers. The contracts cite publication_law.
 ghost use mathlib.Core.Path.{_≡_};
+ghost use mathlib.Core.Bool.{false};
 ghost use mathlib.Core.List.{List};
 ghost use Prim.Native.Nat.{ℕ};
 ghost use lib.IntN.{ℤ};
@@ -62,7 +63,7 @@ fn first_refusal(
 ) -> u64
     ensures { λ n. ⌜ ((vs : Versions) (w : List ℕ) (es : List ℤ) (version : ℕ) →
         length w ≡ «words_len» → length es ≡ «entries_len» → large ≡ vs .tooLarge version →
-        n ≡ firstOf (makingTests vs (given readers publishers slots version (now (table .entry))) (state w es))) ⌝ }
+        n ≡ firstOf (makingTests false vs (given readers publishers slots version (now (table .entry))) (state w es))) ⌝ }
 {
     if words_len != WORDS {
         return DAMAGED;
@@ -102,7 +103,7 @@ pub fn make_store(
     ensures { λ n. ⌜ ((vs : Versions) → large ≡ vs .tooLarge version →
         let s = state (now (words .entry)) (now (entries .entry)) in
         let z = given readers publishers slots version (now (table .entry)) in
-        (n ≡ firstOf (makingTests vs z s))
+        (n ≡ firstOf (makingTests false vs z s))
         × (state (now (words .exit)) (now (entries .exit)) ≡ choose (eqb n 0) (made kind (blankReader published) z s) s)) ⌝ }
 {
     let n = first_refusal(

@@ -2,10 +2,15 @@
 // A kind tests for damage first, and asks nothing of its own callers.
 // The contracts cite publication_law.
 ghost use mathlib.Core.Path.{_≡_};
-ghost use mathlib.Core.Bool.{_&&_};
+ghost use mathlib.Core.Bool.{true, _&&_};
 ghost use mathlib.Core.List.{List};
+ghost use Prim.Native.Nat.{ℕ, _<_, _≤_};
 ghost use lib.IntN.{ℤ};
-ghost use Rattle.statement.specs.Machine.{state, outcome};
+ghost use lib.ListN.{length};
+ghost use Rattle.base.specs.Rows.{anyBelow};
+ghost use Rattle.calls.specs.Numbers.{PUBLISHERS-MAX, DEFERRED-MAX};
+ghost use Rattle.layout.specs.Layout.{WORDS, publishers, retirementAt};
+ghost use Rattle.statement.specs.Machine.{state, outcome, retiredSlot};
 ghost use Rattle.publication_law.specs.Steps.{decide, anotherBusy, inUse, claimTests, claim, swapTests, swap, releaseTests, release};
 ghost use Rattle.publication_law.specs.InBounds.{InBounds};
 use calls::BUSY;
@@ -24,6 +29,8 @@ use layout::put_current;
 use layout::put_publisher;
 use layout::put_releases;
 use layout::releases_of;
+use layout::retired_at;
+use layout::retirement_at;
 use layout::slots_of;
 
 // Whether a publisher other than p is at a place other than 0.
@@ -52,10 +59,40 @@ fn busy(words: &[u64], p: u16, exclusive: bool) -> bool
     false
 }
 
-// Whether a slot is not free.
-fn in_use(words: &[u64], slot: u64) -> bool
-    requires { ⌜ InBounds (now words) ⌝ }
-    ensures { λ b. ⌜ ((es : List ℤ) → b ≡ inUse (state (now (words .entry)) es) slot) ⌝ }
+// Whether publisher q has retired a slot that is not yet free.
+fn has_retired(words: &[u64], q: usize, slot: u64) -> bool
+    requires { ⌜ (length (now words) ≡ WORDS) × (q < PUBLISHERS-MAX) × (retirementAt (now words) q .count ≤ DEFERRED-MAX) ⌝ }
+    ensures { λ b. ⌜ ((es : List ℤ) → b ≡ retiredSlot (state (now (words .entry)) es) q slot) ⌝ }
+{
+    let t = retirement_at(words, q);
+    let n = t.count;
+    for i in 0..n {
+        let d = retired_at(words, q, i as usize);
+        if d.slot == slot {
+            return true;
+        }
+    }
+    false
+}
+
+// Whether a publisher has.
+fn any_retired(words: &[u64], slot: u64) -> bool
+    requires { ⌜ InBounds (now words) × ((q : ℕ) → q < publishers (now words) → retirementAt (now words) q .count ≤ DEFERRED-MAX) ⌝ }
+    ensures { λ b. ⌜ ((es : List ℤ) → b ≡ anyBelow (λ q. retiredSlot (state (now (words .entry)) es) q slot) (publishers (now (words .entry)))) ⌝ }
+{
+    let n = publishers_of(words);
+    for q in 0..n {
+        if has_retired(words, q as usize, slot) {
+            return true;
+        }
+    }
+    false
+}
+
+// Whether a slot is not free. Retired slots are looked at only in a kind that retires slots.
+fn in_use(words: &[u64], slot: u64, retiring: bool) -> bool
+    requires { ⌜ InBounds (now words) × (retiring ≡ true → (q : ℕ) → q < publishers (now words) → retirementAt (now words) q .count ≤ DEFERRED-MAX) ⌝ }
+    ensures { λ b. ⌜ ((es : List ℤ) → b ≡ inUse retiring (state (now (words .entry)) es) slot) ⌝ }
 {
     if current_of(words) == slot {
         return true;
@@ -67,15 +104,18 @@ fn in_use(words: &[u64], slot: u64) -> bool
             return true;
         }
     }
+    if retiring {
+        return any_retired(words, slot);
+    }
     false
 }
 
-// CLAIM p s: 0 to 1, holds s. Whether 31 is given is the kind's own.
-pub fn claim_slot(words: &mut [u64], p: u16, slot: u16, exclusive: bool) -> Reply
-    requires { ⌜ InBounds (now words) ⌝ }
+// CLAIM p s: 0 to 1, holds s. Whether 31 is given is the kind's own, and whether its publishers retire slots.
+pub fn claim_slot(words: &mut [u64], p: u16, slot: u16, exclusive: bool, retiring: bool) -> Reply
+    requires { ⌜ InBounds (now words) × (retiring ≡ true → (q : ℕ) → q < publishers (now words) → retirementAt (now words) q .count ≤ DEFERRED-MAX) ⌝ }
     ensures { λ a. ⌜ ((es : List ℤ) → let s = state (now (words .entry)) es in
         outcome a (state (now (words .exit)) es)
-        ≡ decide (claimTests exclusive s p slot) (claim s p slot) s) ⌝ }
+        ≡ decide (claimTests exclusive retiring s p slot) (claim s p slot) s) ⌝ }
 {
     if p as u64 >= publishers_of(words) {
         return Reply::Refused(NO_SUCH_PUBLISHER);
@@ -92,7 +132,7 @@ pub fn claim_slot(words: &mut [u64], p: u16, slot: u16, exclusive: bool) -> Repl
             if busy(words, p, exclusive) {
                 return Reply::Refused(BUSY);
             }
-            if in_use(words, wanted) {
+            if in_use(words, wanted, retiring) {
                 return Reply::Refused(SLOT_IN_USE);
             }
             y.place = PLACE_CLAIMED;

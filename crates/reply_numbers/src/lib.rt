@@ -1,6 +1,6 @@
 // The numbers that C gets: a reply as three of them, and those that the header names, one after another, for its test.
 // The public functions are total. specs/: the header's numbers as lists.
-// The last versions come from the damage crates of both kinds.
+// The last versions come from the laws of the kinds.
 ghost use mathlib.Core.Path.{_≡_};
 ghost use Prim.Native.Nat.{_<_};
 ghost use lib.ListN.{length, getD};
@@ -64,15 +64,16 @@ pub fn numbers_of(reply: Reply) -> ReplyNumbers
         Reply::Walked(o) => walk_numbers(o),
         Reply::Freed(s, n) => reply_numbers(calls::CODE_FREED, s, n),
         Reply::Refused(n) => reply_numbers(n, 0, 0),
+        Reply::Picked(s) => reply_numbers(calls::CODE_PICKED, s, 0),
     }
 }
 
 // How many numbers of each sort the header names.
-const LIMITS: usize = 16;
+const LIMITS: usize = 19;
 
-const REFUSALS: usize = 20;
+const REFUSALS: usize = 22;
 
-const CODES: usize = 15;
+const CODES: usize = 16;
 
 // Where the refusals and the codes begin among them, and where all end.
 const FIRST_REFUSAL: usize = LIMITS;
@@ -107,6 +108,9 @@ fn limit(which: usize) -> u64
         two_phase_law::LAST,
         step,
         calls::PITCH_BYTES,
+        calls::KIND_REST,
+        qsbr_law::LAST,
+        calls::DEFERRED_MAX,
     ];
     numbers[which]
 }
@@ -137,6 +141,8 @@ fn refusal(which: usize) -> u64
         calls::BAD_TABLE_LENGTH,
         calls::BAD_TABLE_PITCH,
         calls::BAD_TABLE_STEP,
+        calls::EPOCH_IS_LAST,
+        calls::TOO_MANY_DEFERRED,
     ];
     numbers[which]
 }
@@ -162,6 +168,7 @@ fn code(which: usize) -> u64
         calls::CODE_QUIET,
         calls::CODE_RETURNED,
         calls::CODE_FREED,
+        calls::CODE_PICKED,
     ];
     numbers[which]
 }

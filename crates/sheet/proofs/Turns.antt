@@ -21,8 +21,7 @@ use Rattle.sheet_law.specs.declared.Line.the-variants.{Read, Unread}
 use Rattle.sheet_law.specs.Text.{text}
 use Rattle.sheet_law.specs.Reading.{LINE-MAX, lineOf}
 use Rattle.sheet_law.specs.Printing.{replyText, printedLine, PRINTED-MAX}
-use Rattle.sheet_law.specs.Sheet.{played, nextLine, SheetState, sheetState, sheetReader}
-use Rattle.sheet_law.specs.SheetLaws.{known-all}
+use Rattle.sheet_law.specs.Sheet.{played, lineFor, nextLine, SheetState, sheetState, sheetReader}
 use Rattle.sheet_law.specs.Reads.{over-80}
 use Rattle.sheet_printing.specs.Buffer.{Added, behind}
 use Rattle.sheet.specs.Feeds.{stopsAt, taken, Feeds}
@@ -105,21 +104,21 @@ module _ (table : List ℤ) (d : SheetState) (t : List ℕ) (u n : ℕ) (k : Lis
     goes = rw (eq-eqb (getD t u 0) NEWLINE nl) (le-ltb (length before - m) PRINTED-MAX (omega arith))
 
     -- A line that is unread.
-    pub ends-unread : lineOf k ≡ Unread → Added PRINTED-MAX (printedLine q (text "unread")) out m new l → Going table d t (u + 1) (sheetState q [] s) before new l
+    pub ends-unread : lineFor s k ≡ Unread → Added PRINTED-MAX (printedLine q (text "unread")) out m new l → Going table d t (u + 1) (sheetState q [] s) before new l
     ends-unread e a =
         went-on table d t u (sheetState n k s) (sheetState q [] s) before out new m l (printedLine q (text "unread")) w h goes
-        (rw (eq-eqb (getD t u 0) NEWLINE nl, known-all s k, e, number) refl)
-        (rw (eq-eqb (getD t u 0) NEWLINE nl, known-all s k, e, sym number) refl)
+        (rw (eq-eqb (getD t u 0) NEWLINE nl, e, number) refl)
+        (rw (eq-eqb (getD t u 0) NEWLINE nl, e, sym number) refl)
         (a .length-is)
         (a .bytes)
         (a .rest)
 
     -- A line that is a command.
-    pub ends-read : (c : Command) → lineOf k ≡ Read c → (a : Reply) (r : State) → outcome a r ≡ played table s c → Added PRINTED-MAX (printedLine q (replyText a)) out m new l → Going table d t (u + 1) (sheetState q [] r) before new l
+    pub ends-read : (c : Command) → lineFor s k ≡ Read c → (a : Reply) (r : State) → outcome a r ≡ played table s c → Added PRINTED-MAX (printedLine q (replyText a)) out m new l → Going table d t (u + 1) (sheetState q [] r) before new l
     ends-read c e a r p b =
         went-on table d t u (sheetState n k s) (sheetState q [] r) before out new m l (printedLine q (replyText a)) w h goes
-        (rw (eq-eqb (getD t u 0) NEWLINE nl, known-all s k, e, sym number) (ap (λ (o : Outcome). sheetState q [] (o .after)) p))
-        (rw (eq-eqb (getD t u 0) NEWLINE nl, known-all s k, e, sym number) (ap (λ (o : Outcome). printedLine q (replyText (o .reply))) (sym p)))
+        (rw (eq-eqb (getD t u 0) NEWLINE nl, e, sym number) (ap (λ (o : Outcome). sheetState q [] (o .after)) p))
+        (rw (eq-eqb (getD t u 0) NEWLINE nl, e, sym number) (ap (λ (o : Outcome). printedLine q (replyText (o .reply))) (sym p)))
         (b .length-is)
         (b .bytes)
         (b .rest)

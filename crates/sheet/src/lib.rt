@@ -5,10 +5,11 @@
 ghost use mathlib.Core.Path.{_≡_};
 ghost use mathlib.Core.List.{[]};
 ghost use lib.ListN.{length, take};
+ghost use Rattle.layout.specs.Layout.{kindWord};
 ghost use Rattle.statement.specs.Machine.{state};
 ghost use Rattle.lines_law.specs.Lines.{ending, joined};
 ghost use Rattle.sheet_law.specs.Reading.{lineOf};
-ghost use Rattle.sheet_law.specs.Sheet.{sheetState, sheetReader};
+ghost use Rattle.sheet_law.specs.Sheet.{known as Sheet·known, sheetState, sheetReader};
 ghost use Rattle.sheet_law.specs.Reads.{KEPT};
 ghost use Rattle.sheet.specs.Feeds.{FeedsIn, fedAt};
 use calls::Pitch;
@@ -16,6 +17,7 @@ use calls::SLOTS_MAX;
 use calls::TABLE;
 use sheet_law::LINE_MAX;
 use sheet_law::Line;
+use sheet_playing::known;
 use sheet_playing::play;
 use sheet_printing::fits;
 use sheet_printing::print_reply;
@@ -65,15 +67,16 @@ fn keep(kept: &mut [u8], count: usize, b: u8) -> usize
     count + 1
 }
 
-// The line that is kept.
-fn line_in(kept: &[u8], count: usize) -> Line
+// The line that is kept, as the store's kind has it.
+fn line_in(words: &[u64], kept: &[u8], count: usize) -> Line
     requires { ⌜ length (now kept) ≡ KEPT ⌝ }
-    ensures { λ r. ⌜ r ≡ lineOf (take count (now (kept .entry))) ⌝ }
+    ensures { λ r. ⌜ r ≡ Sheet·known (kindWord (now (words .entry))) (lineOf (take count (now (kept .entry)))) ⌝ }
 {
     if count > LINE_MAX {
         return Line::Unread;
     }
-    parse(&kept[..count])
+    let line = parse(&kept[..count]);
+    known(words, line)
 }
 
 // The bytes of a read: each line that ends in them is played, and its line printed, from the start of the output on,
@@ -111,7 +114,7 @@ pub fn feed(
         }
         used += 1;
         lines = std::num::wrapping_add_u64(lines, 1);
-        let Line::Read(command) = line_in(kept, count) else {
+        let Line::Read(command) = line_in(words, kept, count) else {
             made = print_unread(out, made, lines);
             count = 0;
             continue;

@@ -1,5 +1,5 @@
 -- A command's own text. A command whose arguments have their widths is read back from it, whatever they are: its text is bracketed, its decimals are read back,
--- and it is at most 50 bytes. Assumes nothing.
+-- and it is at most 51 bytes. Assumes nothing.
 use Prim.Native.Nat.{ℕ, suc, _+_, _-_, _^_, _<_, _≤_}
 use native.Mathlib.Omega.{arith}
 use mathlib.Core.Path.{_≡_, refl, _∙_}
@@ -14,7 +14,7 @@ use Rattle.base.specs.Base.{choose}
 use Rattle.base.specs.RowLaws.{choose-split}
 use Rattle.calls.specs.declared.Call.{Call}
 use Rattle.calls.specs.declared.Call.the-variants as call
-use Rattle.calls.specs.Numbers.{PITCH-BITS, NUMBER-MAX, KIND-NEW, KIND-OLD}
+use Rattle.calls.specs.Numbers.{PITCH-BITS, NUMBER-MAX, KIND-NEW, KIND-OLD, KIND-REST}
 use Rattle.sheet_law.specs.declared.Number.the-variants.{Decimal}
 use Rattle.sheet_law.specs.declared.Angle.the-variants.{SignedDecimal}
 use Rattle.sheet_law.specs.declared.Command.{Command}
@@ -27,7 +27,7 @@ use Rattle.sheet_law.specs.Decimals.{plain-decimal, decimal-up-to-space,
 
 -- The text of a kind and of a pitch.
 abbrev pub kindText : ℕ → List ℕ
-kindText kind = choose (eqb kind KIND-NEW) (text "new") (text "old")
+kindText kind = choose (eqb kind KIND-NEW) (text "new") (choose (eqb kind KIND-OLD) (text "old") (text "rest"))
 
 abbrev pub angleText : ℤ → List ℕ
 angleText (pos n) = decimal n
@@ -45,6 +45,9 @@ callText (call.Sync p) = withOne (text "sync ") p
 callText (call.Raise p) = withOne (text "raise ") p
 callText (call.Walk p b) = withTwo (text "walk ") p b
 callText (call.Release p) = withOne (text "release ") p
+callText (call.Pick r) = withOne (text "pick ") r
+callText (call.Checkpoint r) = withOne (text "checkpoint ") r
+callText (call.Defer p) = withOne (text "defer ") p
 
 abbrev pub storeText : ℕ → ℕ → ℕ → ℕ → ℕ → List ℕ
 storeText kind rs ps ss version = kindText kind ++ (text " " ++ (decimal rs ++ (text " " ++ (decimal ps ++ (text " " ++ (decimal ss ++ (text " " ++ decimal version)))))))
@@ -59,7 +62,7 @@ inBrackets l = text "(" ++ (l ++ text ")")
 abbrev pub commandText : Command → List ℕ
 commandText c = inBrackets (innerText c)
 
--- Widths: pitches signed PITCH-BITS, versions 64, all other arguments 16, unsigned; the kind is `new` or `old`.
+-- Widths: pitches signed PITCH-BITS, versions 64, all other arguments 16, unsigned; the kind is `new`, `old` or `rest`.
 abbrev pub FitsNarrow : ℕ → Type 0
 FitsNarrow n = n < 2 ^ 16
 
@@ -81,9 +84,15 @@ FitsCall (call.Sync p) = FitsNarrow p
 FitsCall (call.Raise p) = FitsNarrow p
 FitsCall (call.Walk p b) = FitsNarrow p × FitsNarrow b
 FitsCall (call.Release p) = FitsNarrow p
+FitsCall (call.Pick r) = FitsNarrow r
+FitsCall (call.Checkpoint r) = FitsNarrow r
+FitsCall (call.Defer p) = FitsNarrow p
+
+abbrev pub FitsKind : ℕ → Type 0
+FitsKind kind = (kind ≡ KIND-NEW) ⊎ ((kind ≡ KIND-OLD) ⊎ (kind ≡ KIND-REST))
 
 abbrev pub CommandFits : Command → Type 0
-CommandFits (Make kind rs ps ss version) = ((kind ≡ KIND-NEW) ⊎ (kind ≡ KIND-OLD)) × FitsNarrow rs × FitsNarrow ps × FitsNarrow ss × FitsWide version
+CommandFits (Make kind rs ps ss version) = FitsKind kind × FitsNarrow rs × FitsNarrow ps × FitsNarrow ss × FitsWide version
 CommandFits (Run c) = FitsCall c
 
 -- A bracketed text is read as what stands between the brackets.
@@ -106,10 +115,11 @@ narrow-back n fits = rw (plain-decimal n, le-ltb NARROW-MAX n (omega arith)) ref
 wide-back : (n : ℕ) → FitsWide n → wide (decimal n) ≡ Decimal n
 wide-back n fits = rw (plain-decimal n, le-ltb NUMBER-MAX n (omega arith)) refl
 
-kind-back : (kind : ℕ) → (kind ≡ KIND-NEW) ⊎ (kind ≡ KIND-OLD) → (l : List ℕ) → (kindNamed (upToSpace (kindText kind ++ (SPACE ∷ l))) ≡ Decimal kind) × (afterSpace (kindText kind ++ (SPACE ∷ l)) ≡ l)
+kind-back : (kind : ℕ) → FitsKind kind → (l : List ℕ) → (kindNamed (upToSpace (kindText kind ++ (SPACE ∷ l))) ≡ Decimal kind) × (afterSpace (kindText kind ++ (SPACE ∷ l)) ≡ l)
 unfolding upToSpace afterSpace namedIn
 kind-back kind (inl e) l = rw e (refl, refl)
-kind-back kind (inr e) l = rw e (refl, refl)
+kind-back kind (inr (inl e)) l = rw e (refl, refl)
+kind-back kind (inr (inr e)) l = rw e (refl, refl)
 
 -- A pitch is a decimal that may have a minus before it, either within its width.
 angle-signed : (l : List ℕ) → angle l ≡ signed (atMost PITCH-LEAST) (atMost PITCH-MOST) l
@@ -144,6 +154,9 @@ call-back (call.Sync p) f = one-back call.Sync p f
 call-back (call.Raise p) f = one-back call.Raise p f
 call-back (call.Walk p b) (f, g) = two-back call.Walk p b f g
 call-back (call.Release p) f = one-back call.Release p f
+call-back (call.Pick r) f = one-back call.Pick r f
+call-back (call.Checkpoint r) f = one-back call.Checkpoint r f
+call-back (call.Defer p) f = one-back call.Defer p f
 
 store-back : (kind rs ps ss version : ℕ) → CommandFits (Make kind rs ps ss version) → storeLine (storeText kind rs ps ss version) ≡ Read (Make kind rs ps ss version)
 store-back kind rs ps ss version (fk, fr, fp, fs, fv) =
@@ -171,7 +184,7 @@ unfolding upToSpace afterSpace namedIn
 inner-back (Make kind rs ps ss version) f = store-back kind rs ps ss version f
 inner-back (Run c) f = call-back c f
 
--- A command's text is at most 50 bytes.
+-- A command's text is at most 51 bytes.
 narrow-length : (n : ℕ) → FitsNarrow n → length (decimal n) ≤ 5
 narrow-length n fits = decimal-length 5 n (omega arith) (omega arith)
 
@@ -186,8 +199,8 @@ pub angle-length : (v : ℤ) → FitsAngle v → length (angleText v) ≤ PITCH-
 angle-length (pos n) fits = let d = decimal-length (PITCH-TEXT - 1) n (omega arith) (omega arith) in omega arith
 angle-length (negsuc n) fits = let d = decimal-length (PITCH-TEXT - 1) (suc n) (omega arith) (omega arith) in omega arith
 
-kind-length : (kind : ℕ) → length (kindText kind) ≤ 3
-kind-length kind = choose-split (λ x. length x ≤ 3) (eqb kind KIND-NEW) (λ _. omega arith) (λ _. omega arith)
+kind-length : (kind : ℕ) → length (kindText kind) ≤ 4
+kind-length kind = choose-split (λ x. length x ≤ 4) (eqb kind KIND-NEW) (λ _. omega arith) (λ _. choose-split (λ x. length x ≤ 4) (eqb kind KIND-OLD) (λ _. omega arith) (λ _. omega arith))
 
 spaced-length : (m n : ℕ) (l l′ : List ℕ) → length l ≤ m → length l′ ≤ n → length (l ++ (SPACE ∷ l′)) ≤ m + 1 + n
 spaced-length m n l l′ le le′ = omega (arith, length-append l (SPACE ∷ l′))
@@ -195,7 +208,7 @@ spaced-length m n l l′ le le′ = omega (arith, length-append l (SPACE ∷ l�
 pair-length : (n m : ℕ) → FitsNarrow n → FitsNarrow m → length (decimal n ++ (SPACE ∷ decimal m)) ≤ 11
 pair-length n m f g = spaced-length 5 5 (decimal n) (decimal m) (narrow-length n f) (narrow-length m g)
 
-call-length : (c : Call) → FitsCall c → length (callText c) ≤ 48
+call-length : (c : Call) → FitsCall c → length (callText c) ≤ 49
 call-length (call.Enter r) f = omega (arith, narrow-length r f)
 call-length (call.Look r k) (f, g) = omega (arith, pair-length r k f g)
 call-length (call.Leave r) f = omega (arith, narrow-length r f)
@@ -206,8 +219,11 @@ call-length (call.Sync p) f = omega (arith, narrow-length p f)
 call-length (call.Raise p) f = omega (arith, narrow-length p f)
 call-length (call.Walk p b) (f, g) = omega (arith, pair-length p b f g)
 call-length (call.Release p) f = omega (arith, narrow-length p f)
+call-length (call.Pick r) f = omega (arith, narrow-length r f)
+call-length (call.Checkpoint r) f = omega (arith, narrow-length r f)
+call-length (call.Defer p) f = omega (arith, narrow-length p f)
 
-store-length : (kind rs ps ss version : ℕ) → CommandFits (Make kind rs ps ss version) → length (storeText kind rs ps ss version) ≤ 42
+store-length : (kind rs ps ss version : ℕ) → CommandFits (Make kind rs ps ss version) → length (storeText kind rs ps ss version) ≤ 43
 store-length kind rs ps ss version (fk, fr, fp, fs, fv) =
     let after-publishers : List ℕ = decimal ss ++ (SPACE ∷ decimal version) in
     let after-readers : List ℕ = decimal ps ++ (SPACE ∷ after-publishers) in
@@ -215,13 +231,13 @@ store-length kind rs ps ss version (fk, fr, fp, fs, fv) =
     let le-publishers = spaced-length 5 20 (decimal ss) (decimal version) (narrow-length ss fs) (wide-length version fv) in
     let le-readers = spaced-length 5 26 (decimal ps) after-publishers (narrow-length ps fp) le-publishers in
     let le-kind = spaced-length 5 32 (decimal rs) after-readers (narrow-length rs fr) le-readers in
-    spaced-length 3 38 (kindText kind) after-kind (kind-length kind) le-kind
+    spaced-length 4 38 (kindText kind) after-kind (kind-length kind) le-kind
 
-inner-length : (c : Command) → CommandFits c → length (innerText c) ≤ 48
+inner-length : (c : Command) → CommandFits c → length (innerText c) ≤ 49
 inner-length (Make kind rs ps ss version) f = omega (arith, store-length kind rs ps ss version f)
 inner-length (Run c) f = call-length c f
 
-pub text-length : (c : Command) → CommandFits c → length (commandText c) ≤ 50
+pub text-length : (c : Command) → CommandFits c → length (commandText c) ≤ 51
 text-length c f = omega (arith, inner-length c f, length-append (innerText c) (text ")"))
 
 -- A command is read back from its text.

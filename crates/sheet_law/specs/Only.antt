@@ -14,7 +14,7 @@ use borrow.Author.Tests.{ltb-true, eqb-true}
 use Rattle.base.specs.RowLaws.{choose-split, and-true, clash}
 use Rattle.calls.specs.declared.Call.{Call}
 use Rattle.calls.specs.declared.Call.the-variants as call
-use Rattle.calls.specs.Numbers.{NUMBER-MAX, KIND-NEW, KIND-OLD}
+use Rattle.calls.specs.Numbers.{NUMBER-MAX, KIND-NEW, KIND-OLD, KIND-REST}
 use Rattle.sheet_law.specs.declared.Number.{Number}
 use Rattle.sheet_law.specs.declared.Number.the-variants.{Decimal, NoNumber}
 use Rattle.sheet_law.specs.declared.Angle.{Angle}
@@ -30,7 +30,7 @@ use Rattle.sheet_law.specs.Reading.{PITCH-LEAST, PITCH-MOST, LINE-MAX, N
 use Rattle.sheet_law.specs.Reading.Naming.{_names_}
 use Rattle.sheet_law.specs.Widths.{no-decimal, at-most-bound, at-most-is}
 use Rattle.sheet_law.specs.Decimals.{plain-decimal, plain-only}
-use Rattle.sheet_law.specs.Canonical.{kindText, angleText, innerText, inBrackets, commandText, FitsNarrow, FitsWide, FitsAngle, CommandFits, text-length, reads-back}
+use Rattle.sheet_law.specs.Canonical.{kindText, angleText, innerText, inBrackets, commandText, FitsNarrow, FitsWide, FitsAngle, FitsKind, CommandFits, text-length, reads-back}
 
 -- Two texts that are found the same are.
 same-only : (l l′ : List ℕ) → sameText l l′ ≡ true → l ≡ l′
@@ -101,8 +101,8 @@ module _ (Q : Line → Type 0) (bad : Q Unread) where
   wide-only : (l : List ℕ) (f : ℕ → Line) → ((n : ℕ) → decimal n ≡ l → FitsWide n → Q (f n)) → Q (ifNumber (wide l) f)
   wide-only l f h = given-only (wide l) f (λ n e. let q = at-most-only NUMBER-MAX l n e in h n (q .0) (omega arith))
 
-  kind-only : (l : List ℕ) (f : ℕ → Line) → ((kind : ℕ) → kindText kind ≡ l → (kind ≡ KIND-NEW) ⊎ (kind ≡ KIND-OLD) → Q (f kind)) → Q (ifNumber (kindNamed l) f)
-  kind-only l f h = named-only (λ x. Q (ifNumber x f)) NoNumber l kinds ((λ e. h KIND-NEW e (inl refl)) else (λ e. h KIND-OLD e (inr refl)) else bad)
+  kind-only : (l : List ℕ) (f : ℕ → Line) → ((kind : ℕ) → kindText kind ≡ l → FitsKind kind → Q (f kind)) → Q (ifNumber (kindNamed l) f)
+  kind-only l f h = named-only (λ x. Q (ifNumber x f)) NoNumber l kinds ((λ e. h KIND-NEW e (inl refl)) else (λ e. h KIND-OLD e (inr (inl refl))) else (λ e. h KIND-REST e (inr (inr refl))) else bad)
 
   angle-only : (l : List ℕ) (f : ℤ → Line) → ((v : ℤ) → angleText v ≡ l → FitsAngle v → Q (f v)) → Q (ifAngle (angle l) f)
   angle-only l f h = go (angle l) refl
@@ -199,6 +199,9 @@ module _ (part : List ℕ) where
       else (λ e. one-only _ e call.Raise (λ n d f. (d, f)))
       else (λ e. two-only _ e call.Walk (λ n m d f g. (d, (f, g))))
       else (λ e. one-only _ e call.Release (λ n d f. (d, f)))
+      else (λ e. one-only _ e call.Pick (λ n d f. (d, f)))
+      else (λ e. one-only _ e call.Checkpoint (λ n d f. (d, f)))
+      else (λ e. one-only _ e call.Defer (λ n d f. (d, f)))
       else tt)
 
 -- A line in brackets is what stands between them, in brackets.
@@ -256,6 +259,6 @@ unread-exactly l = (λ e c f z. let q : Read c ≡ Unread = sym (read-exactly l 
     go h Unread e = e
     go h (Read c) e = absurd (h c (read-fits l c e) (only-text l c e))
 
--- A line that is read is at most 50 bytes, so that it is never one over 80.
-pub read-short : (l : List ℕ) (c : Command) → lineOf l ≡ Read c → length l ≤ 50
+-- A line that is read is at most 51 bytes, so that it is never one over 80.
+pub read-short : (l : List ℕ) (c : Command) → lineOf l ≡ Read c → length l ≤ 51
 read-short l c e = rw (sym (only-text l c e)) (text-length c (read-fits l c e))

@@ -3,7 +3,7 @@ use Prim.Native.Nat.{ℕ, suc}
 use mathlib.Core.List.{List, _++_}
 use lib.IntN.{ℤ, pos, negsuc}
 use Rattle.calls.specs.declared.Reply.{Reply}
-use Rattle.calls.specs.declared.Reply.the-variants.{Made, At, Pitch, Left, Claimed, Written, Swapped, Synced, Raised, Shared, Walked, Freed, Refused}
+use Rattle.calls.specs.declared.Reply.the-variants.{Made, At, Pitch, Left, Claimed, Written, Swapped, Synced, Raised, Shared, Walked, Freed, Refused, Picked}
 use Rattle.calls.specs.declared.WalkReply.{WalkReply}
 use Rattle.calls.specs.declared.WalkReply.the-variants.{Waiting, Spent, Quiet, Returned}
 use Rattle.sheet_law.specs.Text.{text, decimal}
@@ -25,7 +25,7 @@ walkText Spent = text "spent"
 walkText Quiet = text "quiet"
 walkText (Returned looks waits) = withTwo (text "returned ") looks waits
 
--- Replies: made; at place; pitch v; left; claimed s; written n; swapped s; synced m; raised; shared; waiting w; spent; quiet; returned looks waits; freed s releases; refused n.
+-- Replies: made; at place; pitch v; left; claimed s; written n; swapped s; synced m; raised; shared; waiting w; spent; quiet; returned looks waits; freed s releases; refused n; picked s.
 abbrev pub replyText : Reply → List ℕ
 replyText Made = text "made"
 replyText (At place) = withOne (text "at ") place
@@ -40,6 +40,7 @@ replyText Shared = text "shared"
 replyText (Walked walked) = walkText walked
 replyText (Freed slot n) = withTwo (text "freed ") slot n
 replyText (Refused n) = withOne (text "refused ") n
+replyText (Picked slot) = withOne (text "picked ") slot
 
 -- No printed line is longer: the longest has three numbers of 20 digits beside `( returned  )` and its newline.
 abbrev pub PRINTED-MAX : ℕ

@@ -10,13 +10,13 @@ use Rattle.base.specs.Base.{choose}
 use Rattle.base.specs.Rows.{outside}
 use Rattle.calls.specs.declared.Call.{Call}
 use Rattle.calls.specs.declared.Call.the-variants as call
-use Rattle.calls.specs.Numbers.{PITCH-HALF, NUMBER-MAX, KIND-NEW, KIND-OLD}
+use Rattle.calls.specs.Numbers.{PITCH-HALF, NUMBER-MAX, KIND-NEW, KIND-OLD, KIND-REST}
 use Rattle.sheet_law.specs.declared.Number.{Number}
 use Rattle.sheet_law.specs.declared.Number.the-variants.{Decimal, NoNumber}
 use Rattle.sheet_law.specs.declared.Angle.{Angle}
 use Rattle.sheet_law.specs.declared.Angle.the-variants.{SignedDecimal, NoAngle}
 use Rattle.sheet_law.specs.declared.Keyword.{Keyword}
-use Rattle.sheet_law.specs.declared.Keyword.the-variants.{Store, Enter, Look, Leave, Claim, Write, Swap, Sync, Raise, Walk, Release, Unknown}
+use Rattle.sheet_law.specs.declared.Keyword.the-variants.{Store, Enter, Look, Leave, Claim, Write, Swap, Sync, Raise, Walk, Release, Pick, Checkpoint, Defer, Unknown}
 use Rattle.sheet_law.specs.declared.Command.the-variants.{Make, Run}
 use Rattle.sheet_law.specs.declared.Line.{Line}
 use Rattle.sheet_law.specs.declared.Line.the-variants.{Read, Unread}
@@ -104,16 +104,20 @@ keywords =
     ∷ "raise" names Raise
     ∷ "walk" names Walk
     ∷ "release" names Release
+    ∷ "pick" names Pick
+    ∷ "checkpoint" names Checkpoint
+    ∷ "defer" names Defer
     ∷ []
 
 abbrev pub keyword : List ℕ → Keyword
 keyword word = namedIn keywords Unknown word
 
--- `store`, whose kind is `new` or `old`.
+-- `store`, whose kind is `new`, `old` or `rest`.
 abbrev pub kinds : List (Naming Number)
 kinds =
     "new" names Decimal KIND-NEW
     ∷ "old" names Decimal KIND-OLD
+    ∷ "rest" names Decimal KIND-REST
     ∷ []
 
 abbrev pub kindNamed : List ℕ → Number
@@ -162,6 +166,9 @@ command Sync l = one l call.Sync
 command Raise l = one l call.Raise
 command Walk l = two l call.Walk
 command Release l = one l call.Release
+command Pick l = one l call.Pick
+command Checkpoint l = one l call.Checkpoint
+command Defer l = one l call.Defer
 command Unknown l = Unread
 
 -- Bracketed: what stands between the brackets.

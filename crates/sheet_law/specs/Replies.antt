@@ -53,7 +53,8 @@ replyNamed l =
     (choose (sameText (upToSpace l) (text "returned")) (replyWithNumbers (plain (upToSpace (afterSpace l))) (plain (afterSpace (afterSpace l))) (λ looks waits. reply.Walked (Returned looks waits)))
     (choose (sameText (upToSpace l) (text "freed")) (replyWithNumbers (plain (upToSpace (afterSpace l))) (plain (afterSpace (afterSpace l))) reply.Freed)
     (choose (sameText (upToSpace l) (text "refused")) (replyWithNumber (plain (afterSpace l)) reply.Refused)
-    none)))))))))))))))
+    (choose (sameText (upToSpace l) (text "picked")) (replyWithNumber (plain (afterSpace l)) reply.Picked)
+    none))))))))))))))))
 
 number-back : (n : ℕ) (f : ℕ → Reply) → replyWithNumber (plain (decimal n)) f ≡ some (f n)
 number-back n f = rw (plain-decimal n) refl
@@ -88,6 +89,7 @@ read-back reply.Shared = refl
 read-back (reply.Walked walked) = walk-back walked
 read-back (reply.Freed slot n) = numbers-back slot n reply.Freed
 read-back (reply.Refused n) = number-back n reply.Refused
+read-back (reply.Picked slot) = number-back slot reply.Picked
 
 -- Two different replies never print the same text, and no reply prints `unread`.
 pub reply-injective : (a a′ : Reply) → replyText a ≡ replyText a′ → a ≡ a′

@@ -38,7 +38,7 @@ unfoldable pub played : List ℤ → State → Command → Outcome
 played table s (Make kind rs ps ss version) = lent (ss * TABLE) (anyMaking kind (given rs ps ss version table)) s
 played table s (Run c) = lent (slots (s .words) * TABLE) (λ (part : State). anyStep part c) s
 
--- A call that the made store's kind lacks is unread. Both kinds have the ten calls, so that no call is; before a made store each gets 1.
+-- A call that the made store's kind lacks is unread. Before a made store none is lacked, and each gets 1.
 abbrev pub known : ℕ → Line → Line
 known made Unread = Unread
 known made (Read (Make kind rs ps ss version)) = Read (Make kind rs ps ss version)

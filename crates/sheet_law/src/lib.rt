@@ -36,6 +36,9 @@ pub enum Keyword {
     Raise,
     Walk,
     Release,
+    Pick,
+    Checkpoint,
+    Defer,
     Unknown,
 }
 

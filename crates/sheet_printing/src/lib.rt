@@ -116,6 +116,8 @@ const FREED: ReplyWord = ReplyWord(*b"freed    ", 6, 2);
 
 const REFUSED: ReplyWord = ReplyWord(*b"refused  ", 8, 1);
 
+const PICKED: ReplyWord = ReplyWord(*b"picked   ", 7, 1);
+
 const UNREAD: ReplyWord = ReplyWord(*b"unread   ", 6, 0);
 
 // What a line says: a word, and its numbers.
@@ -185,6 +187,7 @@ fn reply_phrase(a: Reply) -> Phrase
         Reply::Walked(reply) => walk_phrase(reply),
         Reply::Freed(s, n) => phrase_of(FREED, s, n),
         Reply::Refused(n) => phrase_of(REFUSED, n, 0),
+        Reply::Picked(s) => phrase_of(PICKED, s, 0),
     }
 }
 

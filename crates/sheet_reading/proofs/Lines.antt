@@ -1,29 +1,45 @@
--- The numbers of the kinds, the arguments of a call and the shape of a line, as the tests of the code meet them. Assumes nothing.
+-- The rows of a table of words, the numbers of the kinds, the arguments of a call and the shape of a line, as the tests of the code meet them. Assumes nothing.
 use Prim.Native.Nat.{ℕ, _-_, _<_, _≤_}
+use Prim.Native.String.{String}
 use native.Mathlib.Omega.{arith}
-use mathlib.Core.Path.{_≡_, refl, ap}
+use mathlib.Core.Path.{_≡_, refl, ap, _∙_}
 use mathlib.Core.Bool.{Bool, true, false, _&&_}
-use mathlib.Core.List.{List}
+use mathlib.Core.List.{List, [], _∷_}
 use lib.IntN.{ℤ}
 use Rattle.sheet_law.specs.Widths.{decimal-same, no-decimal}
 use lib.ListN.{length, getD, take, drop}
 use borrow.Author.Tests.{lt-ltb, le-ltb, eq-eqb, ne-eqb}
 use Rattle.calls.specs.declared.Call.{Call}
 use Rattle.base.specs.Base.{choose}
-use Rattle.calls.specs.Numbers.{KIND-NEW, KIND-OLD}
+use Rattle.calls.specs.Numbers.{KIND-NEW, KIND-OLD, KIND-REST}
 use Rattle.sheet_law.specs.declared.Number.the-variants.{Decimal, NoNumber}
 use Rattle.sheet_law.specs.declared.Angle.the-variants.{SignedDecimal, NoAngle}
 use Rattle.sheet_law.specs.declared.Command.the-variants.{Run}
 use Rattle.sheet_law.specs.declared.Line.the-variants.{Read, Unread}
-use Rattle.sheet_law.specs.Text.{OPEN, CLOSE}
-use Rattle.sheet_law.specs.Reading.{NARROW-MAX, upToSpace, afterSpace, narrow, angle, one, two, pitched, kinds, kindNamed, keyword, command, inner, LINE-MAX, lineOf}
+use Rattle.sheet_law.specs.Text.{text, sameText, OPEN, CLOSE}
+use Rattle.sheet_law.specs.Reading.{NARROW-MAX, upToSpace, afterSpace, narrow, angle, Naming, namedIn, one, two, pitched, kinds, kindNamed, keyword, command, inner, LINE-MAX, lineOf}
+use Rattle.sheet_law.specs.Reading.Naming.{_names_}
 use Rattle.sheet_law.specs.Only.{_else_, named-only}
+
+-- A table of words from its last row up: without rows a word names none; a row with what the rows after it name is the table from that row on.
+pub record NamedBy {A : Type 0} (none : A) (word : List ℕ) (rows : List (Naming A)) (named : A) : Type 0 where
+  pub is : named ≡ namedIn rows none word
+
+pub no-row : {A : Type 0} {none : A} {word : List ℕ} → NamedBy none word [] none
+unfolding namedIn
+no-row = record { is = refl }
+
+pub row : {A : Type 0} {none : A} {word : List ℕ} {rows : List (Naming A)} {after named : A} (name : String) (x : A) → named ≡ choose (sameText word (text name)) x after → NamedBy none word rows after
+    → NamedBy none word ((name names x) ∷ rows) named
+unfolding namedIn
+row {A} {none} {word} name x e behind = record { is = e ∙ ap (λ (y : A). choose (sameText word (text name)) x y) (behind .is) }
 
 -- A kind's number has 16 bits.
 pub kind-narrow : (w : List ℕ) (n : ℕ) → kindNamed w ≡ Decimal n → n ≤ NARROW-MAX
 kind-narrow w n = named-only (λ x. x ≡ Decimal n → n ≤ NARROW-MAX) NoNumber w kinds
     ((λ _ f. omega (arith, decimal-same KIND-NEW n f))
     else (λ _ f. omega (arith, decimal-same KIND-OLD n f))
+    else (λ _ f. omega (arith, decimal-same KIND-REST n f))
     else (λ f. absurd (no-decimal n f)))
 
 -- The arguments of a call, each read or not.

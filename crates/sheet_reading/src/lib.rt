@@ -7,6 +7,7 @@ ghost use Rattle.sheet_law.specs.Reading.{keyword as Reading·keyword, narrow a
 use calls::Call;
 use calls::KIND_NEW;
 use calls::KIND_OLD;
+use calls::KIND_REST;
 use calls::NUMBER_MAX;
 use calls::Pitch;
 use sheet_fields::angle;
@@ -49,6 +50,9 @@ fn keyword(s: &[u8]) -> Keyword
     ensures { λ r. ⌜ r ≡ Reading·keyword (now (s .entry)) ⌝ }
 {
     let mut w = Keyword::Unknown;
+    w = keyword_row(s, b"defer", Keyword::Defer, w);
+    w = keyword_row(s, b"checkpoint", Keyword::Checkpoint, w);
+    w = keyword_row(s, b"pick", Keyword::Pick, w);
     w = keyword_row(s, b"release", Keyword::Release, w);
     w = keyword_row(s, b"walk", Keyword::Walk, w);
     w = keyword_row(s, b"raise", Keyword::Raise, w);
@@ -67,6 +71,7 @@ fn kind(s: &[u8]) -> Number
     ensures { λ r. ⌜ r ≡ kindNamed (now (s .entry)) ⌝ }
 {
     let mut k = Number::NoNumber;
+    k = kind_row(s, b"rest", Number::Decimal(KIND_REST), k);
     k = kind_row(s, b"old", Number::Decimal(KIND_OLD), k);
     kind_row(s, b"new", Number::Decimal(KIND_NEW), k)
 }
@@ -189,6 +194,9 @@ fn command(w: Keyword, s: &[u8]) -> Line
         Keyword::Raise => run(one.read, Call::Raise(one.value)),
         Keyword::Walk => run(n.read & m.read, Call::Walk(n.value, m.value)),
         Keyword::Release => run(one.read, Call::Release(one.value)),
+        Keyword::Pick => run(one.read, Call::Pick(one.value)),
+        Keyword::Checkpoint => run(one.read, Call::Checkpoint(one.value)),
+        Keyword::Defer => run(one.read, Call::Defer(one.value)),
         Keyword::Unknown => Line::Unread,
     }
 }

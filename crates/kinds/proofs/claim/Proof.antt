@@ -2,7 +2,7 @@
 use borrow.Author.Needs.{needs}
 use mathlib.Core.Path.{_∙_}
 use Rattle.calls.specs.declared.Call.the-variants.{Claim}
-use Rattle.kinds_law.specs.Calls.{step-new, step-old, step-unknown, step-length}
+use Rattle.kinds_law.specs.Calls.{step-new, step-old, step-rest, step-unknown, step-length}
 use Rattle.kinds.proofs.claim.Statement.{statement}
 use Rattle.kinds.proofs.claim.Tie as tie
 use Rattle.kinds.proofs.claim.Reads as reads
@@ -23,6 +23,9 @@ claim-requires c κs = tt
 claim-requires-2 : tie.Need-claim-requires-2
 claim-requires-2 c κs = tt
 
+claim-requires-3 : tie.Need-claim-requires-3
+claim-requires-3 c κs = tt
+
 same-length : tie.Need-same-length
 same-length c = search needs
 
@@ -40,9 +43,16 @@ returns-3 c = c .before .before .claim2 .ensures ∙ step-old _ (Claim _ _) (c .
 same-length-3 : tie.Need-same-length-3
 same-length-3 c = search needs
 
--- 1 damaged: no kind
+-- a rest store
 returns-4 : tie.Need-returns-4
-returns-4 c = step-unknown _ (Claim _ _) (c .before .kind-of .ensures) (c .match .rest .0 .1) (c .match .rest .1)
+returns-4 c = c .before .before .claim3 .ensures ∙ step-rest _ (Claim _ _) (c .before .before .before .before .before .kind-of .ensures) (c .before .before .before .before .match .keys3)
+
+same-length-4 : tie.Need-same-length-4
+same-length-4 c = search needs
+
+-- 1 damaged: no kind
+returns-5 : tie.Need-returns-5
+returns-5 c = step-unknown _ (Claim _ _) (c .before .kind-of .ensures) (c .match .rest .0 .0 .1) (c .match .rest .0 .1) (c .match .rest .1)
 
 pub claim-spec : {M : Type 1} → statement M
 claim-spec =
@@ -52,9 +62,12 @@ claim-spec =
     kind-of-requires
     claim-requires
     claim-requires-2
+    claim-requires-3
     same-length
     returns-2
     same-length-2
     returns-3
     same-length-3
-    returns-4)
+    returns-4
+    same-length-4
+    returns-5)

@@ -2,7 +2,7 @@
 use borrow.Author.Needs.{needs}
 use mathlib.Core.Path.{_∙_}
 use Rattle.calls.specs.declared.Call.the-variants.{Look}
-use Rattle.kinds_law.specs.Calls.{step-new, step-old, step-unknown, step-length}
+use Rattle.kinds_law.specs.Calls.{step-new, step-old, step-rest, step-unknown, step-length}
 use Rattle.kinds.proofs.look.Statement.{statement}
 use Rattle.kinds.proofs.look.Tie as tie
 use Rattle.kinds.proofs.look.Reads as reads
@@ -23,6 +23,9 @@ look-requires c κs = tt
 look-requires-2 : tie.Need-look-requires-2
 look-requires-2 c κs = tt
 
+look-requires-3 : tie.Need-look-requires-3
+look-requires-3 c κs = tt
+
 -- a new store
 returns-2 : tie.Need-returns-2
 returns-2 c = c .look .ensures ∙ step-new _ (Look _ _) (c .before .before .kind-of .ensures) (c .before .match .keys1)
@@ -31,11 +34,24 @@ returns-2 c = c .look .ensures ∙ step-new _ (Look _ _) (c .before .before .kin
 returns-3 : tie.Need-returns-3
 returns-3 c = c .look2 .ensures ∙ step-old _ (Look _ _) (c .before .before .kind-of .ensures) (c .before .match .keys2)
 
--- 1 damaged: no kind
+-- a rest store
 returns-4 : tie.Need-returns-4
-returns-4 c = step-unknown _ (Look _ _) (c .before .kind-of .ensures) (c .match .rest .0 .1) (c .match .rest .1)
+returns-4 c = c .look3 .ensures ∙ step-rest _ (Look _ _) (c .before .before .kind-of .ensures) (c .before .match .keys3)
+
+-- 1 damaged: no kind
+returns-5 : tie.Need-returns-5
+returns-5 c = step-unknown _ (Look _ _) (c .before .kind-of .ensures) (c .match .rest .0 .0 .1) (c .match .rest .0 .1) (c .match .rest .1)
 
 pub look-spec : {M : Type 1} → statement M
 look-spec =
     tie.close
-    (tie.spec returns kind-of-requires look-requires look-requires-2 returns-2 returns-3 returns-4)
+    (tie.spec
+    returns
+    kind-of-requires
+    look-requires
+    look-requires-2
+    look-requires-3
+    returns-2
+    returns-3
+    returns-4
+    returns-5)

@@ -8,9 +8,12 @@ use Rattle.kinds.proofs.run.Tie as tie
 use Rattle.kinds.proofs.run.Reads as reads
 use Rattle.kinds.proofs.run.Lts as lts
 use Rattle.kinds.proofs.claim.Reads as claim-reads
+use Rattle.kinds.proofs.checkpoint.Reads as checkpoint-reads
+use Rattle.kinds.proofs.defer.Reads as defer-reads
 use Rattle.kinds.proofs.enter.Reads as enter-reads
 use Rattle.kinds.proofs.leave.Reads as leave-reads
 use Rattle.kinds.proofs.look.Reads as look-reads
+use Rattle.kinds.proofs.pick.Reads as pick-reads
 use Rattle.kinds.proofs.raise.Reads as raise-reads
 use Rattle.kinds.proofs.release.Reads as release-reads
 use Rattle.kinds.proofs.swap.Reads as swap-reads
@@ -77,6 +80,24 @@ enum-known-call-10 c = search needs
 
 release-requires : tie.Need-release-requires
 release-requires c κs = tt
+
+enum-known-call-11 : tie.Need-enum-known-call-11
+enum-known-call-11 c = search needs
+
+pick-requires : tie.Need-pick-requires
+pick-requires c κs = search needs
+
+enum-known-call-12 : tie.Need-enum-known-call-12
+enum-known-call-12 c = search needs
+
+checkpoint-requires : tie.Need-checkpoint-requires
+checkpoint-requires c κs = search needs
+
+enum-known-call-13 : tie.Need-enum-known-call-13
+enum-known-call-13 c = search needs
+
+defer-requires : tie.Need-defer-requires
+defer-requires c κs = search needs
 
 same-length : tie.Need-same-length
 same-length c = search needs
@@ -178,6 +199,36 @@ same-length-20 c = search needs
 returns-10 : tie.Need-returns-10
 returns-10 c = c .before .before .release .ensures ∙ ap (anyStep _) (sym (c .before .before .before .before .before .before .call10 .given .1))
 
+same-length-21 : tie.Need-same-length-21
+same-length-21 c = search needs
+
+same-length-22 : tie.Need-same-length-22
+same-length-22 c = search needs
+
+-- PICK
+returns-11 : tie.Need-returns-11
+returns-11 c = c .before .before .pick .ensures ∙ ap (anyStep _) (sym (c .before .before .before .before .before .before .call11 .given .1))
+
+same-length-23 : tie.Need-same-length-23
+same-length-23 c = search needs
+
+same-length-24 : tie.Need-same-length-24
+same-length-24 c = search needs
+
+-- CHECKPOINT
+returns-12 : tie.Need-returns-12
+returns-12 c = c .before .before .checkpoint .ensures ∙ ap (anyStep _) (sym (c .before .before .before .before .before .before .call12 .given .1))
+
+same-length-25 : tie.Need-same-length-25
+same-length-25 c = search needs
+
+same-length-26 : tie.Need-same-length-26
+same-length-26 c = search needs
+
+-- DEFER
+returns-13 : tie.Need-returns-13
+returns-13 c = c .before .before .defer .ensures ∙ ap (anyStep _) (sym (c .before .before .before .before .before .before .call13 .given .1))
+
 pub run-spec : {M : Type 1} → statement M
 run-spec =
     tie.close
@@ -202,6 +253,12 @@ run-spec =
     walk-requires
     enum-known-call-10
     release-requires
+    enum-known-call-11
+    pick-requires
+    enum-known-call-12
+    checkpoint-requires
+    enum-known-call-13
+    defer-requires
     same-length
     same-length-2
     returns
@@ -231,4 +288,13 @@ run-spec =
     returns-9
     same-length-19
     same-length-20
-    returns-10)
+    returns-10
+    same-length-21
+    same-length-22
+    returns-11
+    same-length-23
+    same-length-24
+    returns-12
+    same-length-25
+    same-length-26
+    returns-13)

@@ -3,7 +3,7 @@ use borrow.Author.Needs.{needs}
 use mir.ValLaws.{toZ-ofZ}
 use mathlib.Core.Path.{_∙_}
 use Rattle.calls.specs.declared.Call.the-variants.{Write}
-use Rattle.kinds_law.specs.Calls.{step-new, step-old, step-unknown, step-length}
+use Rattle.kinds_law.specs.Calls.{step-new, step-old, step-rest, step-unknown, step-length}
 use Rattle.kinds.proofs.write.Statement.{statement}
 use Rattle.kinds.proofs.write.Tie as tie
 use Rattle.kinds.proofs.write.Reads as reads
@@ -23,6 +23,9 @@ write-requires c κs = tt
 
 write-requires-2 : tie.Need-write-requires-2
 write-requires-2 c κs = tt
+
+write-requires-3 : tie.Need-write-requires-3
+write-requires-3 c κs = tt
 
 same-length : tie.Need-same-length
 same-length c = search needs
@@ -47,9 +50,19 @@ returns-3 c = (simp (toZ-ofZ _ _ (c .before .before .before .before .before .bef
 same-length-5 : tie.Need-same-length-5
 same-length-5 c = search needs
 
--- 1 damaged: no kind
+same-length-6 : tie.Need-same-length-6
+same-length-6 c = search needs
+
+-- a rest store
 returns-4 : tie.Need-returns-4
-returns-4 c = step-unknown _ (Write _ _) (c .before .kind-of .ensures) (c .match .rest .0 .1) (c .match .rest .1)
+returns-4 c = (simp (toZ-ofZ _ _ (c .before .before .before .before .before .before .before .before .before .before .before .fits .v)) at (c .before .before .before .write3 .ensures)) ∙ step-rest _ (Write _ _) (c .before .before .before .before .before .before .before .kind-of .ensures) (c .before .before .before .before .before .before .match .keys3)
+
+same-length-7 : tie.Need-same-length-7
+same-length-7 c = search needs
+
+-- 1 damaged: no kind
+returns-5 : tie.Need-returns-5
+returns-5 c = step-unknown _ (Write _ _) (c .before .kind-of .ensures) (c .match .rest .0 .0 .1) (c .match .rest .0 .1) (c .match .rest .1)
 
 pub write-spec : {M : Type 1} → statement M
 write-spec =
@@ -59,6 +72,7 @@ write-spec =
     kind-of-requires
     write-requires
     write-requires-2
+    write-requires-3
     same-length
     same-length-2
     returns-2
@@ -66,4 +80,7 @@ write-spec =
     same-length-4
     returns-3
     same-length-5
-    returns-4)
+    same-length-6
+    returns-4
+    same-length-7
+    returns-5)

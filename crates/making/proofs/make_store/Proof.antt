@@ -1,7 +1,7 @@
 -- `make_store` meets its contract: it answers what `first_refusal` gives, and if that is 0 the words are fresh and the slots filled. Assumes nothing.
 use borrow.Author.Needs.{needs}
 use mathlib.Core.Path.{refl, sym, _∙_}
-use mathlib.Core.Bool.{Bool}
+use mathlib.Core.Bool.{Bool, false}
 use borrow.Author.Tests.{ne-eqb}
 use Rattle.statement.specs.Machine.{state, given}
 use Rattle.publication_law.specs.Steps.{Versions}
@@ -18,9 +18,9 @@ use Rattle.making.proofs.first_refusal.Reads as first-refusal-reads
 some : Bool → Versions
 some large = record { tooLarge = λ v. large; isLast = λ v. large; wrongMark = λ m. large; markAt = λ v. v; beforeMark = λ m. m }
 
-fits : (c : tie.Else1) → let a = c .before .before .before .args in MakingClear (some (a .large)) (given (a .readers) (a .publishers) (a .slots) (a .version) (a .table .now)) (state (a .words .now) (a .entries .now))
+fits : (c : tie.Else1) → let a = c .before .before .before .args in MakingClear false (some (a .large)) (given (a .readers) (a .publishers) (a .slots) (a .version) (a .table .now)) (state (a .words .now) (a .entries .now))
 unfolding some
-fits c = making-unrefused _ _ _ (sym (c .before .first-refusal .ensures (some (c .before .before .before .args .large)) (c .before .before .before .args .words .now) (c .before .before .before .args .entries .now) (c .before .before .before .args .version) refl refl refl) ∙ c .if1 .left)
+fits c = making-unrefused _ _ _ _ (sym (c .before .first-refusal .ensures (some (c .before .before .before .args .large)) (c .before .before .before .args .words .now) (c .before .before .before .args .entries .now) (c .before .before .before .args .version) refl refl refl) ∙ c .if1 .left)
 
 first-refusal-requires : tie.Need-first-refusal-requires
 first-refusal-requires c κs = search needs

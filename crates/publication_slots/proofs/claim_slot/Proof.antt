@@ -16,7 +16,7 @@ use Rattle.publication_slots.proofs.busy.Reads as busy-reads
 use Rattle.publication_slots.proofs.in_use.Reads as in-use-reads
 
 publishers-of-requires : tie.Need-publishers-of-requires
-publishers-of-requires c κs = c .before .before .pre .long
+publishers-of-requires c κs = c .before .before .pre .0 .long
 
 same-length : tie.Need-same-length
 same-length c = search needs
@@ -26,7 +26,7 @@ returns : tie.Need-returns
 returns c = λ es. rw (le-leb _ _ (rw (c .before .publishers-of .ensures) at (c .if1 .taken))) refl
 
 slots-of-requires : tie.Need-slots-of-requires
-slots-of-requires c κs = c .before .before .before .before .before .pre .long
+slots-of-requires c κs = c .before .before .before .before .before .pre .0 .long
 
 same-length-2 : tie.Need-same-length-2
 same-length-2 c = search needs
@@ -36,10 +36,10 @@ returns-2 : tie.Need-returns-2
 returns-2 c = λ es. rw (lt-leb _ _ (rw (c .before .before .before .before .publishers-of .ensures) at (c .before .before .before .if1 .left)), le-leb _ _ (rw (c .before .slots-of .ensures) at (c .if2 .taken))) refl
 
 publisher-at-requires : tie.Need-publisher-at-requires
-publisher-at-requires c κs = omega (arith, c .before .before .before .before .before .before .before .before .pre, c .before .before .before .before .before .publishers-of .ensures)
+publisher-at-requires c κs = omega (arith, c .before .before .before .before .before .before .before .before .pre .0, c .before .before .before .before .before .publishers-of .ensures)
 
 busy-requires : tie.Need-busy-requires
-busy-requires c κs = c .before .before .before .before .before .before .before .before .before .before .before .pre
+busy-requires c κs = c .before .before .before .before .before .before .before .before .before .before .before .pre .0
 
 same-length-3 : tie.Need-same-length-3
 same-length-3 c = search needs
@@ -59,14 +59,14 @@ returns-4 : tie.Need-returns-4
 returns-4 c = λ es. rw (lt-leb _ _ (rw (c .before .before .before .before .before .before .before .before .before .before .before .before .before .publishers-of .ensures) at (c .before .before .before .before .before .before .before .before .before .before .before .before .if1 .left)), lt-leb _ _ (rw (c .before .before .before .before .before .before .before .before .before .before .slots-of .ensures) at (c .before .before .before .before .before .before .before .before .before .if2 .left)), rw (c .before .before .before .before .before .before .before .publisher-at .ensures) at (c .before .before .before .before .before .before .match .keys1), sym (c .before .before .before .before .busy .ensures es) ∙ c .before .before .before .if3 .left, sym (c .before .in-use .ensures es) ∙ c .if4 .taken) refl
 
 put-publisher-requires : tie.Need-put-publisher-requires
-put-publisher-requires c κs = omega (arith, c .before .before .before .before .before .before .before .before .before .before .before .before .before .before .before .before .before .pre, c .before .before .before .before .before .before .before .before .before .before .before .before .before .before .publishers-of .ensures)
+put-publisher-requires c κs = omega (arith, c .before .before .before .before .before .before .before .before .before .before .before .before .before .before .before .before .before .pre .0, c .before .before .before .before .before .before .before .before .before .before .before .before .before .before .publishers-of .ensures)
 
 same-length-5 : tie.Need-same-length-5
 same-length-5 c = search needs
 
 -- claimed
 returns-5 : tie.Need-returns-5
-returns-5 c = claim-is _ _ _ (rw (c .before .before .before .before .before .before .before .before .before .before .before .before .before .before .before .before .before .publishers-of .ensures) at (c .before .before .before .before .before .before .before .before .before .before .before .before .before .before .before .before .if1 .left)) (c .before .before .before .before .before .before .before .before .before .before .before .publisher-at .ensures) _ (c .before .before .before .before .before .before .before .before .before .before .before .before .before .before .before .before .before .before .before .before .args .exclusive) _ (rw (c .before .before .before .before .before .before .before .before .before .before .before .before .before .before .slots-of .ensures) at (c .before .before .before .before .before .before .before .before .before .before .before .before .before .if2 .left)) (c .before .before .before .before .before .before .before .before .before .before .match .keys1)
+returns-5 c = claim-is _ _ _ (rw (c .before .before .before .before .before .before .before .before .before .before .before .before .before .before .before .before .before .publishers-of .ensures) at (c .before .before .before .before .before .before .before .before .before .before .before .before .before .before .before .before .if1 .left)) (c .before .before .before .before .before .before .before .before .before .before .before .publisher-at .ensures) _ (c .before .before .before .before .before .before .before .before .before .before .before .before .before .before .before .before .before .before .before .before .args .exclusive) (c .before .before .before .before .before .before .before .before .before .before .before .before .before .before .before .before .before .before .before .before .args .retiring) _ (rw (c .before .before .before .before .before .before .before .before .before .before .before .before .before .before .slots-of .ensures) at (c .before .before .before .before .before .before .before .before .before .before .before .before .before .if2 .left)) (c .before .before .before .before .before .before .before .before .before .before .match .keys1)
     (λ es. sym (c .before .before .before .before .before .before .before .before .busy .ensures es) ∙ c .before .before .before .before .before .before .before .if3 .left) (λ es. sym (c .before .before .before .before .before .in-use .ensures es) ∙ c .before .before .before .before .if4 .left) (c .before .before .put-publisher .ensures)
 
 same-length-6 : tie.Need-same-length-6

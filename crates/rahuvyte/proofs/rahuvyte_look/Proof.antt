@@ -4,7 +4,7 @@ use mathlib.Core.Path.{_∙_}
 use Rattle.calls.specs.declared.Call.the-variants.{Look}
 use Rattle.calls.specs.declared.Reply.the-variants.{Refused}
 use Rattle.calls.specs.Numbers.{DAMAGED}
-use Rattle.kinds_law.specs.Calls.{step-new, step-old, step-unknown, step-length}
+use Rattle.kinds_law.specs.Calls.{step-new, step-old, step-rest, step-unknown, step-length}
 use Rattle.kinds_law.specs.OutcomeForC.{outcome-for-c}
 use Rattle.rahuvyte.proofs.rahuvyte_look.Statement.{statement}
 use Rattle.rahuvyte.proofs.rahuvyte_look.Tie as tie
@@ -36,8 +36,14 @@ look-requires-2 c κs = search needs
 numbers-of-requires-3 : tie.Need-numbers-of-requires-3
 numbers-of-requires-3 c κs = search needs
 
+look-requires-3 : tie.Need-look-requires-3
+look-requires-3 c κs = search needs
+
 numbers-of-requires-4 : tie.Need-numbers-of-requires-4
 numbers-of-requires-4 c κs = search needs
+
+numbers-of-requires-5 : tie.Need-numbers-of-requires-5
+numbers-of-requires-5 c κs = search needs
 
 -- a new store
 returns-2 : tie.Need-returns-2
@@ -47,9 +53,13 @@ returns-2 c = outcome-for-c _ _ _ _ (c .numbers-of2 .ensures) (c .before .look .
 returns-3 : tie.Need-returns-3
 returns-3 c = outcome-for-c _ _ _ _ (c .numbers-of3 .ensures) (c .before .look2 .ensures ∙ step-old _ (Look _ _) (c .before .before .before .kind-of .ensures) (c .before .before .match .keys2))
 
--- 1 damaged: no kind
+-- a rest store
 returns-4 : tie.Need-returns-4
-returns-4 c = outcome-for-c _ (Refused DAMAGED) _ _ (c .numbers-of4 .ensures) (step-unknown _ (Look _ _) (c .before .before .kind-of .ensures) (c .before .match .rest .0 .1) (c .before .match .rest .1))
+returns-4 c = outcome-for-c _ _ _ _ (c .numbers-of4 .ensures) (c .before .look3 .ensures ∙ step-rest _ (Look _ _) (c .before .before .before .kind-of .ensures) (c .before .before .match .keys3))
+
+-- 1 damaged: no kind
+returns-5 : tie.Need-returns-5
+returns-5 c = outcome-for-c _ (Refused DAMAGED) _ _ (c .numbers-of5 .ensures) (step-unknown _ (Look _ _) (c .before .before .kind-of .ensures) (c .before .match .rest .0 .0 .1) (c .before .match .rest .0 .1) (c .before .match .rest .1))
 
 pub rahuvyte-look-spec : {M : Type 1} → statement M
 rahuvyte-look-spec =
@@ -62,7 +72,10 @@ rahuvyte-look-spec =
     numbers-of-requires-2
     look-requires-2
     numbers-of-requires-3
+    look-requires-3
     numbers-of-requires-4
+    numbers-of-requires-5
     returns-2
     returns-3
-    returns-4)
+    returns-4
+    returns-5)

@@ -4,7 +4,7 @@ use mathlib.Core.Path.{_∙_}
 use Rattle.calls.specs.declared.Call.the-variants.{Swap}
 use Rattle.calls.specs.declared.Reply.the-variants.{Refused}
 use Rattle.calls.specs.Numbers.{DAMAGED}
-use Rattle.kinds_law.specs.Calls.{step-new, step-old, step-unknown, step-length}
+use Rattle.kinds_law.specs.Calls.{step-new, step-old, step-rest, step-unknown, step-length}
 use Rattle.kinds_law.specs.OutcomeForC.{outcome-for-c}
 use Rattle.rahuvyte.proofs.rahuvyte_swap.Statement.{statement}
 use Rattle.rahuvyte.proofs.rahuvyte_swap.Tie as tie
@@ -36,8 +36,14 @@ swap-requires-2 c κs = search needs
 numbers-of-requires-3 : tie.Need-numbers-of-requires-3
 numbers-of-requires-3 c κs = search needs
 
+swap-requires-3 : tie.Need-swap-requires-3
+swap-requires-3 c κs = search needs
+
 numbers-of-requires-4 : tie.Need-numbers-of-requires-4
 numbers-of-requires-4 c κs = search needs
+
+numbers-of-requires-5 : tie.Need-numbers-of-requires-5
+numbers-of-requires-5 c κs = search needs
 
 same-length : tie.Need-same-length
 same-length c = search needs
@@ -56,9 +62,16 @@ returns-3 c = outcome-for-c _ _ _ _ (c .numbers-of3 .ensures) (c .before .before
 same-length-3 : tie.Need-same-length-3
 same-length-3 c = search needs
 
--- 1 damaged: no kind
+-- a rest store
 returns-4 : tie.Need-returns-4
-returns-4 c = outcome-for-c _ (Refused DAMAGED) _ _ (c .numbers-of4 .ensures) (step-unknown _ (Swap _) (c .before .before .kind-of .ensures) (c .before .match .rest .0 .1) (c .before .match .rest .1))
+returns-4 c = outcome-for-c _ _ _ _ (c .numbers-of4 .ensures) (c .before .before .before .swap3 .ensures ∙ step-rest _ (Swap _) (c .before .before .before .before .before .before .kind-of .ensures) (c .before .before .before .before .before .match .keys3))
+
+same-length-4 : tie.Need-same-length-4
+same-length-4 c = search needs
+
+-- 1 damaged: no kind
+returns-5 : tie.Need-returns-5
+returns-5 c = outcome-for-c _ (Refused DAMAGED) _ _ (c .numbers-of5 .ensures) (step-unknown _ (Swap _) (c .before .before .kind-of .ensures) (c .before .match .rest .0 .0 .1) (c .before .match .rest .0 .1) (c .before .match .rest .1))
 
 pub rahuvyte-swap-spec : {M : Type 1} → statement M
 rahuvyte-swap-spec =
@@ -71,10 +84,14 @@ rahuvyte-swap-spec =
     numbers-of-requires-2
     swap-requires-2
     numbers-of-requires-3
+    swap-requires-3
     numbers-of-requires-4
+    numbers-of-requires-5
     same-length
     returns-2
     same-length-2
     returns-3
     same-length-3
-    returns-4)
+    returns-4
+    same-length-4
+    returns-5)

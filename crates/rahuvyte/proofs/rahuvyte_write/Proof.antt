@@ -4,7 +4,7 @@ use mathlib.Core.Path.{_∙_}
 use Rattle.calls.specs.declared.Call.the-variants.{Write}
 use Rattle.calls.specs.declared.Reply.the-variants.{Refused}
 use Rattle.calls.specs.Numbers.{DAMAGED}
-use Rattle.kinds_law.specs.Calls.{step-new, step-old, step-unknown, step-length}
+use Rattle.kinds_law.specs.Calls.{step-new, step-old, step-rest, step-unknown, step-length}
 use Rattle.kinds_law.specs.OutcomeForC.{outcome-for-c}
 use mir.ValLaws.{toZ-ofZ}
 use Rattle.rahuvyte.proofs.rahuvyte_write.Statement.{statement}
@@ -37,8 +37,14 @@ write-requires-2 c κs = search needs
 numbers-of-requires-3 : tie.Need-numbers-of-requires-3
 numbers-of-requires-3 c κs = search needs
 
+write-requires-3 : tie.Need-write-requires-3
+write-requires-3 c κs = search needs
+
 numbers-of-requires-4 : tie.Need-numbers-of-requires-4
 numbers-of-requires-4 c κs = search needs
+
+numbers-of-requires-5 : tie.Need-numbers-of-requires-5
+numbers-of-requires-5 c κs = search needs
 
 same-length : tie.Need-same-length
 same-length c = search needs
@@ -63,9 +69,19 @@ returns-3 c = outcome-for-c _ _ _ _ (c .numbers-of3 .ensures) ((simp (toZ-ofZ _ 
 same-length-5 : tie.Need-same-length-5
 same-length-5 c = search needs
 
--- 1 damaged: no kind
+same-length-6 : tie.Need-same-length-6
+same-length-6 c = search needs
+
+-- a rest store
 returns-4 : tie.Need-returns-4
-returns-4 c = outcome-for-c _ (Refused DAMAGED) _ _ (c .numbers-of4 .ensures) (step-unknown _ (Write _ _) (c .before .before .kind-of .ensures) (c .before .match .rest .0 .1) (c .before .match .rest .1))
+returns-4 c = outcome-for-c _ _ _ _ (c .numbers-of4 .ensures) ((simp (toZ-ofZ _ _ (c .before .before .before .before .before .before .before .before .before .before .before .before .fits .v)) at (c .before .before .before .before .write3 .ensures)) ∙ step-rest _ (Write _ _) (c .before .before .before .before .before .before .before .before .kind-of .ensures) (c .before .before .before .before .before .before .before .match .keys3))
+
+same-length-7 : tie.Need-same-length-7
+same-length-7 c = search needs
+
+-- 1 damaged: no kind
+returns-5 : tie.Need-returns-5
+returns-5 c = outcome-for-c _ (Refused DAMAGED) _ _ (c .numbers-of5 .ensures) (step-unknown _ (Write _ _) (c .before .before .kind-of .ensures) (c .before .match .rest .0 .0 .1) (c .before .match .rest .0 .1) (c .before .match .rest .1))
 
 pub rahuvyte-write-spec : {M : Type 1} → statement M
 rahuvyte-write-spec =
@@ -78,7 +94,9 @@ rahuvyte-write-spec =
     numbers-of-requires-2
     write-requires-2
     numbers-of-requires-3
+    write-requires-3
     numbers-of-requires-4
+    numbers-of-requires-5
     same-length
     same-length-2
     returns-2
@@ -86,4 +104,7 @@ rahuvyte-write-spec =
     same-length-4
     returns-3
     same-length-5
-    returns-4)
+    same-length-6
+    returns-4
+    same-length-7
+    returns-5)

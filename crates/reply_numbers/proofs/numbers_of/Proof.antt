@@ -92,6 +92,12 @@ enum-known-reply-9 c = search needs
 reply-numbers-requires-12 : tie.Need-reply-numbers-requires-12
 reply-numbers-requires-12 c κs = search needs
 
+enum-known-reply-10 : tie.Need-enum-known-reply-10
+enum-known-reply-10 c = search needs
+
+reply-numbers-requires-13 : tie.Need-reply-numbers-requires-13
+reply-numbers-requires-13 c κs = search needs
+
 -- made
 returns : tie.Need-returns
 returns c = c .reply-numbers .ensures ∙ ap numbersOf (sym (c .before .enum-told .given .1))
@@ -144,6 +150,10 @@ returns-12 c = c .reply-numbers11 .ensures ∙ ap numbersOf (sym (c .before .bef
 returns-13 : tie.Need-returns-13
 returns-13 c = c .reply-numbers12 .ensures ∙ ap numbersOf (sym (c .before .before .reply9 .given .1))
 
+-- picked
+returns-14 : tie.Need-returns-14
+returns-14 c = c .reply-numbers13 .ensures ∙ ap numbersOf (sym (c .before .before .reply10 .given .1))
+
 pub numbers-of-spec : {M : Type 1} → statement M
 numbers-of-spec =
     tie.close
@@ -175,6 +185,8 @@ numbers-of-spec =
     reply-numbers-requires-11
     enum-known-reply-9
     reply-numbers-requires-12
+    enum-known-reply-10
+    reply-numbers-requires-13
     returns
     returns-2
     returns-3
@@ -187,4 +199,5 @@ numbers-of-spec =
     returns-10
     returns-11
     returns-12
-    returns-13)
+    returns-13
+    returns-14)

@@ -3,11 +3,12 @@ use borrow.Author.Needs.{needs}
 use native.Mathlib.Omega.{arith}
 use lib.ListN.{length, length-replicate}
 use mathlib.Core.Path.{_≡_, sym}
+use Rattle.layout.specs.Layout.{WORDS}
 use Rattle.run_sheet.proofs.play_sheet.Statement.{statement}
 use Rattle.run_sheet.proofs.play_sheet.Tie as tie
 
 abbrev Inv-loop : tie.InvT-loop
-Inv-loop table words₀ room₀ kept₀ input₀ out₀ lines₀ count₀ reads₀ words room kept input out lines count reads = (length words ≡ 425) × (length room ≡ 1024) × (length kept ≡ 81) × (length input ≡ 65536) × (length out ≡ 65536)
+Inv-loop table words₀ room₀ kept₀ input₀ out₀ lines₀ count₀ reads₀ words room kept input out lines count reads = (length words ≡ WORDS) × (length room ≡ 1024) × (length kept ≡ 81) × (length input ≡ 65536) × (length out ≡ 65536)
 
 abbrev μ-loop : tie.MeasureT-loop
 μ-loop table words₀ room₀ kept₀ input₀ out₀ lines₀ count₀ reads₀ words room kept input out lines count reads = reads

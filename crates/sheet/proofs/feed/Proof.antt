@@ -54,7 +54,7 @@ wrapping-add-u64-requires : tie.Need-wrapping-add-u64-requires Inv-loop μ-loop
 wrapping-add-u64-requires c κs = search needs
 
 line-in-requires : tie.Need-line-in-requires Inv-loop μ-loop
-line-in-requires c κs = c .before .before .before .before .before .before .before .before .loop .inv .0
+line-in-requires c κs = c .before .before .before .before .before .before .before .before .before .loop .inv .0
 
 enum-known-command : tie.Need-enum-known-command Inv-loop μ-loop
 enum-known-command c = search needs
@@ -66,16 +66,16 @@ print-unread-requires : tie.Need-print-unread-requires Inv-loop μ-loop
 print-unread-requires c κs = search needs
 
 loop-less-2 : tie.Need-loop-less-2 Inv-loop μ-loop
-loop-less-2 c = omega (arith, c .before .before .before .before .before .before .before .before .before .before .before .before .before .before .loop-test .taken)
+loop-less-2 c = omega (arith, c .before .before .before .before .before .before .before .before .before .before .before .before .before .before .before .loop-test .taken)
 
 loop-again-2 : tie.Need-loop-again-2 Inv-loop μ-loop
-loop-again-2 c = let k = c .before .before .before .before .before .before .before .before .before .before .before .before .before .before .before .loop in let room = fits-true (k .made + 74) (length (k .out)) (c .before .before .before .before .before .before .before .before .before .before .fits2 .result) (c .before .before .before .before .before .before .before .before .before .before .fits2 .ensures) (c .before .before .before .before .before .before .before .before .before .if3 .left) in (
+loop-again-2 c = let k = c .before .before .before .before .before .before .before .before .before .before .before .before .before .before .before .before .loop in let room = fits-true (k .made + 74) (length (k .out)) (c .before .before .before .before .before .before .before .before .before .before .before .fits2 .result) (c .before .before .before .before .before .before .before .before .before .before .before .fits2 .ensures) (c .before .before .before .before .before .before .before .before .before .before .if3 .left) in (
   k .inv .0,
   k .inv .1,
   k .inv .2,
   c .before .before .print-unread .kept .0 ∙ k .inv .3,
   k .inv .4,
-  ends-unread _ _ _ (k .used) (k .lines) (take (k .count) (k .kept)) (state (k .words) (k .room)) _ (k .out) (k .made) (k .inv .5) (c .before .before .before .before .before .before .before .before .before .before .before .before .before .before .loop-test .taken) (c .before .before .before .before .before .before .before .before .before .before .before .before .if2 .left) room (k .inv .3) _ _ _ (c .before .before .before .before .before .before .before .before .wrapping-add-u64 .ensures) (sym (c .before .before .before .before .before .before .line-in .ensures) ∙ c .before .before .before .before .enum-told .given .1) (c .before .before .print-unread .ensures .put room),
+  ends-unread _ _ _ (k .used) (k .lines) (take (k .count) (k .kept)) (state (k .words) (k .room)) _ (k .out) (k .made) (k .inv .5) (c .before .before .before .before .before .before .before .before .before .before .before .before .before .before .before .loop-test .taken) (c .before .before .before .before .before .before .before .before .before .before .before .before .before .if2 .left) room (k .inv .3) _ _ _ (c .before .before .before .before .before .before .before .before .before .wrapping-add-u64 .ensures) (sym (c .before .before .before .before .before .before .line-in .ensures) ∙ c .before .before .before .before .enum-told .given .1) (c .before .before .print-unread .ensures .put room),
 )
 
 play-requires : tie.Need-play-requires Inv-loop μ-loop
@@ -85,16 +85,16 @@ print-reply-requires : tie.Need-print-reply-requires Inv-loop μ-loop
 print-reply-requires c κs = search needs
 
 loop-less-3 : tie.Need-loop-less-3 Inv-loop μ-loop
-loop-less-3 c = omega (arith, c .before .before .before .before .before .before .before .before .before .before .before .before .before .before .before .before .before .before .before .before .before .loop-test .taken)
+loop-less-3 c = omega (arith, c .before .before .before .before .before .before .before .before .before .before .before .before .before .before .before .before .before .before .before .before .before .before .loop-test .taken)
 
 loop-again-3 : tie.Need-loop-again-3 Inv-loop μ-loop
-loop-again-3 c = let k = c .before .before .before .before .before .before .before .before .before .before .before .before .before .before .before .before .before .before .before .before .before .before .loop in let room = fits-true (k .made + 74) (length (k .out)) (c .before .before .before .before .before .before .before .before .before .before .before .before .before .before .before .before .before .fits2 .result) (c .before .before .before .before .before .before .before .before .before .before .before .before .before .before .before .before .before .fits2 .ensures) (c .before .before .before .before .before .before .before .before .before .before .before .before .before .before .before .before .if3 .left) in (
+loop-again-3 c = let k = c .before .before .before .before .before .before .before .before .before .before .before .before .before .before .before .before .before .before .before .before .before .before .before .loop in let room = fits-true (k .made + 74) (length (k .out)) (c .before .before .before .before .before .before .before .before .before .before .before .before .before .before .before .before .before .before .fits2 .result) (c .before .before .before .before .before .before .before .before .before .before .before .before .before .before .before .before .before .before .fits2 .ensures) (c .before .before .before .before .before .before .before .before .before .before .before .before .before .before .before .before .before .if3 .left) in (
   k .inv .0,
   c .before .before .before .before .before .before .before .play .kept .0 ∙ k .inv .1,
   c .before .before .before .before .before .before .before .play .kept .1 .0 ∙ k .inv .2,
   c .before .before .print-reply .kept .0 ∙ k .inv .3,
   k .inv .4,
-  ends-read _ _ _ (k .used) (k .lines) (take (k .count) (k .kept)) (state (k .words) (k .room)) _ (k .out) (k .made) (k .inv .5) (c .before .before .before .before .before .before .before .before .before .before .before .before .before .before .before .before .before .before .before .before .before .loop-test .taken) (c .before .before .before .before .before .before .before .before .before .before .before .before .before .before .before .before .before .before .before .if2 .left) room (k .inv .3) _ _ _ (c .before .before .before .before .before .before .before .before .before .before .before .before .before .before .before .wrapping-add-u64 .ensures) _ (sym (c .before .before .before .before .before .before .before .before .before .before .before .before .before .line-in .ensures) ∙ c .before .before .before .before .before .before .before .before .before .before .before .command .given .1) _ _ (c .before .before .before .before .before .before .before .play .ensures) (c .before .before .print-reply .ensures .put room),
+  ends-read _ _ _ (k .used) (k .lines) (take (k .count) (k .kept)) (state (k .words) (k .room)) _ (k .out) (k .made) (k .inv .5) (c .before .before .before .before .before .before .before .before .before .before .before .before .before .before .before .before .before .before .before .before .before .before .loop-test .taken) (c .before .before .before .before .before .before .before .before .before .before .before .before .before .before .before .before .before .before .before .before .if2 .left) room (k .inv .3) _ _ _ (c .before .before .before .before .before .before .before .before .before .before .before .before .before .before .before .before .wrapping-add-u64 .ensures) _ (sym (c .before .before .before .before .before .before .before .before .before .before .before .before .before .line-in .ensures) ∙ c .before .before .before .before .before .before .before .before .before .before .before .command .given .1) _ _ (c .before .before .before .before .before .before .before .play .ensures) (c .before .before .print-reply .ensures .put room),
 )
 
 feed-result-requires-2 : tie.Need-feed-result-requires-2 Inv-loop μ-loop

@@ -85,6 +85,12 @@ enum-known-a-9 c = search needs
 phrase-of-requires-11 : tie.Need-phrase-of-requires-11
 phrase-of-requires-11 c κs = search needs
 
+enum-known-a-10 : tie.Need-enum-known-a-10
+enum-known-a-10 c = search needs
+
+phrase-of-requires-12 : tie.Need-phrase-of-requires-12
+phrase-of-requires-12 c κs = search needs
+
 -- made
 returns : tie.Need-returns
 returns c = says-as (ap replyText (sym (c .before .enum-told .given .1))) (c .phrase-of .ensures)
@@ -137,6 +143,10 @@ returns-12 c = says-as (ap replyText (sym (c .before .before .a8 .given .1))) (c
 returns-13 : tie.Need-returns-13
 returns-13 c = says-as (ap replyText (sym (c .before .before .a9 .given .1))) (c .phrase-of11 .ensures)
 
+-- picked
+returns-14 : tie.Need-returns-14
+returns-14 c = says-as (ap replyText (sym (c .before .before .a10 .given .1))) (c .phrase-of12 .ensures)
+
 pub reply-phrase-spec : {M : Type 1} → statement M
 reply-phrase-spec =
     tie.close
@@ -167,6 +177,8 @@ reply-phrase-spec =
     phrase-of-requires-10
     enum-known-a-9
     phrase-of-requires-11
+    enum-known-a-10
+    phrase-of-requires-12
     returns
     returns-2
     returns-3
@@ -179,4 +191,5 @@ reply-phrase-spec =
     returns-10
     returns-11
     returns-12
-    returns-13)
+    returns-13
+    returns-14)

@@ -149,6 +149,24 @@ run-requires-10 c κs = tt
 enum-told-12 : tie.Need-enum-told-12
 enum-told-12 c = search needs
 
+run-requires-11 : tie.Need-run-requires-11
+run-requires-11 c κs = tt
+
+enum-told-13 : tie.Need-enum-told-13
+enum-told-13 c = search needs
+
+run-requires-12 : tie.Need-run-requires-12
+run-requires-12 c κs = tt
+
+enum-told-14 : tie.Need-enum-told-14
+enum-told-14 c = search needs
+
+run-requires-13 : tie.Need-run-requires-13
+run-requires-13 c κs = tt
+
+enum-told-15 : tie.Need-enum-told-15
+enum-told-15 c = search needs
+
 -- store
 returns : tie.Need-returns
 returns c = rw (c .before .enum-told .given .1) (c .store-line .ensures)
@@ -193,9 +211,21 @@ returns-10 c = rw (c .before .before .before .enum-told10 .given .1) (c .run9 .e
 returns-11 : tie.Need-returns-11
 returns-11 c = rw (c .before .enum-told11 .given .1) (c .run10 .ensures ∙ one-is (c .before .before .before) call.Release)
 
--- unknown
+-- pick
 returns-12 : tie.Need-returns-12
-returns-12 c = rw (c .enum-told12 .given .1) refl
+returns-12 c = rw (c .before .enum-told12 .given .1) (c .run11 .ensures ∙ one-is (c .before .before .before) call.Pick)
+
+-- checkpoint
+returns-13 : tie.Need-returns-13
+returns-13 c = rw (c .before .enum-told13 .given .1) (c .run12 .ensures ∙ one-is (c .before .before .before) call.Checkpoint)
+
+-- defer
+returns-14 : tie.Need-returns-14
+returns-14 c = rw (c .before .enum-told14 .given .1) (c .run13 .ensures ∙ one-is (c .before .before .before) call.Defer)
+
+-- unknown
+returns-15 : tie.Need-returns-15
+returns-15 c = rw (c .enum-told15 .given .1) refl
 
 pub command-spec : {M : Type 1} → statement M
 command-spec =
@@ -236,6 +266,12 @@ command-spec =
     enum-told-11
     run-requires-10
     enum-told-12
+    run-requires-11
+    enum-told-13
+    run-requires-12
+    enum-told-14
+    run-requires-13
+    enum-told-15
     returns
     returns-2
     returns-3
@@ -247,4 +283,7 @@ command-spec =
     returns-9
     returns-10
     returns-11
-    returns-12)
+    returns-12
+    returns-13
+    returns-14
+    returns-15)

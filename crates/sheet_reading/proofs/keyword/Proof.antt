@@ -1,7 +1,7 @@
 -- Each row is the definition's, with the rows after it. Assumes nothing.
 use borrow.Author.Needs.{needs}
-use mathlib.Core.Path.{refl}
-use Rattle.sheet_law.specs.Reading.{namedIn}
+use Rattle.sheet_law.specs.declared.Keyword.the-variants.{Store, Enter, Look, Leave, Claim, Write, Swap, Sync, Raise, Walk, Release, Pick, Checkpoint, Defer}
+use Rattle.sheet_reading.proofs.Lines.{no-row, row}
 use Rattle.sheet_reading.proofs.keyword.Statement.{statement}
 use Rattle.sheet_reading.proofs.keyword.Tie as tie
 
@@ -71,21 +71,41 @@ slice-aggregate-keyword-row-11 c = search needs
 keyword-row-requires-11 : tie.Need-keyword-row-requires-11
 keyword-row-requires-11 c κs = tt
 
+slice-aggregate-keyword-row-12 : tie.Need-slice-aggregate-keyword-row-12
+slice-aggregate-keyword-row-12 c = search needs
+
+keyword-row-requires-12 : tie.Need-keyword-row-requires-12
+keyword-row-requires-12 c κs = tt
+
+slice-aggregate-keyword-row-13 : tie.Need-slice-aggregate-keyword-row-13
+slice-aggregate-keyword-row-13 c = search needs
+
+keyword-row-requires-13 : tie.Need-keyword-row-requires-13
+keyword-row-requires-13 c κs = tt
+
+slice-aggregate-keyword-row-14 : tie.Need-slice-aggregate-keyword-row-14
+slice-aggregate-keyword-row-14 c = search needs
+
+keyword-row-requires-14 : tie.Need-keyword-row-requires-14
+keyword-row-requires-14 c κs = tt
+
 returns : tie.Need-returns
-unfolding namedIn
-returns c = rw (
-  c .keyword-row11 .ensures,
-  c .before .before .keyword-row10 .ensures,
-  c .before .before .before .before .keyword-row9 .ensures,
-  c .before .before .before .before .before .before .keyword-row8 .ensures,
-  c .before .before .before .before .before .before .before .before .keyword-row7 .ensures,
-  c .before .before .before .before .before .before .before .before .before .before .keyword-row6 .ensures,
-  c .before .before .before .before .before .before .before .before .before .before .before .before .keyword-row5 .ensures,
-  c .before .before .before .before .before .before .before .before .before .before .before .before .before .before .keyword-row4 .ensures,
-  c .before .before .before .before .before .before .before .before .before .before .before .before .before .before .before .before .keyword-row3 .ensures,
-  c .before .before .before .before .before .before .before .before .before .before .before .before .before .before .before .before .before .before .keyword-row2 .ensures,
-  c .before .before .before .before .before .before .before .before .before .before .before .before .before .before .before .before .before .before .before .before .keyword-row .ensures,
-) refl
+returns c =
+    (row "store" Store (c .keyword-row14 .ensures)
+    (row "enter" Enter (c .before .before .keyword-row13 .ensures)
+    (row "look" Look (c .before .before .before .before .keyword-row12 .ensures)
+    (row "leave" Leave (c .before .before .before .before .before .before .keyword-row11 .ensures)
+    (row "claim" Claim (c .before .before .before .before .before .before .before .before .keyword-row10 .ensures)
+    (row "write" Write (c .before .before .before .before .before .before .before .before .before .before .keyword-row9 .ensures)
+    (row "swap" Swap (c .before .before .before .before .before .before .before .before .before .before .before .before .keyword-row8 .ensures)
+    (row "sync" Sync (c .before .before .before .before .before .before .before .before .before .before .before .before .before .before .keyword-row7 .ensures)
+    (row "raise" Raise (c .before .before .before .before .before .before .before .before .before .before .before .before .before .before .before .before .keyword-row6 .ensures)
+    (row "walk" Walk (c .before .before .before .before .before .before .before .before .before .before .before .before .before .before .before .before .before .before .keyword-row5 .ensures)
+    (row "release" Release (c .before .before .before .before .before .before .before .before .before .before .before .before .before .before .before .before .before .before .before .before .keyword-row4 .ensures)
+    (row "pick" Pick (c .before .before .before .before .before .before .before .before .before .before .before .before .before .before .before .before .before .before .before .before .before .before .keyword-row3 .ensures)
+    (row "checkpoint" Checkpoint (c .before .before .before .before .before .before .before .before .before .before .before .before .before .before .before .before .before .before .before .before .before .before .before .before .keyword-row2 .ensures)
+    (row "defer" Defer (c .before .before .before .before .before .before .before .before .before .before .before .before .before .before .before .before .before .before .before .before .before .before .before .before .before .before .keyword-row .ensures)
+    no-row)))))))))))))) .is
 
 pub keyword-spec : {M : Type 1} → statement M
 keyword-spec =
@@ -113,4 +133,10 @@ keyword-spec =
     keyword-row-requires-10
     slice-aggregate-keyword-row-11
     keyword-row-requires-11
+    slice-aggregate-keyword-row-12
+    keyword-row-requires-12
+    slice-aggregate-keyword-row-13
+    keyword-row-requires-13
+    slice-aggregate-keyword-row-14
+    keyword-row-requires-14
     returns)
