@@ -16,5 +16,8 @@ struct rahuvyte_reply c_sync(uint64_t *words, size_t words_len, const rahuvyte_p
 struct rahuvyte_reply c_raise(uint64_t *words, size_t words_len, const rahuvyte_pitch *entries, size_t entries_len, uint16_t p);
 struct rahuvyte_reply c_walk(uint64_t *words, size_t words_len, const rahuvyte_pitch *entries, size_t entries_len, uint16_t p, uint16_t b);
 struct rahuvyte_reply c_release(uint64_t *words, size_t words_len, const rahuvyte_pitch *entries, size_t entries_len, uint16_t p);
+struct rahuvyte_reply c_pick(uint64_t *words, size_t words_len, const rahuvyte_pitch *entries, size_t entries_len, uint16_t r);
+struct rahuvyte_reply c_checkpoint(uint64_t *words, size_t words_len, const rahuvyte_pitch *entries, size_t entries_len, uint16_t r);
+struct rahuvyte_reply c_defer(uint64_t *words, size_t words_len, const rahuvyte_pitch *entries, size_t entries_len, uint16_t p);
 
 #endif

@@ -1,8 +1,9 @@
 /* Plays one list of calls, drawn from a seed and mostly in turn, through the archive's entry points and through the baseline's by hand, side by side,
    and compares every reply, the words and the entries. run counts the instructions of each call under callgrind.
-   Makings whose first table is refused are a list of their own, which is compared and not counted. */
+   Makings whose first table is refused, refused calls of the rest store and calls that a kind lacks are a list of their own, which is compared and not counted. */
 #include "baseline.h"
 
+#include <stdbool.h>
 #include <stdio.h>
 #include <stdlib.h>
 #include <string.h>
@@ -49,6 +50,18 @@ static void compare(const char *call, struct rahuvyte_reply ours, struct rahuvyt
 }
 
 #define BOTH(call, ...) compare(#call, rahuvyte_##call(words[0], WORDS, entries[0], entries_len, __VA_ARGS__), c_##call(words[1], WORDS, entries[1], entries_len, __VA_ARGS__))
+
+/* A good first table, whose neighbours differ by anything that is allowed. */
+static void draw_table(void)
+{
+    rahuvyte_pitch v = pitch();
+    for (int k = 0; k < TABLE; k++) {
+        const rahuvyte_pitch next = v + (rahuvyte_pitch)below(2 * RAHUVYTE_STEP_MAX + 1) - RAHUVYTE_STEP_MAX;
+        if (next >= RAHUVYTE_PITCH_LOW && next <= RAHUVYTE_PITCH_HIGH)
+            v = next;
+        table[k] = v;
+    }
+}
 
 /* A reader goes on: it enters, looks a few times, and leaves. */
 static void reader_goes_on(uint16_t r)
@@ -101,16 +114,27 @@ static void publisher_goes_on(uint16_t p, uint16_t slots)
     }
 }
 
-/* A good first table, whose neighbours differ by anything that is allowed. */
-static void draw_table(void)
+#include "rest_turns.h"
+
+/* Every call on a store of each kind: those that the kind lacks get 1. */
+static void compare_lacked(uint16_t kind)
 {
-    rahuvyte_pitch v = pitch();
-    for (int k = 0; k < TABLE; k++) {
-        const rahuvyte_pitch next = v + (rahuvyte_pitch)below(2 * RAHUVYTE_STEP_MAX + 1) - RAHUVYTE_STEP_MAX;
-        if (next >= RAHUVYTE_PITCH_LOW && next <= RAHUVYTE_PITCH_HIGH)
-            v = next;
-        table[k] = v;
-    }
+    entries_len = 3 * TABLE;
+    draw_table();
+    BOTH(make, table, TABLE, kind, 2, 2, 3, 0);
+    BOTH(enter, 1);
+    BOTH(pick, 1);
+    BOTH(look, 1, 0);
+    BOTH(leave, 1);
+    BOTH(checkpoint, 1);
+    BOTH(claim, 1, 1);
+    BOTH(write, 1, 0);
+    BOTH(swap, 1);
+    BOTH(sync, 1);
+    BOTH(raise, 1);
+    BOTH(walk, 1, 1);
+    BOTH(release, 1);
+    BOTH(defer, 1);
 }
 
 /* A first table with one step, behind entry k. */
@@ -142,17 +166,41 @@ static void compare_refused(uint16_t kind)
         }
 }
 
-/* driver new|old READERS PUBLISHERS SLOTS CALLS SEED, or driver new|old for the refused makings */
+/* One call, of a task drawn at random and in its turn. */
+static void play_call(uint16_t kind, uint16_t readers, uint16_t publishers, uint16_t slots)
+{
+    const bool reads = below(2) == 0;
+    if (kind == RAHUVYTE_KIND_REST && reads)
+        loop_goes_on((uint16_t)below(readers));
+    else if (kind == RAHUVYTE_KIND_REST)
+        publication_goes_on((uint16_t)below(publishers), slots);
+    else if (reads)
+        reader_goes_on((uint16_t)below(readers));
+    else
+        publisher_goes_on((uint16_t)below(publishers), slots);
+}
+
+static uint16_t kind_named(const char *name)
+{
+    if (strcmp(name, "old") == 0)
+        return RAHUVYTE_KIND_OLD;
+    return strcmp(name, "rest") == 0 ? RAHUVYTE_KIND_REST : RAHUVYTE_KIND_NEW;
+}
+
+/* driver new|old|rest READERS PUBLISHERS SLOTS CALLS SEED, or driver new|old|rest for what is refused */
 int main(int argc, char **argv)
 {
     if (argc != 7 && argc != 2) {
-        fprintf(stderr, "driver new|old [READERS PUBLISHERS SLOTS CALLS SEED]\n");
+        fprintf(stderr, "driver new|old|rest [READERS PUBLISHERS SLOTS CALLS SEED]\n");
         return 2;
     }
-    const uint16_t kind = strcmp(argv[1], "old") == 0 ? RAHUVYTE_KIND_OLD : RAHUVYTE_KIND_NEW;
+    const uint16_t kind = kind_named(argv[1]);
     state = 1;
     if (argc == 2) {
         compare_refused(kind);
+        compare_lacked(kind);
+        if (kind == RAHUVYTE_KIND_REST)
+            compare_refused_calls();
         return 0;
     }
     const uint16_t readers = (uint16_t)atoi(argv[2]), publishers = (uint16_t)atoi(argv[3]), slots = (uint16_t)atoi(argv[4]);
@@ -163,11 +211,9 @@ int main(int argc, char **argv)
         BOTH(make, table, TABLE, kind, readers, publishers, slots, version);
     }
     state = strtoull(argv[6], NULL, 10) * 2 + 1;
-    for (long i = 0; i < calls; i++) {
-        if (below(2) == 0)
-            reader_goes_on((uint16_t)below(readers));
-        else
-            publisher_goes_on((uint16_t)below(publishers), slots);
-    }
+    for (long i = 0; i < calls; i++)
+        play_call(kind, readers, publishers, slots);
+    if (kind == RAHUVYTE_KIND_REST)
+        free_eight(readers, slots);
     return 0;
 }

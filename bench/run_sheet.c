@@ -15,8 +15,18 @@ enum { LINE_BYTES = 80, LINE_SIZE = LINE_BYTES + 2 };
 enum { CARD_READ = 4096 };
 
 /* Calls with one argument stand before LOOK. */
-enum call { ENTER, LEAVE, SWAP, SYNC, RAISE, RELEASE, LOOK, CLAIM, WALK, WRITE };
+enum call { ENTER, LEAVE, SWAP, SYNC, RAISE, RELEASE, PICK, CHECKPOINT, DEFER, LOOK, CLAIM, WALK, WRITE };
 
+#define BIT(call) (1u << (call))
+
+/* The calls of the kinds with sections alone, and those of the rest kind alone. */
+enum {
+    OF_SECTIONS = BIT(ENTER) | BIT(LEAVE) | BIT(SYNC) | BIT(RAISE) | BIT(WALK) | BIT(RELEASE),
+    OF_REST = BIT(PICK) | BIT(CHECKPOINT) | BIT(DEFER)
+};
+
+/* The calls that the made store's kind lacks: none before a store is made. */
+static unsigned lacked;
 static uint64_t words[RAHUVYTE_WORDS];
 /* Room for any number of slots that can be written on a sheet: making refuses what is too many. */
 static rahuvyte_pitch entries[RAHUVYTE_ENTRIES(UINT16_MAX)];
@@ -137,18 +147,23 @@ static inline bool closed(const char *p)
     return p[0] == ')' && (p[1] == '\n' || (p[1] == '\0' && p[2] == '\n' && p[3] == '\n'));
 }
 
-/* The call that the line names, and where its arguments begin. */
-static inline bool named(const char *line, enum call *call, const char **at)
-{
 #define IS(word, is) \
     if (memcmp(line, "(" word " ", sizeof word + 1) == 0) { \
         *call = is; \
         *at = line + sizeof word + 1; \
         return true; \
     }
+
+/* The call that the line names, and where its arguments begin. */
+static inline bool named(const char *line, enum call *call, const char **at)
+{
     switch (line[1]) {
     case 'c':
         IS("claim", CLAIM)
+        IS("checkpoint", CHECKPOINT)
+        return false;
+    case 'd':
+        IS("defer", DEFER)
         return false;
     case 'e':
         IS("enter", ENTER)
@@ -156,6 +171,9 @@ static inline bool named(const char *line, enum call *call, const char **at)
     case 'l':
         IS("look", LOOK)
         IS("leave", LEAVE)
+        return false;
+    case 'p':
+        IS("pick", PICK)
         return false;
     case 'r':
         IS("release", RELEASE)
@@ -172,8 +190,9 @@ static inline bool named(const char *line, enum call *call, const char **at)
     default:
         return false;
     }
-#undef IS
 }
+
+#undef IS
 
 static struct rahuvyte_reply called(enum call call, uint16_t name, uint16_t second, rahuvyte_pitch pitch)
 {
@@ -184,32 +203,50 @@ static struct rahuvyte_reply called(enum call call, uint16_t name, uint16_t seco
     case SYNC: return c_sync(STORE, name);
     case RAISE: return c_raise(STORE, name);
     case RELEASE: return c_release(STORE, name);
+    case PICK: return c_pick(STORE, name);
+    case CHECKPOINT: return c_checkpoint(STORE, name);
+    case DEFER: return c_defer(STORE, name);
     case LOOK: return c_look(STORE, name, second);
     case CLAIM: return c_claim(STORE, name, second);
     case WALK: return c_walk(STORE, name, second);
-    default: return c_write(STORE, name, pitch);
+    case WRITE: return c_write(STORE, name, pitch);
     }
+    __builtin_unreachable();
+}
+
+/* The kind that a line's arguments begin with, and where the sizes do; 0 if it is none. */
+static uint16_t kind_of(const char **at)
+{
+    const char *const word = *at;
+    if (memcmp(word, "rest ", 5) == 0) {
+        *at += 5;
+        return RAHUVYTE_KIND_REST;
+    }
+    *at += 4;
+    if (memcmp(word, "new ", 4) == 0)
+        return RAHUVYTE_KIND_NEW;
+    return memcmp(word, "old ", 4) == 0 ? RAHUVYTE_KIND_OLD : 0;
 }
 
 /* Makes a store by a line's arguments; a refused one leaves the store before. */
 static bool made(const char *at, struct rahuvyte_reply *reply)
 {
-    const bool is_new = memcmp(at, "new ", 4) == 0;
+    const uint16_t kind = kind_of(&at);
     uint32_t sizes[3];
     uint64_t version;
-    if (!is_new && memcmp(at, "old ", 4) != 0)
+    if (kind == 0)
         return false;
-    at += 4;
     for (int i = 0; i < 3; i++)
         if (!decimal(&at, UINT16_MAX, &sizes[i]) || *at++ != ' ')
             return false;
     if (!version_of(&at, &version) || !closed(at))
         return false;
     const size_t lent = RAHUVYTE_ENTRIES(sizes[2]);
-    *reply = c_make(words, RAHUVYTE_WORDS, entries, lent, table, table_len, is_new ? RAHUVYTE_KIND_NEW : RAHUVYTE_KIND_OLD, (uint16_t)sizes[0],
-                    (uint16_t)sizes[1], (uint16_t)sizes[2], version);
-    if (reply->code == RAHUVYTE_MADE)
+    *reply = c_make(words, RAHUVYTE_WORDS, entries, lent, table, table_len, kind, (uint16_t)sizes[0], (uint16_t)sizes[1], (uint16_t)sizes[2], version);
+    if (reply->code == RAHUVYTE_MADE) {
         entries_len = lent;
+        lacked = kind == RAHUVYTE_KIND_REST ? OF_SECTIONS : OF_REST;
+    }
     return true;
 }
 
@@ -230,7 +267,7 @@ static bool played(const char *line, struct rahuvyte_reply *reply)
         if (call == WRITE ? !pitch_of(&at, &pitch) : !decimal(&at, UINT16_MAX, &second))
             return false;
     }
-    if (!closed(at))
+    if (!closed(at) || (lacked & BIT(call)) != 0)
         return false;
     *reply = called(call, (uint16_t)name, (uint16_t)second, pitch);
     return true;
@@ -258,6 +295,7 @@ static void print(uint64_t n, const struct rahuvyte_reply *reply)
     case RAHUVYTE_QUIET: printf(N "quiet)\n", n); break;
     case RAHUVYTE_RETURNED: printf(N "returned" VALUE VALUE ")\n", n, first, second); break;
     case RAHUVYTE_FREED: printf(N "freed" VALUE VALUE ")\n", n, first, second); break;
+    case RAHUVYTE_PICKED: printf(N "picked" VALUE ")\n", n, first); break;
     default: printf(N "refused" VALUE ")\n", n, reply->code);
     }
 }

@@ -1,4 +1,5 @@
-/* Making, LOOK, WRITE, SWAP, SYNC and RELEASE, which the two kinds by hand share: included by each after its NAMED, its KIND, its LAST and its damage test. */
+/* Making, LOOK, WRITE and SWAP, which the kinds by hand share: included by each after its NAMED, its KIND, what making asks of it (BAD_PUBLISHERS, BAD_VERSION,
+   PUBLISHED) and its damage test. */
 static struct rahuvyte_reply NAMED(make)(uint64_t *words, size_t words_len, rahuvyte_pitch *entries, size_t entries_len, const rahuvyte_pitch *table, size_t table_len, uint16_t readers, uint16_t publishers, uint16_t slots, uint64_t version)
 {
     struct store *s = (struct store *)words;
@@ -6,13 +7,13 @@ static struct rahuvyte_reply NAMED(make)(uint64_t *words, size_t words_len, rahu
         return refused(1);
     if (readers < 1 || readers > READERS_MAX)
         return refused(2);
-    if (publishers < 1 || publishers > PUBLISHERS_MAX)
+    if (BAD_PUBLISHERS(readers, publishers))
         return refused(3);
     if (slots < 2 || slots > SLOTS_MAX)
         return refused(4);
     if (entries_len != (size_t)slots * TABLE)
         return refused(5);
-    if (version > LAST)
+    if (BAD_VERSION(version))
         return refused(6);
     const uint64_t refusal = table_refusal(table, table_len);
     if (refusal != 0)
@@ -24,7 +25,7 @@ static struct rahuvyte_reply NAMED(make)(uint64_t *words, size_t words_len, rahu
     s->slots = slots;
     s->version = version;
     for (int r = 0; r < READERS_MAX; r++)
-        s->reader[r].published = NOT_READING;
+        s->reader[r].published = PUBLISHED(version);
     for (rahuvyte_pitch *slot = entries, *end = entries + entries_len; slot != end; slot += TABLE)
         memcpy(slot, table, TABLE * sizeof *table);
     return accepted(100, 0, 0);
@@ -79,38 +80,4 @@ static struct rahuvyte_reply NAMED(swap)(uint64_t *words, size_t words_len, cons
     y->held = former;
     y->place = 34;
     return accepted(106, former, 0);
-}
-
-static struct rahuvyte_reply NAMED(sync)(uint64_t *words, size_t words_len, const rahuvyte_pitch *entries, size_t entries_len, uint16_t p)
-{
-    struct store *s = (struct store *)words;
-    (void)entries;
-    if (NAMED(damaged)(s, words_len, entries_len))
-        return refused(1);
-    if (p >= s->publishers)
-        return refused(11);
-    struct publisher *y = &s->publisher[p];
-    if (y->place != 34)
-        return refused(21);
-    if (s->version == LAST)
-        return refused(32);
-    y->place = 35;
-    y->mark = s->version + 1;
-    y->next = y->looks = y->waits = 0;
-    return accepted(107, y->mark, 0);
-}
-
-static struct rahuvyte_reply NAMED(release)(uint64_t *words, size_t words_len, const rahuvyte_pitch *entries, size_t entries_len, uint16_t p)
-{
-    struct store *s = (struct store *)words;
-    (void)entries;
-    if (NAMED(damaged)(s, words_len, entries_len))
-        return refused(1);
-    if (p >= s->publishers)
-        return refused(11);
-    struct publisher *y = &s->publisher[p];
-    if (y->place != 38)
-        return refused(21);
-    y->place = 0;
-    return accepted(114, y->held, ++s->releases);
 }

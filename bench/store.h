@@ -1,4 +1,4 @@
-/* The words of a store as a C structure, a reply's making and the first table: what the two kinds by hand share. */
+/* The words of a store as a C structure, a reply's making and the first table: what the kinds by hand share. */
 #ifndef STORE_H
 #define STORE_H
 
@@ -7,7 +7,14 @@
 #include <stdbool.h>
 #include <string.h>
 
-enum { WORDS = RAHUVYTE_WORDS, TABLE = RAHUVYTE_TABLE, READERS_MAX = RAHUVYTE_READERS_MAX, PUBLISHERS_MAX = RAHUVYTE_PUBLISHERS_MAX, SLOTS_MAX = RAHUVYTE_SLOTS_MAX };
+enum {
+    WORDS = RAHUVYTE_WORDS,
+    TABLE = RAHUVYTE_TABLE,
+    READERS_MAX = RAHUVYTE_READERS_MAX,
+    PUBLISHERS_MAX = RAHUVYTE_PUBLISHERS_MAX,
+    SLOTS_MAX = RAHUVYTE_SLOTS_MAX,
+    DEFERRED_MAX = RAHUVYTE_DEFERRED_MAX
+};
 
 #define NOT_READING RAHUVYTE_NOT_READING
 
@@ -19,11 +26,22 @@ struct publisher {
     uint64_t place, held, mark, next, looks, waits;
 };
 
+/* Of a participant of a rest store: its checkpoint's step, and how many of its slots are deferred. */
+struct participant {
+    uint64_t step, count;
+};
+
+struct deferred {
+    uint64_t slot, mark;
+};
+
 /* The words of a store; every field is one word, so that it lies over them without a gap. */
 struct store {
     uint64_t kind, readers, publishers, slots, current, version, releases, indicators[2];
     struct reader reader[READERS_MAX];
     struct publisher publisher[PUBLISHERS_MAX];
+    struct participant participant[PUBLISHERS_MAX];
+    struct deferred deferred[PUBLISHERS_MAX][DEFERRED_MAX];
 };
 
 _Static_assert(sizeof(struct store) == WORDS * sizeof(uint64_t), "one word a number");

@@ -1,7 +1,8 @@
-/* Stores and callers of the releases before, whose pitches had 16 bits. A store that 0.2.0 packed gets 1 from the ten calls, from a caller of today and from one
-   compiled with the header of 0.2.0. A making from a caller compiled with the header of 0.2.0 or of 0.1.0 gets 1. Nothing is changed, and no byte touched beyond
-   what they lend. 0.1.0 packed the same words as 0.2.0.
-   With today's number of the kind put in the same is not 1, but accepted or tested further: so it is this number that 1 is given for. */
+/* Stores and callers of the releases before. Their stores have 425 words; before 0.3.0 their pitches had 16 bits, and their kinds other numbers.
+   A store of 425 words gets 1 from each call, whoever calls. So does a caller compiled with a header of then, which lends 425 words, at making too.
+   Lent with the words of today, a store and a making from before 0.3.0 still get 1, for the number of their kind. Nothing is changed, and no byte touched beyond what
+   is lent. 0.1.0 packed the same words as 0.2.0.
+   With the length of today, and from before 0.3.0 also the kind's number of today, the same is not 1, but accepted or tested further: so it is these that 1 is given for. */
 #define _DEFAULT_SOURCE
 
 #include "before.h"
@@ -9,26 +10,26 @@
 
 enum { READERS = 2, PUBLISHERS = 2, SLOTS = 3, ENTRIES = SLOTS * RAHUVYTE_TABLE };
 
-/* Entry i of the arrays of 16 bits. Two of them, read as one pitch of 32 bits, are a good pitch too: a making that took them so would go on over the end. */
-#define PITCH_BEFORE(i) ((i) % 2 == 0 ? 1400 : 0)
+/* A release whose objects make stores and calls as today's do. */
+struct release {
+    const char *name;
+    const uint16_t *kinds; /* the new and the old one */
+    const size_t *words;
+    size_t pitch_bytes;
+    make_before *make;
+    call_before *call;
+};
 
-static const uint16_t kinds_today[2] = { RAHUVYTE_KIND_NEW, RAHUVYTE_KIND_OLD };
+static const struct release releases[] = {
+    { "before, 0.3.0", kinds_0_3_0, &words_0_3_0, sizeof(int32_t), make_0_3_0, call_0_3_0 },
+    { "before, 0.2.0", kinds_0_2_0, &words_0_2_0, sizeof(int16_t), make_0_2_0, call_0_2_0 },
+};
 
 static unsigned tried;
+/* What a failure is reported under: the release whose stores and callers are tried. */
+static const char *test;
 
-/* ---- Stores as 0.2.0 packed them: docs/LAYOUT.md, with the kind numbers of then ---- */
-
-/* Made, with first version 0. */
-static void pack_fresh(uint64_t *words, uint16_t kind)
-{
-    memset(words, 0, RAHUVYTE_WORDS * sizeof *words);
-    words[0] = kind;
-    words[1] = READERS;
-    words[2] = PUBLISHERS;
-    words[3] = SLOTS;
-    for (size_t r = 0; r < RAHUVYTE_READERS_MAX; r++)
-        words[9 + 5 * r + 3] = UINT64_MAX;
-}
+/* ---- Stores as the releases before packed them: docs/LAYOUT.md, the words up to 424 ---- */
 
 struct changed {
     size_t word;
@@ -56,10 +57,16 @@ static void change_words(uint64_t *words, const struct changed *changes, size_t 
         words[changes[i].word] = changes[i].number;
 }
 
-/* Kind i, fresh or publishing. */
-static void pack(uint64_t *words, int i, int publishing)
+/* Kind i, made with first version 0, or publishing. Words beyond those of then are left. */
+static void pack(const struct release *x, uint64_t *words, int i, int publishing)
 {
-    pack_fresh(words, kinds_0_2_0[i]);
+    memset(words, 0, *x->words * sizeof *words);
+    words[0] = x->kinds[i];
+    words[1] = READERS;
+    words[2] = PUBLISHERS;
+    words[3] = SLOTS;
+    for (size_t r = 0; r < RAHUVYTE_READERS_MAX; r++)
+        words[9 + 5 * r + 3] = UINT64_MAX;
     if (publishing && i == 0)
         CHANGE(words, new_publishing);
     if (publishing && i == 1)
@@ -68,32 +75,48 @@ static void pack(uint64_t *words, int i, int publishing)
 
 /* ---- What is lent ---- */
 
-/* Arrays as a caller from before lends them: pitches of 16 bits. */
+/* Arrays as a caller from before lends them, and what they held. */
 struct lent_before {
     uint64_t *store;
-    int16_t *entries, *table;
+    size_t store_len, pitch_bytes;
+    void *entries, *table;
 };
 
-static int16_t *lend_pitches(size_t len, enum edge edge)
+static struct {
+    uint64_t store[RAHUVYTE_WORDS];
+    unsigned char entries[ENTRIES * sizeof(rahuvyte_pitch)], table[RAHUVYTE_TABLE * sizeof(rahuvyte_pitch)];
+} held;
+
+/* Of 16 bits: two pitches, read as one of 32 bits, are a good pitch too. A making that took them so would go on over the end. Of 32 bits: a good first table. */
+static void *lend_pitches(size_t len, size_t pitch_bytes, enum edge edge)
 {
-    int16_t *pitches = lend_bytes(len * sizeof(int16_t), edge);
+    void *pitches = lend_bytes(len * pitch_bytes, edge);
     for (size_t i = 0; i < len; i++)
-        pitches[i] = PITCH_BEFORE(i);
+        if (pitch_bytes == sizeof(int16_t))
+            ((int16_t *)pitches)[i] = i % 2 == 0 ? 1400 : 0;
+        else
+            ((int32_t *)pitches)[i] = FIRST_PITCH((int)(i % RAHUVYTE_TABLE));
     return pitches;
 }
 
-static struct lent_before lend_before(enum edge edge)
+static struct lent_before lend_before(size_t store_len, size_t pitch_bytes, enum edge edge)
 {
-    const struct lent_before l = { lend_bytes(RAHUVYTE_WORDS * sizeof(uint64_t), edge), lend_pitches(ENTRIES, edge), lend_pitches(RAHUVYTE_TABLE, edge) };
+    const struct lent_before l = { (uint64_t *)lend_bytes(store_len * sizeof(uint64_t), edge), store_len, pitch_bytes,
+                                   lend_pitches(ENTRIES, pitch_bytes, edge), lend_pitches(RAHUVYTE_TABLE, pitch_bytes, edge) };
     return l;
 }
 
-static int as_lent(const int16_t *pitches, size_t len)
+static void hold(struct lent_before l)
 {
-    for (size_t i = 0; i < len; i++)
-        if (pitches[i] != PITCH_BEFORE(i))
-            return 0;
-    return 1;
+    memcpy(held.store, l.store, l.store_len * sizeof(uint64_t));
+    memcpy(held.entries, l.entries, ENTRIES * l.pitch_bytes);
+    memcpy(held.table, l.table, RAHUVYTE_TABLE * l.pitch_bytes);
+}
+
+static int as_held(struct lent_before l)
+{
+    return memcmp(held.store, l.store, l.store_len * sizeof(uint64_t)) == 0 && memcmp(held.entries, l.entries, ENTRIES * l.pitch_bytes) == 0
+        && memcmp(held.table, l.table, RAHUVYTE_TABLE * l.pitch_bytes) == 0;
 }
 
 static struct rahuvyte_reply reply_of(const uint64_t numbers[3])
@@ -105,102 +128,144 @@ static struct rahuvyte_reply reply_of(const uint64_t numbers[3])
 static void expect(const char *call, struct rahuvyte_reply reply, uint64_t code, uint64_t first)
 {
     if (!same_reply(reply, code, first, 0))
-        report_failure("before", call, reply, code, "");
+        report_failure(test, call, reply, code, "");
 }
 
 /* 1, and all that was lent is as it was. */
-static void expect_damaged(const char *call, const uint64_t numbers[3], struct lent_before l, const uint64_t *words)
+static void expect_damaged(const char *call, const uint64_t numbers[3], struct lent_before l)
 {
     expect(call, reply_of(numbers), RAHUVYTE_DAMAGED, 0);
-    if (memcmp(words, l.store, RAHUVYTE_WORDS * sizeof *words) != 0 || !as_lent(l.entries, ENTRIES) || !as_lent(l.table, RAHUVYTE_TABLE))
-        report_failure("before", call, reply_of(numbers), RAHUVYTE_DAMAGED, ", and nothing changed");
+    if (!as_held(l))
+        report_failure(test, call, reply_of(numbers), RAHUVYTE_DAMAGED, ", and nothing changed");
     tried++;
 }
 
 /* ---- A store from before ---- */
 
-/* Called by objects of today, with entries of 32 bits. */
-static void call_from_today(int i, int publishing)
+/* Every call of today gets 1, and nothing is changed. */
+static void expect_calls_damaged(struct lent l)
 {
     static struct copies copies;
-    const struct lent l = lend_arrays(RAHUVYTE_WORDS, ENTRIES);
-    pack(l.store, i, publishing);
     copy_lent(&copies, l);
-    for (int w = ENTER; w < TEN_CALLS; w++) {
+    for (int w = ENTER; w < ALL_CALLS; w++) {
         const struct rahuvyte_reply reply = make_call(l, (enum word)w, 0, 1);
         expect(names[w], reply, RAHUVYTE_DAMAGED, 0);
         if (!unchanged(&copies, l))
-            report_failure("before", names[w], reply, RAHUVYTE_DAMAGED, ", and nothing changed");
+            report_failure(test, names[w], reply, RAHUVYTE_DAMAGED, ", and nothing changed");
         tried++;
     }
-    l.store[0] = kinds_today[i];
-    expect("enter, in the same words with today's kind,", rahuvyte_enter(LENT(l), 1), RAHUVYTE_AT, RAHUVYTE_PLACE_LOADED);
-    pack(l.store, i, publishing);
-    expect("make over it", rahuvyte_make(LENT_TO_MAKING(l), kinds_today[i], READERS, PUBLISHERS, SLOTS, 0), RAHUVYTE_MADE, 0);
 }
 
-/* Called by objects from then, with the entries of then. */
-static void call_from_before(int i, int publishing, enum edge edge)
+/* Called by objects of today, with entries of 32 bits: in the words of then, and in front of the others of today, which are 0. */
+static void call_from_today(const struct release *x, int i, int publishing)
 {
-    uint64_t words[RAHUVYTE_WORDS], reply[3];
-    const struct lent_before l = lend_before(edge);
-    pack(l.store, i, publishing);
-    memcpy(words, l.store, sizeof words);
+    const struct lent short_store = lend_arrays(*x->words, ENTRIES), l = lend_arrays(RAHUVYTE_WORDS, ENTRIES);
+    pack(x, short_store.store, i, publishing);
+    expect_calls_damaged(short_store);
+    short_store.store[0] = kinds[i];
+    expect_calls_damaged(short_store);
+    expect("make over it", rahuvyte_make(LENT_TO_MAKING(short_store), kinds[i], READERS, PUBLISHERS, SLOTS, 0), RAHUVYTE_DAMAGED, 0);
+    pack(x, l.store, i, publishing);
+    if (x->kinds[i] != kinds[i])
+        expect_calls_damaged(l);
+    l.store[0] = kinds[i];
+    expect("enter, with the length and the kind of today,", rahuvyte_enter(LENT(l), 1), RAHUVYTE_AT, RAHUVYTE_PLACE_LOADED);
+    pack(x, l.store, i, publishing);
+    expect("make over it", rahuvyte_make(LENT_TO_MAKING(l), kinds[i], READERS, PUBLISHERS, SLOTS, 0), RAHUVYTE_MADE, 0);
+}
+
+static void call_ten(const struct release *x, struct lent_before l)
+{
+    uint64_t reply[3];
+    hold(l);
     for (int w = ENTER; w < TEN_CALLS; w++) {
-        call_0_2_0(reply, l.store, RAHUVYTE_WORDS, l.entries, ENTRIES, (enum word)w, 0, 1);
-        expect_damaged(names[w], reply, l, words);
+        x->call(reply, l.store, l.store_len, l.entries, ENTRIES, (enum word)w, 0, 1);
+        expect_damaged(names[w], reply, l);
     }
-    l.store[0] = kinds_today[i];
-    call_0_2_0(reply, l.store, RAHUVYTE_WORDS, l.entries, ENTRIES, ENTER, 1, 0);
-    expect("enter, in the same words with today's kind,", reply_of(reply), RAHUVYTE_AT, RAHUVYTE_PLACE_LOADED);
+}
+
+/* Called by objects from then, with the entries of then: with as many words as they know, and with as many as an object of today hands to them. */
+static void call_from_before(const struct release *x, int i, int publishing, enum edge edge)
+{
+    uint64_t reply[3];
+    const struct lent_before short_store = lend_before(*x->words, x->pitch_bytes, edge), l = lend_before(RAHUVYTE_WORDS, x->pitch_bytes, edge);
+    pack(x, short_store.store, i, publishing);
+    call_ten(x, short_store);
+    pack(x, l.store, i, publishing);
+    if (x->kinds[i] != kinds[i])
+        call_ten(x, l);
+    l.store[0] = kinds[i];
+    x->call(reply, l.store, l.store_len, l.entries, ENTRIES, ENTER, 1, 0);
+    expect("enter from before, with the length and the kind of today,", reply_of(reply), RAHUVYTE_AT, RAHUVYTE_PLACE_LOADED);
 }
 
 /* ---- A making from before ---- */
 
-/* Compiled with the header of 0.2.0. With today's kind it is given room for pitches of 32 bits, which it then fills. */
-static void make_from_0_2_0(int i, enum edge edge)
+/* With as many words as it knows, with the words of today, and with these and today's kind. Then it is given room for pitches of 32 bits, which it fills. */
+static void make_from_before(const struct release *x, int i, enum edge edge)
 {
-    uint64_t words[RAHUVYTE_WORDS] = { 0 }, reply[3];
-    const struct lent_before l = lend_before(edge);
-    make_0_2_0(reply, l.store, RAHUVYTE_WORDS, l.entries, ENTRIES, l.table, RAHUVYTE_TABLE, kinds_0_2_0[i], READERS, PUBLISHERS, SLOTS, 0);
-    expect_damaged("make, compiled with the header of 0.2.0,", reply, l, words);
+    uint64_t reply[3];
+    const struct lent_before short_store = lend_before(*x->words, x->pitch_bytes, edge), l = lend_before(RAHUVYTE_WORDS, x->pitch_bytes, edge);
     const struct lent room = lend_arrays(RAHUVYTE_WORDS, ENTRIES);
-    make_0_2_0(reply, LENT(room), room.table, room.table_len, kinds_today[i], READERS, PUBLISHERS, SLOTS, 0);
-    expect("make, compiled with the header of 0.2.0 and with today's kind,", reply_of(reply), RAHUVYTE_MADE, 0);
+    hold(short_store);
+    x->make(reply, short_store.store, short_store.store_len, short_store.entries, ENTRIES, short_store.table, RAHUVYTE_TABLE, x->kinds[i], READERS, PUBLISHERS, SLOTS, 0);
+    expect_damaged("make from before", reply, short_store);
+    if (x->kinds[i] != kinds[i]) {
+        hold(l);
+        x->make(reply, l.store, l.store_len, l.entries, ENTRIES, l.table, RAHUVYTE_TABLE, x->kinds[i], READERS, PUBLISHERS, SLOTS, 0);
+        expect_damaged("make from before, with the length of today,", reply, l);
+    }
+    x->make(reply, LENT(room), room.table, room.table_len, kinds[i], READERS, PUBLISHERS, SLOTS, 0);
+    expect("make from before, with the length and the kind of today,", reply_of(reply), RAHUVYTE_MADE, 0);
     if (!has_first_table(room))
-        report_failure("before", "make", reply_of(reply), RAHUVYTE_MADE, ", and the first table in every slot");
+        report_failure(test, "make", reply_of(reply), RAHUVYTE_MADE, ", and the first table in every slot");
 }
 
 /* Compiled with the header of 0.1.0: its publishers, each number that it may have, arrive as the kind,
    and its kind as the address of a table of as many entries as it has readers. */
-static void make_from_0_1_0(int i, enum edge edge)
+static void make_from_0_1_0(size_t store_len, int i, enum edge edge)
 {
     static const uint16_t readers[] = { 1, 2, RAHUVYTE_TABLE, RAHUVYTE_READERS_MAX };
-    uint64_t words[RAHUVYTE_WORDS] = { 0 }, reply[3];
-    const struct lent_before l = lend_before(edge);
+    uint64_t reply[3];
+    const struct lent_before l = lend_before(store_len, sizeof(int16_t), edge);
+    hold(l);
     for (size_t r = 0; r < sizeof readers / sizeof readers[0]; r++)
         for (uint16_t publishers = 1; publishers <= RAHUVYTE_PUBLISHERS_MAX; publishers++) {
-            make_0_1_0(reply, l.store, RAHUVYTE_WORDS, l.entries, ENTRIES, kinds_0_1_0[i], readers[r], publishers, SLOTS, 1);
-            expect_damaged("make, compiled with the header of 0.1.0,", reply, l, words);
+            make_0_1_0(reply, l.store, l.store_len, l.entries, ENTRIES, kinds_0_1_0[i], readers[r], publishers, SLOTS, 1);
+            expect_damaged("make, compiled with the header of 0.1.0,", reply, l);
         }
     /* Publishers of today's kind number, which 0.1.0 refused: no slots are no readers now. */
-    make_0_1_0(reply, l.store, RAHUVYTE_WORDS, l.entries, ENTRIES, kinds_0_1_0[i], 1, kinds_today[i], 0, 0);
-    expect("make, compiled with the header of 0.1.0 and with today's kind as its publishers,", reply_of(reply), RAHUVYTE_BAD_READERS, 0);
+    for (int k = 0; k < KINDS && store_len == RAHUVYTE_WORDS; k++) {
+        make_0_1_0(reply, l.store, l.store_len, l.entries, ENTRIES, kinds_0_1_0[i], 1, kinds[k], 0, 0);
+        expect("make, compiled with the header of 0.1.0 and with today's kind as its publishers,", reply_of(reply), RAHUVYTE_BAD_READERS, 0);
+    }
+}
+
+static void try_release(const struct release *x)
+{
+    test = x->name;
+    for (int i = 0; i < 2; i++) {
+        for (int publishing = 0; publishing < 2; publishing++) {
+            call_from_today(x, i, publishing);
+            call_from_before(x, i, publishing, AT_BEGIN);
+            call_from_before(x, i, publishing, AT_END);
+        }
+        make_from_before(x, i, AT_BEGIN);
+        make_from_before(x, i, AT_END);
+    }
 }
 
 int main(void)
 {
+    for (size_t i = 0; i < sizeof releases / sizeof releases[0]; i++)
+        try_release(&releases[i]);
+    test = "before, 0.1.0";
     for (int i = 0; i < 2; i++) {
-        for (int publishing = 0; publishing < 2; publishing++) {
-            call_from_today(i, publishing);
-            call_from_before(i, publishing, AT_BEGIN);
-            call_from_before(i, publishing, AT_END);
-        }
-        make_from_0_2_0(i, AT_BEGIN);
-        make_from_0_2_0(i, AT_END);
-        make_from_0_1_0(i, AT_BEGIN);
-        make_from_0_1_0(i, AT_END);
+        make_from_0_1_0(words_0_1_0, i, AT_BEGIN);
+        make_from_0_1_0(words_0_1_0, i, AT_END);
+        make_from_0_1_0(RAHUVYTE_WORDS, i, AT_BEGIN);
+        make_from_0_1_0(RAHUVYTE_WORDS, i, AT_END);
     }
-    printf("before: %u calls and makings with stores or callers of 0.2.0 and 0.1.0 get 1, nothing changed\n", tried);
+    printf("before: %u calls and makings with stores or callers of 0.3.0, 0.2.0 and 0.1.0 get 1, nothing changed\n", tried);
     return 0;
 }

@@ -1,4 +1,4 @@
-/* What the C tests share: lent arrays that begin or end where memory does, the ten calls by number, and a first table. */
+/* What the C tests share: lent arrays that begin or end where memory does, the kinds, the calls by number, and a first table. */
 #ifndef CALLS_H
 #define CALLS_H
 
@@ -11,7 +11,12 @@
 #include <sys/mman.h>
 #include <unistd.h>
 
-static const char *const names[TEN_CALLS] = { "enter", "look", "leave", "claim", "write", "swap", "sync", "raise", "walk", "release" };
+static const char *const names[ALL_CALLS] = { "enter", "look",  "leave", "claim",   "write", "swap",       "sync",
+                                              "raise", "walk",  "release", "pick",  "checkpoint", "defer" };
+
+enum { KINDS = 3 };
+
+static const uint16_t kinds[KINDS] = { RAHUVYTE_KIND_NEW, RAHUVYTE_KIND_OLD, RAHUVYTE_KIND_REST };
 
 /* The arrays lent to a call, with their lengths. The first table is lent to making alone. */
 struct lent {
@@ -71,7 +76,7 @@ static inline int has_first_table(struct lent l)
     return 1;
 }
 
-/* One of the ten calls; second is the entry, slot, pitch or b, if it has one. */
+/* One of the calls; second is the entry, slot, pitch or b, if it has one. */
 static inline struct rahuvyte_reply make_call(struct lent l, enum word word, uint16_t first, int second)
 {
     switch (word) {
@@ -85,8 +90,12 @@ static inline struct rahuvyte_reply make_call(struct lent l, enum word word, uin
     case RAISE: return rahuvyte_raise(LENT(l), first);
     case WALK: return rahuvyte_walk(LENT(l), first, (uint16_t)second);
     case RELEASE: return rahuvyte_release(LENT(l), first);
-    default: abort();
+    case PICK: return rahuvyte_pick(LENT(l), first);
+    case CHECKPOINT: return rahuvyte_checkpoint(LENT(l), first);
+    case DEFER: return rahuvyte_defer(LENT(l), first);
+    case ALL_CALLS: break;
     }
+    abort();
 }
 
 static inline int same_reply(struct rahuvyte_reply reply, uint64_t code, uint64_t first, uint64_t second)

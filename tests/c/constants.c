@@ -1,6 +1,7 @@
 /* The header's constants are the library's own: each is compared with what the archive says by rahuvyte_number.
    The order of the numbers is that of the table below. Past its end the archive says 0, which is none of them.
-   Places have no such number: a reader and a publisher go through all of theirs, and the words that have them are compared. */
+   Places have no such number: a reader and a publisher go through all of theirs, and the words that have them are compared.
+   So are the words of a rest store that other kinds do not use: a checkpoint's step, how many slots are deferred, and with which marks. */
 #include "rahuvyte.h"
 
 #include <stdio.h>
@@ -33,41 +34,47 @@ static const struct constant constants[] = {
     /* 13 */ NUMBER(LAST_OLD),
     /* 14 */ NUMBER(STEP_MAX),
     /* 15 */ { "sizeof(rahuvyte_pitch)", sizeof(rahuvyte_pitch) },
-    /* 16 */ NUMBER(DAMAGED),
-    /* 17 */ NUMBER(BAD_READERS),
-    /* 18 */ NUMBER(BAD_PUBLISHERS),
-    /* 19 */ NUMBER(BAD_SLOTS),
-    /* 20 */ NUMBER(BAD_ENTRIES),
-    /* 21 */ NUMBER(BAD_VERSION),
-    /* 22 */ NUMBER(NO_SUCH_READER),
-    /* 23 */ NUMBER(NO_SUCH_PUBLISHER),
-    /* 24 */ NUMBER(NO_SUCH_SLOT),
-    /* 25 */ NUMBER(NO_SUCH_ENTRY),
-    /* 26 */ NUMBER(BAD_PITCH),
-    /* 27 */ NUMBER(READER_TURN),
-    /* 28 */ NUMBER(PUBLISHER_TURN),
-    /* 29 */ NUMBER(SLOT_IN_USE),
-    /* 30 */ NUMBER(BUSY),
-    /* 31 */ NUMBER(VERSION_IS_LAST),
-    /* 32 */ NUMBER(TOO_MANY_LOOKS),
-    /* 33 */ NUMBER(BAD_TABLE_LENGTH),
-    /* 34 */ NUMBER(BAD_TABLE_PITCH),
-    /* 35 */ NUMBER(BAD_TABLE_STEP),
-    /* 36 */ NUMBER(MADE),
-    /* 37 */ NUMBER(AT),
-    /* 38 */ NUMBER(PITCH),
-    /* 39 */ NUMBER(LEFT),
-    /* 40 */ NUMBER(CLAIMED),
-    /* 41 */ NUMBER(WRITTEN),
-    /* 42 */ NUMBER(SWAPPED),
-    /* 43 */ NUMBER(SYNCED),
-    /* 44 */ NUMBER(RAISED),
-    /* 45 */ NUMBER(SHARED),
-    /* 46 */ NUMBER(WAITING),
-    /* 47 */ NUMBER(SPENT),
-    /* 48 */ NUMBER(QUIET),
-    /* 49 */ NUMBER(RETURNED),
-    /* 50 */ NUMBER(FREED),
+    /* 16 */ NUMBER(KIND_REST),
+    /* 17 */ NUMBER(LAST_REST),
+    /* 18 */ NUMBER(DEFERRED_MAX),
+    /* 19 */ NUMBER(DAMAGED),
+    /* 20 */ NUMBER(BAD_READERS),
+    /* 21 */ NUMBER(BAD_PUBLISHERS),
+    /* 22 */ NUMBER(BAD_SLOTS),
+    /* 23 */ NUMBER(BAD_ENTRIES),
+    /* 24 */ NUMBER(BAD_VERSION),
+    /* 25 */ NUMBER(NO_SUCH_READER),
+    /* 26 */ NUMBER(NO_SUCH_PUBLISHER),
+    /* 27 */ NUMBER(NO_SUCH_SLOT),
+    /* 28 */ NUMBER(NO_SUCH_ENTRY),
+    /* 29 */ NUMBER(BAD_PITCH),
+    /* 30 */ NUMBER(READER_TURN),
+    /* 31 */ NUMBER(PUBLISHER_TURN),
+    /* 32 */ NUMBER(SLOT_IN_USE),
+    /* 33 */ NUMBER(BUSY),
+    /* 34 */ NUMBER(VERSION_IS_LAST),
+    /* 35 */ NUMBER(TOO_MANY_LOOKS),
+    /* 36 */ NUMBER(BAD_TABLE_LENGTH),
+    /* 37 */ NUMBER(BAD_TABLE_PITCH),
+    /* 38 */ NUMBER(BAD_TABLE_STEP),
+    /* 39 */ NUMBER(EPOCH_IS_LAST),
+    /* 40 */ NUMBER(TOO_MANY_DEFERRED),
+    /* 41 */ NUMBER(MADE),
+    /* 42 */ NUMBER(AT),
+    /* 43 */ NUMBER(PITCH),
+    /* 44 */ NUMBER(LEFT),
+    /* 45 */ NUMBER(CLAIMED),
+    /* 46 */ NUMBER(WRITTEN),
+    /* 47 */ NUMBER(SWAPPED),
+    /* 48 */ NUMBER(SYNCED),
+    /* 49 */ NUMBER(RAISED),
+    /* 50 */ NUMBER(SHARED),
+    /* 51 */ NUMBER(WAITING),
+    /* 52 */ NUMBER(SPENT),
+    /* 53 */ NUMBER(QUIET),
+    /* 54 */ NUMBER(RETURNED),
+    /* 55 */ NUMBER(FREED),
+    /* 56 */ NUMBER(PICKED),
 };
 
 enum { COUNT = sizeof constants / sizeof constants[0] };
@@ -89,8 +96,9 @@ static const rahuvyte_pitch table[RAHUVYTE_TABLE];
 
 #define LENT store, RAHUVYTE_WORDS, entries, RAHUVYTE_ENTRIES(2)
 
-/* docs/LAYOUT.md: the words of the places of reader 0 and publisher 0. */
-enum { READER_PLACE = 9, PUBLISHER_PLACE = 329 };
+/* docs/LAYOUT.md: the words of the places of reader 0 and publisher 0; of a rest store the observed epochs of reader 0 and reader 63, and of participant 0 the step,
+   the count and the first pair. */
+enum { READER_PLACE = 9, PUBLISHER_PLACE = 329, OBSERVED = 12, LAST_OBSERVED = 327, STEP = 425, COUNT_DEFERRED = 426, FIRST_PAIR = 457 };
 
 /* Whether a word has the header's place, after a call that was accepted; says so if not. */
 static int arrives(struct rahuvyte_reply reply, int word, const char *name, uint64_t place)
@@ -139,6 +147,48 @@ static int check_places(uint16_t kind)
     return check_reader_places(kind) & check_publisher_places(kind);
 }
 
+/* ---- The rest store ---- */
+
+#define MAKE_REST(version) rahuvyte_make(LENT, table, RAHUVYTE_TABLE, RAHUVYTE_KIND_REST, 1, 1, 2, version)
+#define HAS(call, word, number) arrives(call, word, #word, number)
+
+/* A table of participant 0 in the slot, swapped in. */
+static int swap_in(uint16_t slot)
+{
+    int good = PUBLISHER(rahuvyte_claim(LENT, 0, slot), PLACE_CLAIMED);
+    for (int written = 1; written < RAHUVYTE_TABLE; written++)
+        good &= PUBLISHER(rahuvyte_write(LENT, 0, 0), PLACE_CLAIMED + written);
+    good &= PUBLISHER(rahuvyte_write(LENT, 0, 0), PLACE_WRITTEN);
+    return good & PUBLISHER(rahuvyte_swap(LENT, 0), PLACE_SWAPPED);
+}
+
+static int check_rest_places(void)
+{
+    int good = READER(MAKE_REST(0), PLACE_OUT);
+    good &= READER(rahuvyte_pick(LENT, 0), PLACE_PICKED);
+    good &= READER(rahuvyte_checkpoint(LENT, 0), PLACE_OUT);
+    good &= PUBLISHER(MAKE_REST(0), PLACE_IDLE) & swap_in(1);
+    good &= READER(rahuvyte_pick(LENT, 0), PLACE_PICKED);
+    const struct rahuvyte_reply marked = rahuvyte_defer(LENT, 0);
+    good &= PUBLISHER(marked, PLACE_DEFERRING) & READER(marked, PLACE_OUT);
+    return good & PUBLISHER(rahuvyte_defer(LENT, 0), PLACE_IDLE);
+}
+
+/* A checkpoint's step, from the first to the last, and the deferred slot with its mark: slot 0 with the epoch 8, raised from 7. */
+static int check_rest_words(void)
+{
+    int good = HAS(MAKE_REST(7), OBSERVED, 7) & HAS(MAKE_REST(7), LAST_OBSERVED, 7) & HAS(MAKE_REST(7), STEP, 0) & swap_in(1);
+    good &= HAS(rahuvyte_defer(LENT, 0), COUNT_DEFERRED, 0);
+    good &= HAS(rahuvyte_defer(LENT, 0), COUNT_DEFERRED, 1) & HAS(rahuvyte_pick(LENT, 0), OBSERVED, 8);
+    good &= HAS(rahuvyte_pick(LENT, 0), FIRST_PAIR, 0) & HAS(rahuvyte_pick(LENT, 0), FIRST_PAIR + 1, 8);
+    good &= HAS(rahuvyte_checkpoint(LENT, 0), STEP, 1);
+    good &= HAS(rahuvyte_checkpoint(LENT, 0), STEP, 2);
+    const struct rahuvyte_reply last = rahuvyte_checkpoint(LENT, 0);
+    good &= HAS(last, STEP, 0) & HAS(last, COUNT_DEFERRED, 0) & (last.first == RAHUVYTE_CHECKPOINT_STEPS(1));
+    good &= swap_in(0) & HAS(rahuvyte_defer(LENT, 0), COUNT_DEFERRED, 0) & HAS(rahuvyte_defer(LENT, 0), FIRST_PAIR, 1);
+    return good & HAS(rahuvyte_pick(LENT, 0), FIRST_PAIR + 1, 9);
+}
+
 /* Whether the header's version is one, as a text and as three numbers. */
 static int one_version(void)
 {
@@ -158,8 +208,9 @@ int main(void)
     good &= agrees(COUNT, "past the end", 0);
     good &= agrees(UINT16_MAX, "far past the end", 0);
     good &= check_places(RAHUVYTE_KIND_NEW) & check_places(RAHUVYTE_KIND_OLD);
+    good &= check_rest_places() & check_rest_words();
     if (!good)
         return 1;
-    printf("constants: %d agree, and the places of both kinds\n", COUNT);
+    printf("constants: %d agree, and the places of each kind\n", COUNT);
     return 0;
 }

@@ -4,6 +4,9 @@
 
 #include "calls.h"
 
+/* The words of a store before 0.4.0. */
+enum { WORDS_BEFORE = 425 };
+
 static struct copies before;
 static unsigned tried, made;
 
@@ -16,11 +19,11 @@ static void expect_refused(const char *call, struct rahuvyte_reply reply, uint64
     tried++;
 }
 
-/* The ten calls with arguments that would be good and with bad ones: all give 1. */
-static void expect_ten_damaged(struct lent l)
+/* All calls, with arguments that would be good and with bad ones, give 1. */
+static void expect_calls_damaged(struct lent l)
 {
     copy_lent(&before, l);
-    for (int w = ENTER; w < TEN_CALLS; w++) {
+    for (int w = ENTER; w < ALL_CALLS; w++) {
         expect_refused(names[w], make_call(l, (enum word)w, 0, 1), RAHUVYTE_DAMAGED, l);
         expect_refused(names[w], make_call(l, (enum word)w, UINT16_MAX, INT32_MAX), RAHUVYTE_DAMAGED, l);
     }
@@ -60,14 +63,14 @@ static struct lent make_lent_store(uint16_t kind, size_t store_len, size_t entri
 
 static void try_store_lengths(uint16_t kind)
 {
-    static const size_t lengths[] = { 0, 1, 4, 9, RAHUVYTE_WORDS - 1, RAHUVYTE_WORDS + 1, 2 * RAHUVYTE_WORDS };
+    static const size_t lengths[] = { 0, 1, 4, 9, WORDS_BEFORE, RAHUVYTE_WORDS - 1, RAHUVYTE_WORDS + 1, 2 * RAHUVYTE_WORDS };
     for (size_t i = 0; i < sizeof lengths / sizeof lengths[0]; i++) {
         const struct lent l = make_lent_store(kind, lengths[i], RAHUVYTE_ENTRIES(3));
-        expect_ten_damaged(l);
+        expect_calls_damaged(l);
         expect_making_refused(l, kind, RAHUVYTE_DAMAGED);
     }
     const struct lent nothing = make_lent_store(kind, 0, 0);
-    expect_ten_damaged(nothing);
+    expect_calls_damaged(nothing);
     expect_making_refused(nothing, kind, RAHUVYTE_DAMAGED);
 }
 
@@ -76,38 +79,92 @@ static void try_entries_lengths(uint16_t kind)
     static const size_t lengths[] = { 0, 1, 48, 64, 95, 97, 128, 192, 1024 };
     for (size_t i = 0; i < sizeof lengths / sizeof lengths[0]; i++) {
         const struct lent l = make_lent_store(kind, RAHUVYTE_WORDS, lengths[i]);
-        expect_ten_damaged(l);
+        expect_calls_damaged(l);
         expect_making_refused(l, kind, RAHUVYTE_BAD_ENTRIES);
     }
 }
 
-/* Words that are no kind: those of the format before (1, 2) and of one to come, numbers beside a kind, and some whose low bits are one. */
+/* A store whose word 0 has a number that is no kind, and a making with that number. */
+static void try_unknown_kind(uint16_t kind, uint64_t unknown)
+{
+    const struct lent l = make_lent_store(kind, RAHUVYTE_WORDS, RAHUVYTE_ENTRIES(3));
+    l.store[0] = unknown;
+    expect_calls_damaged(l);
+    if (unknown <= UINT16_MAX)
+        expect_making_refused(l, (uint16_t)unknown, RAHUVYTE_DAMAGED);
+}
+
+/* Those of the format before (1, 2) and of one to come, numbers beside a kind, and some whose low bits are one. */
 static void try_unknown_kinds(uint16_t kind)
 {
-    static const uint64_t kinds[] = {
-        0, 1, 2, 3, 16, 19, 20, 33, 34, 255, UINT16_MAX, UINT64_MAX,
-        UINT64_C(0x100) + RAHUVYTE_KIND_NEW, UINT64_C(0x100) + RAHUVYTE_KIND_OLD,
-        UINT64_C(0x10000) + RAHUVYTE_KIND_NEW, UINT64_C(0x10000) + RAHUVYTE_KIND_OLD,
-        UINT64_C(0x100000000) + RAHUVYTE_KIND_NEW, UINT64_C(0x100000000) + RAHUVYTE_KIND_OLD,
-    };
-    for (size_t i = 0; i < sizeof kinds / sizeof kinds[0]; i++) {
-        const struct lent l = make_lent_store(kind, RAHUVYTE_WORDS, RAHUVYTE_ENTRIES(3));
-        l.store[0] = kinds[i];
-        expect_ten_damaged(l);
-        if (kinds[i] <= UINT16_MAX)
-            expect_making_refused(l, (uint16_t)kinds[i], RAHUVYTE_DAMAGED);
+    static const uint64_t unknown[] = { 0, 1, 2, 3, 16, 20, 21, 33, 34, 35, 255, UINT16_MAX, UINT64_MAX };
+    for (size_t i = 0; i < sizeof unknown / sizeof unknown[0]; i++)
+        try_unknown_kind(kind, unknown[i]);
+    for (int i = 0; i < KINDS; i++) {
+        try_unknown_kind(kind, UINT64_C(0x100) + kinds[i]);
+        try_unknown_kind(kind, UINT64_C(0x10000) + kinds[i]);
+        try_unknown_kind(kind, UINT64_C(0x100000000) + kinds[i]);
     }
 }
 
-/* A store that is damaged in its last record, its first and its head. */
+/* A number of a fresh store that damages it; a second one that lets it count, if it needs one. */
+struct damage {
+    size_t word;
+    uint64_t number;
+    size_t with;
+    uint64_t with_number;
+};
+
+/* In the head, in the first record and in the second: damaged in every kind. */
+static const struct damage damages[] = {
+    { 1, UINT64_MAX, 0, 0 }, { 2, UINT64_MAX, 0, 0 }, { 3, UINT64_MAX, 0, 0 },   { 4, UINT64_MAX, 0, 0 },
+    { 9, UINT64_MAX, 0, 0 }, { 14, UINT64_MAX, 0, 0 }, { 329, UINT64_MAX, 0, 0 }, { 335, UINT64_MAX, 0, 0 },
+};
+
+/* Of the rest kind, in the records of both participants: places, steps, counts and deferred slots just out of range. */
+static const struct damage rest_damages[] = {
+    { 1, 3, 0, 0 },      { 2, 1, 0, 0 },                                 /* readers and publishers that differ */
+    { 9, 4, 0, 0 },      { 14, 1, 0, 0 },      { 13, 3, 9, 5 },          /* a reader's place; its pick */
+    { 329, 36, 331, 1 }, { 335, 38, 337, 1 },  { 336, 3, 335, 1 },       /* a publisher's place; what it holds */
+    { 337, 0, 335, 35 }, { 331, 0, 329, 35 },                            /* a mark of 0 while deferring */
+    { 425, 4, 0, 0 },    { 427, UINT64_MAX, 0, 0 },                      /* a step above participants + 1 */
+    { 426, 9, 0, 0 },    { 428, UINT64_MAX, 0, 0 },                      /* more than eight deferred */
+    { 457, 3, 426, 1 },  { 473, UINT64_MAX, 428, 1 }, { 487, 3, 428, 8 }, /* a deferred slot: the first, and the eighth */
+};
+
+static void try_damages(uint16_t kind, const struct damage *x, size_t count)
+{
+    for (size_t i = 0; i < count; i++) {
+        const struct lent l = make_lent_store(kind, RAHUVYTE_WORDS, RAHUVYTE_ENTRIES(3));
+        if (x[i].with != 0)
+            l.store[x[i].with] = x[i].with_number;
+        l.store[x[i].word] = x[i].number;
+        expect_calls_damaged(l);
+    }
+}
+
 static void try_damaged_words(uint16_t kind)
 {
-    static const size_t words[] = { 1, 2, 3, 4, 9, 14, 329, 335 };
-    for (size_t i = 0; i < sizeof words / sizeof words[0]; i++) {
-        const struct lent l = make_lent_store(kind, RAHUVYTE_WORDS, RAHUVYTE_ENTRIES(3));
-        l.store[words[i]] = UINT64_MAX;
-        expect_ten_damaged(l);
-    }
+    try_damages(kind, damages, sizeof damages / sizeof damages[0]);
+    if (kind == RAHUVYTE_KIND_REST)
+        try_damages(kind, rest_damages, sizeof rest_damages / sizeof rest_damages[0]);
+}
+
+/* Eight deferred while deferring a ninth, and waits above looks there: damaged, since the mark is good. With seven, and with as many looks, they are not. */
+static void try_deferring(void)
+{
+    const struct lent l = make_lent_store(RAHUVYTE_KIND_REST, RAHUVYTE_WORDS, RAHUVYTE_ENTRIES(3));
+    l.store[335] = RAHUVYTE_PLACE_DEFERRING;
+    l.store[337] = 1;
+    l.store[428] = RAHUVYTE_DEFERRED_MAX;
+    expect_calls_damaged(l);
+    l.store[428] = RAHUVYTE_DEFERRED_MAX - 1;
+    l.store[340] = 1;
+    expect_calls_damaged(l);
+    l.store[339] = 1;
+    const struct rahuvyte_reply reply = rahuvyte_defer(LENT(l), 1);
+    if (!same_reply(reply, RAHUVYTE_AT, RAHUVYTE_PLACE_IDLE, 0) || l.store[428] != RAHUVYTE_DEFERRED_MAX)
+        report_failure("lengths", "defer with seven deferred", reply, RAHUVYTE_AT, ", and eight deferred");
 }
 
 /* A first table of so many entries, at an edge of memory. */
@@ -184,8 +241,7 @@ static void try_table_steps(uint16_t kind)
 
 int main(void)
 {
-    static const uint16_t kinds[] = { RAHUVYTE_KIND_NEW, RAHUVYTE_KIND_OLD };
-    for (size_t i = 0; i < sizeof kinds / sizeof kinds[0]; i++) {
+    for (int i = 0; i < KINDS; i++) {
         try_store_lengths(kinds[i]);
         try_entries_lengths(kinds[i]);
         try_unknown_kinds(kinds[i]);
@@ -194,6 +250,7 @@ int main(void)
         try_table_pitches(kinds[i]);
         try_table_steps(kinds[i]);
     }
+    try_deferring();
     printf("lengths: %u calls refused, nothing changed; %u first tables made\n", tried, made);
     return 0;
 }

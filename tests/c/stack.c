@@ -1,6 +1,6 @@
 /* How much stack a call takes. Every call is made on a stack of its own that was painted before; afterwards the deepest byte
    that lost its paint is looked for. Counted are the bytes below the caller's frame: arguments on the stack, the return address,
-   the call's frames and those of what it calls. Both kinds, sizes (64, 16, 32), accepted and refused.
+   the call's frames and those of what it calls. Each kind at its largest sizes, (64, 16, 32), of the rest kind (16, 16, 32), accepted and refused.
    Prints the bytes of each call; fails if one takes more than LIMIT. x86-64 only, as the archive is. */
 #define _XOPEN_SOURCE 700
 
@@ -12,11 +12,15 @@
 #include <ucontext.h>
 
 enum { LIMIT = 256, STACK = 65536 };
-enum { READERS = RAHUVYTE_READERS_MAX, PUBLISHERS = RAHUVYTE_PUBLISHERS_MAX, SLOTS = RAHUVYTE_SLOTS_MAX };
+enum { READERS = RAHUVYTE_READERS_MAX, PUBLISHERS = RAHUVYTE_PUBLISHERS_MAX, SLOTS = RAHUVYTE_SLOTS_MAX, PARTICIPANTS = PUBLISHERS };
 
-enum word { MAKE, ENTER, LOOK, LEAVE, CLAIM, WRITE, SWAP, SYNC, RAISE, WALK, RELEASE, WORDS_OF_CALLS };
+/* docs/LAYOUT.md: the place of the last publisher; of the last participant of a rest store the count of deferred slots, and the slot of its eighth pair. */
+enum { LAST_PLACE = 329 + 6 * (PUBLISHERS - 1), LAST_COUNT = 426 + 2 * (PUBLISHERS - 1), LAST_SLOT = 457 + 16 * PUBLISHERS - 2 };
 
-static const char *const names[WORDS_OF_CALLS] = { "make", "enter", "look", "leave", "claim", "write", "swap", "sync", "raise", "walk", "release" };
+enum word { MAKE, ENTER, LOOK, LEAVE, CLAIM, WRITE, SWAP, SYNC, RAISE, WALK, RELEASE, PICK, CHECKPOINT, DEFER, WORDS_OF_CALLS };
+
+static const char *const names[WORDS_OF_CALLS] = { "make", "enter", "look",    "leave", "claim",      "write", "swap",
+                                                   "sync", "raise", "walk", "release", "pick", "checkpoint", "defer" };
 
 static uint64_t store[RAHUVYTE_WORDS];
 static rahuvyte_pitch entries[SLOTS * RAHUVYTE_TABLE];
@@ -58,7 +62,10 @@ static void call(void)
     case RAISE: CALLED(rahuvyte_raise(LENT, first)); break;
     case WALK: CALLED(rahuvyte_walk(LENT, first, (uint16_t)second)); break;
     case RELEASE: CALLED(rahuvyte_release(LENT, first)); break;
-    default: abort();
+    case PICK: CALLED(rahuvyte_pick(LENT, first)); break;
+    case CHECKPOINT: CALLED(rahuvyte_checkpoint(LENT, first)); break;
+    case DEFER: CALLED(rahuvyte_defer(LENT, first)); break;
+    case WORDS_OF_CALLS: abort();
     }
 }
 
@@ -143,6 +150,10 @@ static void swap_in(uint16_t p, uint16_t slot)
     expect(RAHUVYTE_PUBLISHER_TURN, WRITE, p, 0);
     expect(RAHUVYTE_SWAPPED, SWAP, p, 0);
     expect(RAHUVYTE_PUBLISHER_TURN, SWAP, p, 0);
+}
+
+static void sync_after_swap(uint16_t p)
+{
     expect(RAHUVYTE_SYNCED, SYNC, p, 0);
     expect(RAHUVYTE_PUBLISHER_TURN, SYNC, p, 0);
 }
@@ -150,8 +161,10 @@ static void swap_in(uint16_t p, uint16_t slot)
 /* The new store: every publisher at once, all readers in. */
 static void publish_new(void)
 {
-    for (uint16_t p = 0; p < PUBLISHERS; p++)
+    for (uint16_t p = 0; p < PUBLISHERS; p++) {
         swap_in(p, (uint16_t)(p + 1));
+        sync_after_swap(p);
+    }
     for (uint16_t p = 0; p < PUBLISHERS; p++)
         expect(p == 0 ? RAHUVYTE_RAISED : RAHUVYTE_SHARED, RAISE, p, 0);
     expect(RAHUVYTE_PUBLISHER_TURN, RAISE, 0, 0);
@@ -174,6 +187,7 @@ static void publish_old(void)
 {
     const uint16_t p = PUBLISHERS - 1;
     swap_in(p, SLOTS - 1);
+    sync_after_swap(p);
     expect(RAHUVYTE_BUSY, CLAIM, 0, 1);
     expect(RAHUVYTE_PUBLISHER_TURN, RAISE, p, 0);
     expect(RAHUVYTE_SPENT, WALK, p, 0);
@@ -187,47 +201,131 @@ static void publish_old(void)
     expect(RAHUVYTE_FREED, RELEASE, p, 0);
 }
 
-/* Every call on a store whose last publisher is out of range: the damage test at its longest. */
+/* All participants pick and look. */
+static void pick_tables(void)
+{
+    for (uint16_t r = 0; r < PARTICIPANTS; r++) {
+        expect(RAHUVYTE_READER_TURN, LOOK, r, 0);
+        expect(RAHUVYTE_PICKED, PICK, r, 0);
+        expect(RAHUVYTE_PITCH, LOOK, r, 31);
+    }
+    expect(RAHUVYTE_NO_SUCH_READER, PICK, PARTICIPANTS, 0);
+    expect(RAHUVYTE_NO_SUCH_ENTRY, LOOK, 0, 32);
+}
+
+/* A whole checkpoint. */
+static void make_checkpoint(uint16_t r)
+{
+    do {
+        expect(RAHUVYTE_AT, CHECKPOINT, r, 0);
+        if (reply.first != RAHUVYTE_CHECKPOINT_STEPS(PARTICIPANTS))
+            expect(RAHUVYTE_READER_TURN, PICK, r, 0);
+    } while (reply.code != RAHUVYTE_AT || reply.first != RAHUVYTE_CHECKPOINT_STEPS(PARTICIPANTS));
+}
+
+/* A table is swapped in, and its former slot deferred. */
+static void publish_rest(uint16_t p, uint16_t slot)
+{
+    swap_in(p, slot);
+    expect(RAHUVYTE_AT, DEFER, p, 0);
+    expect(RAHUVYTE_READER_TURN, PICK, p, 0);
+    expect(RAHUVYTE_READER_TURN, CHECKPOINT, p, 0);
+    expect(RAHUVYTE_AT, DEFER, p, 0);
+    expect(RAHUVYTE_PUBLISHER_TURN, DEFER, p, 0);
+}
+
+/* How many slots the last participant has deferred. */
+static void expect_deferred(uint64_t count)
+{
+    if (store[LAST_COUNT] == count)
+        return;
+    fprintf(stderr, "stack: the last participant has deferred %llu slots, not %llu\n", (unsigned long long)store[LAST_COUNT], (unsigned long long)count);
+    exit(1);
+}
+
+/* The rest store, all with a pick. The last participant defers eight slots, of which it frees four, then none, and when every other one has published the rest. */
+static void publish_all_rest(void)
+{
+    const uint16_t last = PARTICIPANTS - 1;
+    for (uint16_t i = 0; i < RAHUVYTE_DEFERRED_MAX; i++) {
+        if (i == RAHUVYTE_DEFERRED_MAX / 2)
+            for (uint16_t p = 0; p < last; p++)
+                make_checkpoint(p);
+        publish_rest(last, (uint16_t)(i + 1));
+    }
+    swap_in(last, RAHUVYTE_DEFERRED_MAX + 1);
+    expect(RAHUVYTE_TOO_MANY_DEFERRED, DEFER, last, 0);
+    make_checkpoint(last);
+    expect_deferred(RAHUVYTE_DEFERRED_MAX / 2);
+    make_checkpoint(last);
+    expect_deferred(RAHUVYTE_DEFERRED_MAX / 2);
+    for (uint16_t p = 0; p < last; p++)
+        publish_rest(p, (uint16_t)(RAHUVYTE_DEFERRED_MAX + 2 + p));
+    expect(RAHUVYTE_SLOT_IN_USE, CLAIM, 0, RAHUVYTE_DEFERRED_MAX - 1);
+    make_checkpoint(last);
+    expect_deferred(0);
+    store[5] = RAHUVYTE_LAST_REST;
+    expect(RAHUVYTE_EPOCH_IS_LAST, DEFER, last, 0);
+}
+
+/* A store whose last publisher, or last deferred slot, is out of range: the damage test at its longest. */
+static void damage_last(void)
+{
+    if (kind != RAHUVYTE_KIND_REST) {
+        store[LAST_PLACE] = RAHUVYTE_PLACE_RETURNED + 1;
+        return;
+    }
+    store[LAST_COUNT] = RAHUVYTE_DEFERRED_MAX;
+    store[LAST_SLOT] = SLOTS;
+}
+
+/* Every call on it, also those that the kind lacks. */
 static void call_damaged(void)
 {
-    store[RAHUVYTE_WORDS - 6] = RAHUVYTE_PLACE_RETURNED + 1;
-    for (int w = ENTER; w <= RELEASE; w++)
+    damage_last();
+    for (int w = ENTER; w < WORDS_OF_CALLS; w++)
         expect(RAHUVYTE_DAMAGED, (enum word)w, 0, 1);
 }
 
 /* First tables whose last entry is bad: the tests at their longest. */
-static void refuse_tables(void)
+static void refuse_tables(uint16_t readers)
 {
     rahuvyte_pitch *last = &table[RAHUVYTE_TABLE - 1];
     *last = RAHUVYTE_PITCH_HIGH + 1;
-    expect(RAHUVYTE_BAD_TABLE_PITCH, MAKE, READERS, 0);
+    expect(RAHUVYTE_BAD_TABLE_PITCH, MAKE, readers, 0);
     *last = RAHUVYTE_STEP_MAX + 1;
-    expect(RAHUVYTE_BAD_TABLE_STEP, MAKE, READERS, 0);
+    expect(RAHUVYTE_BAD_TABLE_STEP, MAKE, readers, 0);
     *last = 0;
 }
 
-static void measure_kind(uint16_t k)
+static void measure_kind(uint16_t k, uint16_t readers)
 {
     kind = k;
     expect(RAHUVYTE_BAD_READERS, MAKE, READERS + 1, 0);
-    refuse_tables();
-    expect(RAHUVYTE_MADE, MAKE, READERS, 0);
-    enter_readers();
-    if (kind == RAHUVYTE_KIND_NEW)
-        publish_new();
-    else
-        publish_old();
+    refuse_tables(readers);
+    expect(RAHUVYTE_MADE, MAKE, readers, 0);
+    if (kind == RAHUVYTE_KIND_REST) {
+        pick_tables();
+        publish_all_rest();
+    } else {
+        enter_readers();
+        if (kind == RAHUVYTE_KIND_NEW)
+            publish_new();
+        else
+            publish_old();
+    }
     call_damaged();
 }
 
 int main(void)
 {
-    measure_kind(RAHUVYTE_KIND_NEW);
-    measure_kind(RAHUVYTE_KIND_OLD);
+    measure_kind(RAHUVYTE_KIND_NEW, READERS);
+    measure_kind(RAHUVYTE_KIND_OLD, READERS);
+    measure_kind(RAHUVYTE_KIND_REST, PARTICIPANTS);
     size_t deepest = 0;
-    printf("%-8s %9s %8s   bytes of stack\n", "call", "accepted", "refused");
-    for (int w = MAKE; w <= RELEASE; w++) {
-        printf("%-8s %9zu %8zu\n", names[w], most[w][0], most[w][1]);
+    printf("%-10s %9s %8s   bytes of stack\n", "call", "accepted", "refused");
+    for (int w = MAKE; w < WORDS_OF_CALLS; w++) {
+        printf("%-10s %9zu %8zu\n", names[w], most[w][0], most[w][1]);
         for (int i = 0; i < 2; i++)
             if (most[w][i] > deepest)
                 deepest = most[w][i];
