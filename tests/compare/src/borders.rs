@@ -1,11 +1,13 @@
 //! Stores with one number at a border of the damage test.
 
 use crate::both::MOST_ENTRIES;
-use crate::undamaged::{count_indicators, put_publisher, put_reader, undamaged, Case};
+use crate::undamaged::{
+    count_indicators, put_participant, put_publisher, put_reader, undamaged, Case,
+};
 use second::damage::Clause;
 use second::random::Random;
 use second::rules::Rules;
-use second::store::{Kind, Publisher, Reader, Store, NOT_READING};
+use second::store::{Deferred, Kind, Publisher, Reader, Store, MOST_DEFERRED, NOT_READING};
 
 /// How a border is tried: with eight numbers outside, with one inside, and
 /// with one outside where it does not count.
@@ -49,7 +51,11 @@ pub fn border_case(kind: Kind, clause: Clause, trial: usize, random: &mut Random
 
 fn put_at_border(case: &mut Case, clause: Clause, trial: usize, random: &mut Random) -> usize {
     match clause {
+        Clause::Publishers if case.store.kind == Kind::Rest => {
+            participants_border(&mut case.store, trial);
+        }
         Clause::Readers | Clause::Publishers => size_border(&mut case.store, clause, trial),
+        Clause::Unequal => unequal_border(&mut case.store, trial),
         Clause::Slots => slots_border(case, trial),
         Clause::EntriesLength => length_border(case, trial),
         Clause::Current | Clause::Version => head_border(&mut case.store, clause, trial),
@@ -64,6 +70,9 @@ fn put_at_border(case: &mut Case, clause: Clause, trial: usize, random: &mut Ran
         | Clause::MarkAboveLast
         | Clause::WaitsAboveLooks
         | Clause::Next => return publisher_border(&mut case.store, clause, trial, random),
+        Clause::Step | Clause::Count | Clause::EightAt35 | Clause::DeferredSlot => {
+            return participant_border(&mut case.store, clause, trial, random);
+        }
     }
     random.below(case.store.publishers.clamp(1, 16)) as usize
 }
@@ -97,6 +106,36 @@ fn size_border(store: &mut Store, clause: Clause, trial: usize) {
         ELSEWHERE => most,
         n => above(most)[n - 1],
     };
+}
+
+/// Both sizes of a rest store, above the most publishers and within the
+/// readers' range.
+fn participants_border(store: &mut Store, trial: usize) {
+    let outside = [17, 18, 19, 31, 32, 33, 63, 64];
+    let participants = match trial {
+        INSIDE => store.publishers,
+        ELSEWHERE => 16,
+        n => outside[n],
+    };
+    (store.readers, store.publishers) = (participants, participants);
+}
+
+/// One size of a rest store, in its own range and unlike the other.
+fn unequal_border(store: &mut Store, trial: usize) {
+    let n = store.publishers;
+    let sizes = match trial {
+        0 => (n + 1, n),
+        1 => (if n == 1 { 3 } else { n - 1 }, n),
+        2 => (n, if n == 16 { 15 } else { n + 1 }),
+        3 => (n, if n == 1 { 2 } else { n - 1 }),
+        4 => (64, n),
+        5 => (if n == 1 { 2 } else { 1 }, n),
+        6 => (n, if n == 16 { 1 } else { 16 }),
+        7 => (n + 16, n),
+        INSIDE => (n, n),
+        _ => (1, 1),
+    };
+    (store.readers, store.publishers) = sizes;
 }
 
 /// The entries get the length that the slots ask for, if there is room.
@@ -168,6 +207,7 @@ fn reader_border(store: &mut Store, clause: Clause, trial: usize, random: &mut R
     let counts = match clause {
         Clause::Picked => 5,
         Clause::Published => random.pick(&[2, 3]),
+        _ if trial == INSIDE && store.kind == Kind::Rest => 5,
         _ if trial == INSIDE => random.pick(&[1, 4, 5]),
         _ => 0,
     };
@@ -182,10 +222,9 @@ fn reader_border(store: &mut Store, clause: Clause, trial: usize, random: &mut R
             put_outside_reader(&mut store.reader[beyond], clause, n, kind, slots);
         }
         ELSEWHERE => {
-            let place = if clause == Clause::Picked {
-                random.pick(&[0, 1, 4])
-            } else {
-                0
+            let place = match (clause, store.kind) {
+                (Clause::Picked, Kind::New | Kind::Old) => random.pick(&[0, 1, 4]),
+                _ => 0,
             };
             put_reader(store, r, place, version, false, random);
             if clause != Clause::ReaderPlace {
@@ -208,8 +247,13 @@ fn put_outside_reader(reader: &mut Reader, clause: Clause, n: usize, kind: Kind,
         Clause::Picked => reader.picked = above(slots - 1)[n],
         Clause::Published => reader.published = unlike(reader.first, reader.second, n),
         _ => {
-            let (two, three) = if kind == Kind::Old { (2, 3) } else { (8, 9) };
-            reader.place = [6, 7, two, three, 65_541, (1 << 32) + 4, 1 << 63, u64::MAX][n];
+            let nearest = match kind {
+                Kind::New => [6, 7, 8, 9],
+                Kind::Old => [6, 7, 2, 3],
+                Kind::Rest => [6, 4, 1, 2],
+            };
+            let further = [65_541, (1 << 32) + 5, 1 << 63, u64::MAX];
+            reader.place = [nearest, further].concat()[n];
         }
     }
 }
@@ -254,12 +298,22 @@ fn publisher_border(store: &mut Store, clause: Clause, trial: usize, random: &mu
 
 /// A place where the clause's number counts.
 fn counting_place(clause: Clause, kind: Kind, random: &mut Random) -> u64 {
-    match clause {
-        Clause::PublisherPlace => 38,
-        Clause::Held => random.pick(&[1, 2, 16, 32, 33, 34, 35, 37, 38]),
-        Clause::Next => random.pick(&[35, 37]),
-        _ if kind == Kind::Old => random.pick(&[35, 36, 37, 38]),
-        _ => random.pick(&[35, 37, 38]),
+    match (clause, kind) {
+        (Clause::PublisherPlace, _) => last_place(kind),
+        (Clause::Held, Kind::New | Kind::Old) => random.pick(&[1, 2, 16, 32, 33, 34, 35, 37, 38]),
+        (Clause::Held, Kind::Rest) => random.pick(&[1, 2, 16, 32, 33, 34, 35]),
+        (Clause::Next, _) => random.pick(&[35, 37]),
+        (_, Kind::Old) => random.pick(&[35, 36, 37, 38]),
+        (_, Kind::New) => random.pick(&[35, 37, 38]),
+        (_, Kind::Rest) => 35,
+    }
+}
+
+/// The last place of a publisher.
+fn last_place(kind: Kind) -> u64 {
+    match kind {
+        Kind::New | Kind::Old => 38,
+        Kind::Rest => 35,
     }
 }
 
@@ -296,7 +350,7 @@ impl Bounds {
             Clause::MarkAboveLast => walk.mark = self.kind.last(),
             Clause::WaitsAboveLooks => walk.waits = walk.looks,
             Clause::Next => walk.next = self.readers - 1,
-            _ => publisher.place = 38,
+            _ => publisher.place = last_place(self.kind),
         }
     }
 
@@ -309,10 +363,108 @@ impl Bounds {
             Clause::WaitsAboveLooks => (walk.looks, walk.waits) = too_many_waits(n),
             Clause::Next => walk.next = above(self.readers - 1)[n],
             _ => {
-                let odd = if self.kind == Kind::New { 36 } else { 41 };
-                let outside = [39, 40, odd, 255, 257, 65_537, (1 << 32) + 37, u64::MAX];
-                publisher.place = outside[n];
+                let nearest = match self.kind {
+                    Kind::New => [39, 40, 36],
+                    Kind::Old => [39, 40, 41],
+                    Kind::Rest => [36, 37, 38],
+                };
+                let further = [255, 257, 65_537, (1 << 32) + 35, u64::MAX];
+                publisher.place = [&nearest[..], &further].concat()[n];
             }
+        }
+    }
+}
+
+fn participant_border(
+    store: &mut Store,
+    clause: Clause,
+    trial: usize,
+    random: &mut Random,
+) -> usize {
+    let p = within(store.publishers, random);
+    let beyond = store.publishers as usize;
+    put_publisher(store, p, random.pick(&[0, 5, 33, 34]), random);
+    if clause == Clause::EightAt35 {
+        put_publisher(store, p, 35, random);
+    }
+    put_participant(store, p, false, random);
+    match trial {
+        INSIDE => put_inside_participant(store, p, clause, random),
+        ELSEWHERE if beyond < 16 && random.one_in(2) => {
+            store.publisher[beyond].place = store.publisher[p].place;
+            let n = random.below(OUTSIDE as u64) as usize;
+            put_outside_participant(store, beyond, clause, n);
+        }
+        ELSEWHERE => put_elsewhere_participant(store, p, clause, random),
+        n => put_outside_participant(store, p, clause, n),
+    }
+    p
+}
+
+/// So many deferred slots, all of them slots of the store.
+fn put_deferred(store: &mut Store, p: usize, count: usize) {
+    let last = store.slots - 1;
+    let participant = &mut store.participant[p];
+    let known = participant.deferred.iter().chain(&participant.behind);
+    let marks: Vec<u64> = known.map(|deferred| deferred.mark).collect();
+    let pair = |n: usize| Deferred {
+        slot: (n as u64 + 1).min(last),
+        mark: marks.get(n).copied().unwrap_or(1),
+    };
+    participant.deferred = (0..count).map(pair).collect();
+    participant.behind = (count..MOST_DEFERRED).map(pair).collect();
+    participant.excess = 0;
+}
+
+/// The clause's number at the end of its range.
+fn put_inside_participant(store: &mut Store, p: usize, clause: Clause, random: &mut Random) {
+    let count = 1 + random.below(MOST_DEFERRED as u64) as usize;
+    match clause {
+        Clause::Step => store.participant[p].step = store.publishers + 1,
+        Clause::Count => put_deferred(store, p, MOST_DEFERRED),
+        Clause::EightAt35 => put_deferred(store, p, MOST_DEFERRED - 1),
+        _ => {
+            put_deferred(store, p, count);
+            store.participant[p].deferred[count - 1].slot = store.slots - 1;
+        }
+    }
+}
+
+/// A number outside its range, where it does not count: a pair behind the
+/// count, or eight deferred slots at another place than 35.
+fn put_elsewhere_participant(store: &mut Store, p: usize, clause: Clause, random: &mut Random) {
+    let count = random.below(MOST_DEFERRED as u64) as usize;
+    match clause {
+        Clause::Step => store.participant[p].step = 0,
+        Clause::Count => put_deferred(store, p, 0),
+        Clause::EightAt35 => {
+            put_publisher(store, p, random.pick(&[0, 1, 33, 34]), random);
+            put_deferred(store, p, MOST_DEFERRED);
+        }
+        _ => {
+            put_deferred(store, p, count);
+            store.participant[p].behind[0].slot = store.slots;
+        }
+    }
+}
+
+/// The number that the clause tests, outside its range. A slot too large
+/// stands in each of the eight pairs in turn, the last one of the count.
+fn put_outside_participant(store: &mut Store, p: usize, clause: Clause, n: usize) {
+    match clause {
+        Clause::Step => store.participant[p].step = above(store.publishers.min(16) + 1)[n],
+        Clause::Count => {
+            put_deferred(store, p, MOST_DEFERRED);
+            let most = MOST_DEFERRED as u64;
+            store.participant[p].excess = above(most)[n] - most;
+        }
+        Clause::EightAt35 => {
+            put_deferred(store, p, MOST_DEFERRED);
+            store.participant[p].deferred.rotate_left(n);
+        }
+        _ => {
+            put_deferred(store, p, n + 1);
+            store.participant[p].deferred[n].slot = above(store.slots - 1)[n];
         }
     }
 }

@@ -2,12 +2,14 @@
 //! the comparison after it.
 
 use crate::library;
-use crate::seen::{Seen, Unusual};
+use crate::seen::{Seen, Stand, Unusual};
 use crate::slices::Side;
 use crate::watch;
-use second::call::{Call, Numbers, Reply};
+use second::call::{Call, Name, Numbers, Reply};
 use second::demand3::Demand3;
-use second::layout::{self, publisher_at, reader_at, KIND, PUBLISHERS, READERS, WORDS};
+use second::layout::{
+    self, publisher_at, reader_at, step_at, KIND, PUBLISHERS, READERS, WORDS, WORDS_BEFORE,
+};
 use second::lent;
 use second::rules::Rules;
 use second::store::{Kind, Pitch};
@@ -120,7 +122,7 @@ impl Both {
             println!("{} in {}: {call}", self.calls, self.part);
         }
         let kind = self.kind_called(call);
-        let place = self.place_called(call);
+        let stand = self.stand_called(call);
         let numbers = self.call_library(call);
         if show {
             println!("{}: {numbers}", self.calls);
@@ -131,7 +133,7 @@ impl Both {
         if numbers != reply.numbers() || !self.library.alike(&self.second) {
             return Err(self.difference(call, kind, numbers, reply).into());
         }
-        self.seen.note(kind, call, &numbers, place);
+        self.seen.note(kind, call, &numbers, stand);
         if let (Call::Make { .. }, Some(kind)) = (call, kind) {
             self.seen
                 .note_table(kind, self.second.table.lent(), numbers.code);
@@ -152,6 +154,9 @@ impl Both {
             let mut difference = self.difference(call, kind, reply.numbers(), reply);
             difference.fault = Some(fault);
             return Err(difference.into());
+        }
+        if let Some(kind) = kind {
+            self.seen.note_listed(kind, call, reply.numbers().code);
         }
         Ok(reply)
     }
@@ -174,15 +179,20 @@ impl Both {
         self.number_called(call).and_then(Kind::from_number)
     }
 
-    /// The place, before the call, of the reader or publisher that it names.
-    fn place_called(&self, call: &Call) -> Option<u64> {
+    /// Where the reader or publisher that the call names stood before it.
+    fn stand_called(&self, call: &Call) -> Option<Stand> {
         let words = self.words()?;
         let within = |n: u16, size: usize, most: u64| u64::from(n) < words[size].min(most);
         if let Some(r) = call.reader().filter(|&r| within(r, READERS, 64)) {
-            return Some(words[reader_at(usize::from(r))]);
+            return Some(stand(
+                words,
+                usize::from(r),
+                words[reader_at(usize::from(r))],
+            ));
         }
         let p = call.publisher().filter(|&p| within(p, PUBLISHERS, 16))?;
-        Some(words[publisher_at(usize::from(p))])
+        let place = words[publisher_at(usize::from(p))];
+        Some(stand(words, usize::from(p), place))
     }
 
     fn note_unusual(&mut self, call: &Call, kind: Option<Kind>) {
@@ -194,11 +204,42 @@ impl Both {
             self.seen.note_unusual(Unusual::NullStore, call);
         } else if words.lent().len() != WORDS {
             self.seen.note_unusual(Unusual::StoreLength, call);
+            self.note_words_before(call);
         } else if kind.is_none() {
             self.seen.note_unusual(Unusual::UnknownKind, call);
             self.note_before(call);
         } else if self.library.entries.is_null() {
             self.seen.note_unusual(Unusual::NullEntries, call);
+        } else if let Some(kind) = kind.filter(|&kind| !call.name().of(kind)) {
+            self.note_lacked(kind, call);
+        }
+    }
+
+    /// Notes a call that the kind lacks if nothing else is wrong: neither is
+    /// the store damaged, nor does the name not exist.
+    fn note_lacked(&mut self, kind: Kind, call: &Call) {
+        let entries = self.second.entries.lent().len();
+        let store = self.words().and_then(layout::unpack);
+        let damaged = store.is_none_or(|store| store.clauses(entries, Rules::AS_WRITTEN).any());
+        if !damaged && self.stand_called(call).is_some() {
+            self.seen.note_lacked(kind, call);
+        }
+    }
+
+    /// Notes as many words as there were before if all else is right: with
+    /// the others at 0 behind them the making is accepted, and another call
+    /// does not get 1. The refused call left all as lent.
+    fn note_words_before(&mut self, call: &Call) {
+        let side = &self.second;
+        if side.words.lent().len() != WORDS_BEFORE {
+            return;
+        }
+        let (mut words, mut entries) = (side.words.lent().to_vec(), side.entries.lent().to_vec());
+        words.resize(WORDS, 0);
+        let table = side.table.lent();
+        let reply = lent::call(&mut words, &mut entries, table, call, Rules::AS_WRITTEN);
+        if right(call, reply) {
+            self.seen.note_unusual(Unusual::WordsBefore, call);
         }
     }
 
@@ -213,21 +254,19 @@ impl Both {
         let side = &self.second;
         let (mut words, mut entries) = (side.words.lent().to_vec(), side.entries.lent().to_vec());
         let mut today = *call;
-        match &mut today {
-            Call::Make { kind: number, .. } => *number = kind.number() as u16,
-            _ => words[KIND] = kind.number(),
+        if let Call::Make { kind: number, .. } = &mut today {
+            *number = kind.number() as u16;
+        } else {
+            words[KIND] = kind.number();
         }
         let table = side.table.lent();
         let reply = lent::call(&mut words, &mut entries, table, &today, Rules::AS_WRITTEN);
-        let right = match call {
-            Call::Make { .. } => reply == Reply::Made,
-            _ => reply != Reply::Refused(1),
-        };
         let unusual = match kind {
             Kind::New => Unusual::NewBefore,
             Kind::Old => Unusual::OldBefore,
+            Kind::Rest => return,
         };
-        if right {
+        if right(call, reply) {
             self.seen.note_unusual(unusual, call);
         }
     }
@@ -258,6 +297,27 @@ impl Both {
             table_entry: self.library.table.first_unlike(&self.second.table),
             fault: None,
         }
+    }
+}
+
+/// Whether a making was accepted, or another call did not get 1.
+fn right(call: &Call, reply: Reply) -> bool {
+    match call.name() == Name::Store {
+        true => reply == Reply::Made,
+        false => reply != Reply::Refused(1),
+    }
+}
+
+/// Where the reader or publisher n stands, whose place this is. Participants
+/// are 16 at most.
+fn stand(words: &[u64; WORDS], n: usize, place: u64) -> Stand {
+    let p = n.min(15);
+    Stand {
+        place,
+        reader_place: words[reader_at(n)],
+        publisher_place: words[publisher_at(p)],
+        step: words[step_at(p)],
+        participants: words[READERS],
     }
 }
 

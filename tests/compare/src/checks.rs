@@ -3,14 +3,15 @@
 use crate::both::{Both, Stop};
 use crate::first_tables::{borders, Border};
 use crate::guarded::Guarded;
-use crate::seen::Seen;
+use crate::seen::{Seen, Stand};
 use crate::slices::Side;
 use second::call::{Call, Numbers, Reply};
 use second::demand3::Demand3;
+use second::events::{Event, Events};
 use second::layout::WORDS;
 use second::making::Making;
 use second::rules::{Alteration, Rules};
-use second::store::{Kind, Pitch, KINDS, TABLE};
+use second::store::{Kind, Pitch, TABLE};
 
 const MAKE: Call = Call::Make {
     kind: Kind::New.number() as u16,
@@ -83,14 +84,34 @@ fn the_first_table_is_compared() {
 fn a_run_that_saw_nothing_lacks_every_number() {
     let missing = Seen::new().missing();
     let lacks = |what: &str| missing.iter().any(|line| line == what);
-    for refusal in [1, 10, 11, 12, 13, 14, 20, 21, 30, 32, 33] {
-        for kind in ["new", "old"] {
+    let shared = [1, 10, 11, 12, 13, 14, 20, 21, 30];
+    let of_kinds: [(&str, &[u64]); 3] =
+        [("new", &[32, 33]), ("old", &[32, 33]), ("rest", &[43, 44])];
+    for (kind, own) in of_kinds {
+        for refusal in shared.iter().chain(own) {
             let line = |line: &&String| {
                 line.starts_with(kind) && line.ends_with(&format!("refusal {refusal}"))
             };
             assert!(missing.iter().any(|l| line(&l)), "{kind} {refusal}");
         }
     }
+    assert!(lacks("rest defer: refusal 43") && lacks("rest defer, in a list: refusal 44"));
+    assert!(lacks("rest pick: reply 115") && lacks("new pick: refusal 1"));
+    assert!(!lacks("rest store: refusal 6") && !lacks("rest claim: refusal 31"));
+    assert!(lacks("rest enter: where it alone is wrong"));
+    assert!(lacks("old defer: where it alone is wrong"));
+    assert!(lacks("rest enter, in a list: refusal 1"));
+    assert!(!lacks("rest pick, in a list: refusal 1"));
+    assert!(lacks("rest pick: spoiled by EightAt35 alone"));
+    assert!(!lacks("rest pick: spoiled by Readers alone"));
+    assert!(!lacks("new pick: spoiled by Readers alone"));
+    assert!(lacks("rest: border 9 of DeferredSlot"));
+    assert!(lacks("rest checkpoint: from publisher place 35"));
+    assert!(lacks("rest claim: at the last step"));
+    assert!(lacks("rest, in a list: a slot freed among 16 participants"));
+    assert!(lacks("rest, in a list: 43 with eight slots deferred"));
+    assert!(lacks("rest store with the largest sizes"));
+    assert!(lacks("pick with WordsBefore") && lacks("store with WordsBefore"));
     assert!(lacks("old claim: refusal 31") && !lacks("new claim: refusal 31"));
     assert!(lacks("old walk: reply 112") && !lacks("new walk: reply 112"));
     assert!(lacks("new store: refusal 6") && lacks("old store: reply 100"));
@@ -98,6 +119,7 @@ fn a_run_that_saw_nothing_lacks_every_number() {
     assert!(lacks("old store: a first table with -5001 in entry 31"));
     assert!(lacks("store with NullTable") && !lacks("enter with NullTable"));
     assert!(lacks("store with NewBefore") && lacks("walk with OldBefore"));
+    assert!(!lacks("pick with NewBefore") && !lacks("defer with OldBefore"));
     assert!(lacks("old write: from place 36") && !lacks("new write: from place 36"));
 }
 
@@ -110,11 +132,35 @@ fn what_was_seen_is_not_missing() {
         second: 0,
     };
     let claim = Call::Claim { p: 0, s: 0 };
-    seen.note(Some(Kind::New), &claim, &numbers, Some(0));
+    let stand = Stand {
+        place: 0,
+        reader_place: 5,
+        publisher_place: 0,
+        step: 3,
+        participants: 3,
+    };
+    seen.note(Some(Kind::New), &claim, &numbers, Some(stand));
     let missing = seen.missing();
     assert_eq!(Seen::new().missing().len(), missing.len() + 2);
     assert!(!missing.iter().any(|line| line == "new claim: refusal 30"));
     assert!(missing.iter().any(|line| line == "old claim: refusal 30"));
+    seen.note(Some(Kind::Rest), &claim, &numbers, Some(stand));
+    let now = seen.missing();
+    assert_eq!(missing.len(), now.len() + 5);
+    let gone = [
+        "rest claim: refusal 30",
+        "rest claim: from place 0",
+        "rest claim: from reader place 5",
+        "rest claim: from publisher place 0",
+        "rest claim: at a step before the last",
+    ];
+    for what in gone {
+        assert!(!now.iter().any(|line| line == what), "{what}");
+    }
+    seen.note_events(&Events::from([Event::TwoDefer]));
+    seen.note_listed(Kind::Rest, &claim, 30);
+    seen.note_lacked(Kind::Rest, &Call::Walk { p: 0, b: 0 });
+    assert_eq!(now.len(), seen.missing().len() + 3);
 }
 
 /// A table shows the borders that it is at, and no refusal shows those of
@@ -146,7 +192,8 @@ fn first_tables_show_their_borders() {
 /// A kind's number of the format before is seen where it alone is wrong.
 #[test]
 fn kinds_before_are_seen_if_all_else_is_right() {
-    for (kind, name) in KINDS.into_iter().zip(["NewBefore", "OldBefore"]) {
+    for (kind, name) in [(Kind::New, "NewBefore"), (Kind::Old, "OldBefore")] {
+        let number = kind.number_before().expect("a kind of the format before");
         let mut both = lent(Rules::AS_WRITTEN);
         let lacks = |both: &Both, call: &str| {
             let what = format!("{call} with {name}");
@@ -160,14 +207,14 @@ fn kinds_before_are_seen_if_all_else_is_right() {
             version: 0,
         };
         let enter = Call::Enter { r: 0 };
-        assert_eq!(report(both.call(&make(kind.number_before(), 0))), "alike");
+        assert_eq!(report(both.call(&make(number, 0))), "alike");
         assert!(lacks(&both, "store"));
-        assert_eq!(report(both.call(&make(kind.number_before(), 1))), "alike");
+        assert_eq!(report(both.call(&make(number, 1))), "alike");
         assert!(!lacks(&both, "store"));
         assert_eq!(report(both.call(&make(kind.number(), 1))), "alike");
         let mut words = *both.words().expect("a store");
         assert_eq!(report(both.call(&enter)), "alike");
-        words[0] = kind.number_before();
+        words[0] = number;
         both.set_words(&words);
         both.set_entries(&[7; 95]);
         assert_eq!(report(both.call(&enter)), "alike");
@@ -176,6 +223,31 @@ fn kinds_before_are_seen_if_all_else_is_right() {
         assert_eq!(report(both.call(&enter)), "alike");
         assert!(!lacks(&both, "enter") && lacks(&both, "leave"));
     }
+}
+
+/// As many words as before are seen where nothing else is wrong, and so is a
+/// call that the kind lacks.
+#[test]
+fn lengths_and_lacked_calls_are_seen_if_all_else_is_right() {
+    let mut both = lent(Rules::AS_WRITTEN);
+    let lacks = |both: &Both, what: &str| both.seen.missing().iter().any(|line| line == what);
+    assert_eq!(report(both.call(&MAKE)), "alike");
+    let words = *both.words().expect("a store");
+    let (enter, pick) = (Call::Enter { r: 0 }, Call::Pick { r: 0 });
+    both.set_entries(&[7; 95]);
+    assert_eq!(report(both.call(&pick)), "alike");
+    both.set_entries(&[7; 96]);
+    assert_eq!(report(both.call(&Call::Pick { r: 2 })), "alike");
+    assert!(lacks(&both, "new pick: where it alone is wrong"));
+    assert_eq!(report(both.call(&pick)), "alike");
+    assert!(!lacks(&both, "new pick: where it alone is wrong"));
+    both.set_words(&words[..424]);
+    assert_eq!(report(both.call(&enter)), "alike");
+    both.set_words(&words[..425]);
+    assert_eq!(report(both.call(&pick)), "alike");
+    assert!(lacks(&both, "enter with WordsBefore") && lacks(&both, "pick with WordsBefore"));
+    assert_eq!(report(both.call(&enter)), "alike");
+    assert!(!lacks(&both, "enter with WordsBefore"));
 }
 
 #[test]
@@ -194,6 +266,21 @@ fn a_difference_is_told_by_name() {
     let text = report(both.call(&MAKE));
     assert!(
         text.contains("word 12, reader 0 published: library 18446744073709551615, second 0"),
+        "{text}"
+    );
+
+    let mut both = lent(Rules::altered(Alteration::FreshObservedZero));
+    let rest = Call::Make {
+        kind: Kind::Rest.number() as u16,
+        readers: 2,
+        publishers: 2,
+        slots: 3,
+        version: 6,
+    };
+    let text = report(both.call(&rest));
+    assert!(text.contains("rest store, in a test"), "{text}");
+    assert!(
+        text.contains("word 12, reader 0 published: library 6, second 0"),
         "{text}"
     );
 

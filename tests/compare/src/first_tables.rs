@@ -10,7 +10,7 @@ use second::store::{Kind, Pitch, KINDS, PITCH_HIGH, PITCH_LOW, STEP_MOST, TABLE}
 use second::tables::{self, ENDS, NARROW, PAIRS};
 use std::fmt;
 
-/// What a run must show of first tables, of both kinds.
+/// What a run must show of first tables, of every kind.
 #[derive(Clone, Copy, PartialEq, Eq, PartialOrd, Ord, Debug)]
 pub enum Border {
     /// A table of this many entries, refused with 40.
@@ -160,7 +160,7 @@ impl FirstTables {
         if border == Border::Length(0) && random.one_in(2) {
             both.set_null_table();
         }
-        let sizes = some_sizes(random);
+        let sizes = some_sizes(kind, random);
         let version = first_version(kind, random);
         both.set_words(&[random.word(); WORDS]);
         both.set_entries(&vec![

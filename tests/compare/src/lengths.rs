@@ -2,55 +2,64 @@
 //! kinds.
 
 use crate::both::{Both, Stop, MOST_WORDS};
-use second::call::Call;
-use second::layout::{KIND, SLOTS, WORDS};
+use second::call::{calls, Call};
+use second::layout::{KIND, SLOTS, WORDS, WORDS_BEFORE};
 use second::random::Random;
 use second::rules::Rules;
 use second::store::{Kind, Pitch, FEATHERED, KINDS, TABLE};
 use second::tables;
-use second::turns::{call_by, call_numbered, Scheduler};
+use second::turns::{call_by, call_named, Scheduler};
 
 const NEW: u64 = Kind::New.number();
 const OLD: u64 = Kind::Old.number();
+const REST: u64 = Kind::Rest.number();
 
-/// Each of the eleven calls with something wrong before all else.
+/// Making and each of the thirteen calls with something wrong before all
+/// else.
 pub fn play(both: &mut Both, random: &mut Random) -> Result<(), Stop> {
     both.part = "wrong lengths and kinds";
     let kind = random.pick(&KINDS);
     let words = lived_in(kind, random);
     let entries = vec![random.word() as Pitch; words[SLOTS] as usize * 32];
     let wrong = random.below(5);
-    for index in 0..=10 {
-        match wrong {
-            0 | 1 => {
-                lend_wrong_words(both, &words, random);
-                lend_some_entries(both, &entries, random);
-            }
-            2 => {
-                both.set_words(&words);
-                lend_wrong_entries(both, &entries, random);
-            }
-            3 => {
-                both.set_words(&with_unknown_kind(&words, random));
-                lend_some_entries(both, &entries, random);
-            }
-            _ => {
-                both.set_words(&words);
-                both.set_null_entries();
-            }
-        }
-        both.set_table(&tables::any(random));
-        if random.one_in(8) {
-            both.set_null_table();
-        }
-        let call = match index {
-            0 => making(kind, &words, wrong == 3, random),
-            _ if random.one_in(4) => call_numbered(index, &words, random),
-            _ => call_by(index, 0, &words, random),
+    let making = making(kind, &words, wrong == 3, random);
+    lend(both, wrong, &words, &entries, random);
+    both.call(&making)?;
+    for name in calls() {
+        lend(both, wrong, &words, &entries, random);
+        let call = match random.one_in(4) {
+            true => call_named(name, &words, random),
+            false => call_by(name, 0, &words, random),
         };
         both.call(&call)?;
     }
     Ok(())
+}
+
+/// Lends the store and the entries with something wrong, and any first table.
+fn lend(both: &mut Both, wrong: u64, words: &[u64; WORDS], entries: &[Pitch], random: &mut Random) {
+    match wrong {
+        0 | 1 => {
+            lend_wrong_words(both, words, random);
+            lend_some_entries(both, entries, random);
+        }
+        2 => {
+            both.set_words(words);
+            lend_wrong_entries(both, entries, random);
+        }
+        3 => {
+            both.set_words(&with_unknown_kind(words, random));
+            lend_some_entries(both, entries, random);
+        }
+        _ => {
+            both.set_words(words);
+            both.set_null_entries();
+        }
+    }
+    both.set_table(&tables::any(random));
+    if random.one_in(8) {
+        both.set_null_table();
+    }
 }
 
 /// A store after some calls.
@@ -78,12 +87,12 @@ fn lived_in(kind: Kind, random: &mut Random) -> [u64; WORDS] {
 
 fn making(kind: Kind, words: &[u64; WORDS], unknown: bool, random: &mut Random) -> Call {
     let kind = if unknown {
-        let others = [255, 256, 256 + NEW, 256 + OLD, 32_768 + NEW, 65_535];
+        let others = [255, 256, 256 + NEW, 256 + OLD, 32_768 + REST, 65_535];
         unknown_kind(&others, random) as u16
     } else {
         kind.number() as u16
     };
-    let readers = random.pick(&[1, 2, 64, 0]);
+    let readers = random.pick(&[1, 1, 2, 64, 0]);
     Call::Make {
         kind,
         readers,
@@ -97,7 +106,14 @@ fn making(kind: Kind, words: &[u64; WORDS], unknown: bool, random: &mut Random) 
 /// as much of it as there is room for.
 fn lend_wrong_words(both: &mut Both, words: &[u64; WORDS], random: &mut Random) {
     let any = random.below(MOST_WORDS as u64) as usize;
-    let length = random.pick(&[0, 1, 9, 424, 426, 427, 850, MOST_WORDS, any]);
+    let near = random.pick(&[WORDS - 1, WORDS + 1, WORDS + 2]);
+    let before = random.pick(&[
+        WORDS_BEFORE,
+        WORDS_BEFORE,
+        WORDS_BEFORE - 1,
+        WORDS_BEFORE + 1,
+    ]);
+    let length = random.pick(&[0, 1, 9, near, near, before, 2 * WORDS, MOST_WORDS, any]);
     if length == 0 && random.one_in(2) {
         both.set_null_words();
         return;
@@ -147,12 +163,16 @@ fn with_unknown_kind(words: &[u64; WORDS], random: &mut Random) -> [u64; WORDS] 
         1 << 63,
         255,
         (1 << 8) + NEW,
+        (1 << 8) + REST,
         (1 << 16) + NEW,
         (1 << 16) + OLD,
+        (1 << 16) + REST,
         (1 << 32) + NEW,
         (1 << 32) + OLD,
+        (1 << 32) + REST,
         (1 << 63) + NEW,
         (1 << 63) + OLD,
+        (1 << 63) + REST,
         u64::MAX,
     ];
     words[KIND] = unknown_kind(&kinds, random);
@@ -163,8 +183,8 @@ fn with_unknown_kind(words: &[u64; WORDS], random: &mut Random) -> [u64; WORDS] 
 /// this format or of the next, or one of these.
 fn unknown_kind(others: &[u64], random: &mut Random) -> u64 {
     match random.below(4) {
-        0 => random.pick(&KINDS).number_before(),
-        1 => random.pick(&[0, 3, 4, NEW - 1, OLD + 1, 16 + NEW, 16 + OLD]),
+        0 => random.pick(&KINDS).number_before().unwrap_or(3),
+        1 => random.pick(&[0, 4, NEW - 1, REST + 1, 16 + NEW, 16 + OLD, 16 + REST]),
         _ => random.pick(others),
     }
 }

@@ -67,6 +67,9 @@ extern "C" {
         b: u16,
     ) -> CReply;
     fn rahuvyte_release(store: Words, sl: usize, entries: Entries, el: usize, p: u16) -> CReply;
+    fn rahuvyte_pick(store: Words, sl: usize, entries: Entries, el: usize, r: u16) -> CReply;
+    fn rahuvyte_checkpoint(store: Words, sl: usize, entries: Entries, el: usize, r: u16) -> CReply;
+    fn rahuvyte_defer(store: Words, sl: usize, entries: Entries, el: usize, p: u16) -> CReply;
 }
 
 /// Calls the library with these slices.
@@ -97,6 +100,9 @@ pub unsafe fn call(lent: Lent, call: &Call) -> Numbers {
         Call::Raise { p } => rahuvyte_raise(w, wl, e, el, p),
         Call::Walk { p, b } => rahuvyte_walk(w, wl, e, el, p, b),
         Call::Release { p } => rahuvyte_release(w, wl, e, el, p),
+        Call::Pick { r } => rahuvyte_pick(w, wl, e, el, r),
+        Call::Checkpoint { r } => rahuvyte_checkpoint(w, wl, e, el, r),
+        Call::Defer { p } => rahuvyte_defer(w, wl, e, el, p),
     };
     Numbers {
         code: reply.code,

@@ -18,6 +18,15 @@ pub struct Sizes {
 }
 
 impl Sizes {
+    /// As many readers as publishers.
+    pub fn equal(participants: u16, slots: u16) -> Sizes {
+        Sizes {
+            readers: participants,
+            publishers: participants,
+            slots,
+        }
+    }
+
     /// A making with these sizes.
     pub fn making(&self, kind: Kind, version: u64) -> Call {
         Call::Make {
@@ -30,22 +39,88 @@ impl Sizes {
     }
 }
 
-/// One list: some refused makings, an accepted one, and calls.
-pub fn play(both: &mut Both, random: &mut Random) -> Result<(), Stop> {
-    both.part = "a list from a fresh store";
-    let kind = random.pick(&KINDS);
-    lend_anything(both, random);
-    for _ in 0..random.below(3) {
-        try_making(both, random)?;
+/// Goes over the numbers of participants, and over the last epochs, in turn.
+#[derive(Default)]
+pub struct Lists {
+    resting: u16,
+    deferring: u16,
+}
+
+/// What a list is made of besides chance.
+struct Plan {
+    sizes: Sizes,
+    version: u64,
+    scheduler: Scheduler,
+    calls: u64,
+}
+
+impl Lists {
+    /// One list: some refused makings, an accepted one, and calls.
+    pub fn play(&mut self, both: &mut Both, random: &mut Random) -> Result<(), Stop> {
+        both.part = "a list from a fresh store";
+        let kind = random.pick(&KINDS);
+        lend_anything(both, random);
+        for _ in 0..random.below(3) {
+            try_making(both, random)?;
+        }
+        let plan = self.plan(kind, random);
+        let mut demand3 = make(both, kind, &plan.sizes, plan.version, random)?;
+        let played = play_calls(both, &mut demand3, plan, random);
+        both.seen.lists += 1;
+        both.seen.returns += demand3.returns();
+        both.seen.swaps += demand3.swaps();
+        both.seen.freed += demand3.freed();
+        both.seen.note_events(demand3.events());
+        played
     }
-    let sizes = some_sizes(random);
-    let version = first_version(kind, random);
-    let mut demand3 = make(both, kind, &sizes, version, random)?;
-    let played = play_calls(both, &mut demand3, random);
-    both.seen.lists += 1;
-    both.seen.returns += demand3.returns();
-    both.seen.swaps += demand3.swaps();
-    played
+
+    /// Some lists of a rest store are for many deferred slots at the last
+    /// epochs, and some for checkpoints among every number of participants.
+    fn plan(&mut self, kind: Kind, random: &mut Random) -> Plan {
+        let plan = Plan {
+            sizes: some_sizes(kind, random),
+            version: first_version(kind, random),
+            scheduler: Scheduler::new(random),
+            calls: random.pick(&[50, 400, 1500, 4000]),
+        };
+        match (kind, random.below(4)) {
+            (Kind::Rest, 0) => self.deferring(plan, random),
+            (Kind::Rest, 1) => self.resting(plan, random),
+            (Kind::Rest, 2) => Plan {
+                scheduler: Scheduler::side_by_side(random),
+                ..plan
+            },
+            (Kind::New | Kind::Old | Kind::Rest, _) => plan,
+        }
+    }
+
+    fn deferring(&mut self, plan: Plan, random: &mut Random) -> Plan {
+        self.deferring += 1;
+        let (participants, version) = match self.deferring % 5 {
+            0 => (1, u64::MAX - 8),
+            1 => (1, u64::MAX - 7),
+            2 => (random.pick(&[1, 2]), 0),
+            3 => (random.pick(&[1, 2]), u64::MAX - random.below(3)),
+            _ => (random.pick(&[1, 2]), plan.version),
+        };
+        Plan {
+            sizes: Sizes::equal(participants, 12 + random.below(21) as u16),
+            version,
+            scheduler: Scheduler::deferring(random),
+            calls: 100 + 420 * u64::from(participants),
+        }
+    }
+
+    fn resting(&mut self, plan: Plan, random: &mut Random) -> Plan {
+        let participants = 1 + self.resting % 16;
+        self.resting += 1;
+        Plan {
+            sizes: Sizes::equal(participants, plan.sizes.slots),
+            version: plan.version.min(u64::MAX - 1000),
+            scheduler: Scheduler::resting(random),
+            calls: 300 + 120 * u64::from(participants),
+        }
+    }
 }
 
 /// Words and entries that hold anything, for a making to write over or to
@@ -65,7 +140,8 @@ fn lend_anything(both: &mut Both, random: &mut Random) {
 /// The number of a kind, or one that no kind has.
 fn kind_or_none(random: &mut Random) -> u64 {
     let kind = random.pick(&KINDS);
-    random.pick(&[0, kind.number(), kind.number(), kind.number_before(), 3])
+    let before = kind.number_before().unwrap_or(3);
+    random.pick(&[0, kind.number(), kind.number(), before, 4])
 }
 
 /// A making with one argument wrong, or with wrong ones in any mixture.
@@ -84,18 +160,22 @@ fn one_wrong(both: &mut Both, random: &mut Random) -> Call {
         mut readers,
         mut publishers,
         mut slots,
-    } = some_sizes(random);
+    } = some_sizes(kind, random);
     let mut version = first_version(kind, random);
     let mut length = usize::from(slots) * 32;
     match random.below(5) {
+        0 if kind == Kind::Rest => {
+            readers = random.pick(&[0, 1, 16, 17, 64, 65]);
+            publishers = readers;
+        }
         0 => readers = random.pick(&[0, 1, 64, 65]),
-        1 => publishers = random.pick(&[0, 1, 16, 17]),
+        1 => publishers = random.pick(&[0, 1, 16, 17, readers + 1]),
         2 => {
             slots = random.pick(&[0, 1, 2, 32, 33]);
             length = usize::from(slots) * 32;
         }
         3 => length = random.pick(&[0, length - 1, length + 1, length + 32]),
-        _ => version = kind.last() + random.below(2),
+        _ => version = kind.last().saturating_add(random.below(2)),
     }
     both.set_entries(&vec![random.word() as Pitch; length]);
     both.set_table(&tables::good(random));
@@ -124,10 +204,15 @@ fn any_wrong(both: &mut Both, random: &mut Random) -> Call {
         };
         both.set_entries(&vec![random.word() as Pitch; length]);
     }
+    let readers = size(1, 64, random);
+    let publishers = match random.one_in(3) {
+        true => readers,
+        false => size(1, 16, random),
+    };
     Call::Make {
         kind: kind.number() as u16,
-        readers: size(1, 64, random),
-        publishers: size(1, 16, random),
+        readers,
+        publishers,
         slots,
         version: match random.below(4) {
             0 => last.wrapping_add(1 + random.below(2)),
@@ -146,8 +231,10 @@ fn refused_making(random: &mut Random) -> Call {
         (65, 1, 2),
         (1, 0, 2),
         (1, 17, 2),
+        (17, 17, 1),
         (1, 1, 1),
         (64, 16, 33),
+        (16, 16, 33),
     ]);
     Call::Make {
         kind,
@@ -167,31 +254,30 @@ fn size(least: u16, most: u16, random: &mut Random) -> u16 {
     }
 }
 
-pub fn some_sizes(random: &mut Random) -> Sizes {
-    match random.below(12) {
-        0 => {
-            return Sizes {
-                readers: 64,
-                publishers: 16,
-                slots: 32,
-            }
+pub fn some_sizes(kind: Kind, random: &mut Random) -> Sizes {
+    let equal = match kind {
+        Kind::New | Kind::Old => false,
+        Kind::Rest => true,
+    };
+    let most_readers = if equal { 16 } else { 64 };
+    let (readers, publishers, slots) = match random.below(12) {
+        0 => (most_readers, 16, 32),
+        1 => (1, 1, 2),
+        _ => {
+            let any_readers = 1 + random.below(u64::from(most_readers)) as u16;
+            let any_publishers = 1 + random.below(16) as u16;
+            let any_slots = 2 + random.below(31) as u16;
+            (
+                random.pick(&[1, 2, 2, 3, 5, most_readers, any_readers]),
+                random.pick(&[1, 2, 2, 3, 4, 16, any_publishers]),
+                random.pick(&[2, 3, 3, 4, 6, 32, any_slots]),
+            )
         }
-        1 => {
-            return Sizes {
-                readers: 1,
-                publishers: 1,
-                slots: 2,
-            }
-        }
-        _ => {}
-    }
-    let any_readers = 1 + random.below(64) as u16;
-    let any_publishers = 1 + random.below(16) as u16;
-    let any_slots = 2 + random.below(31) as u16;
+    };
     Sizes {
-        readers: random.pick(&[1, 2, 2, 3, 5, 64, any_readers]),
-        publishers: random.pick(&[1, 2, 2, 3, 4, 16, any_publishers]),
-        slots: random.pick(&[2, 3, 3, 4, 6, 32, any_slots]),
+        readers,
+        publishers: if equal { readers } else { publishers },
+        slots,
     }
 }
 
@@ -246,13 +332,16 @@ fn refused_table(both: &mut Both, random: &mut Random) -> Option<Call> {
     Some(sizes.making(kind, random.below(100)))
 }
 
-fn play_calls(both: &mut Both, demand3: &mut Demand3, random: &mut Random) -> Result<(), Stop> {
-    let mut scheduler = Scheduler::new(random);
-    let calls = random.pick(&[50, 400, 1500, 4000]);
+fn play_calls(
+    both: &mut Both,
+    demand3: &mut Demand3,
+    mut plan: Plan,
+    random: &mut Random,
+) -> Result<(), Stop> {
     let mut stuck = 0;
-    for _ in 0..calls {
+    for _ in 0..plan.calls {
         let Some(words) = both.words() else { break };
-        let call = scheduler.next(words, random);
+        let call = plan.scheduler.next(words, random);
         if random.one_in(200) {
             let refused = match random.one_in(2) {
                 true => refused_table(both, random),
@@ -261,7 +350,8 @@ fn play_calls(both: &mut Both, demand3: &mut Demand3, random: &mut Random) -> Re
             refused.map_or(Ok(()), |making| both.call(&making).map(|_| ()))?;
         }
         let reply = both.listed(&call, demand3)?;
-        if reply == Reply::Refused(32) {
+        // 32 and 43 are given for ever after.
+        if matches!(reply, Reply::Refused(32 | 43)) {
             stuck += 1;
         }
         if stuck > 20 {

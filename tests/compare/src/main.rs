@@ -22,6 +22,7 @@ mod watch;
 
 use both::{Both, Difference, Stop};
 use first_tables::FirstTables;
+use lists::Lists;
 use second::random::Random;
 use second::rules::{Alteration, Rules};
 use states::States;
@@ -38,6 +39,7 @@ fn run(rules: Rules, seed: u64, calls: u64, shown: u64) -> (Both, Option<Box<Dif
     let mut random = Random::from_seed(seed);
     let mut both = Both::new(rules, seed, calls);
     both.show_last(shown);
+    let mut lists = Lists::default();
     let mut states = States::new(&mut random);
     let mut first_tables = FirstTables::default();
     let mut made = [0; SHARES.len()];
@@ -45,7 +47,7 @@ fn run(rules: Rules, seed: u64, calls: u64, shown: u64) -> (Both, Option<Box<Dif
         let before = both.calls();
         let part = furthest_behind(&made);
         let played = match part {
-            0 => lists::play(&mut both, &mut random),
+            0 => lists.play(&mut both, &mut random),
             1 => states.play(&mut both, &mut random),
             2 => first_tables.play(&mut both, &mut random),
             _ => lengths::play(&mut both, &mut random),
@@ -88,12 +90,13 @@ fn compare(seed: u64, calls: u64, shown: u64) -> ExitCode {
     }
     let seen = &both.seen;
     println!(
-        "alike: {calls} calls with seed {seed}, {} accepted, {} refused; {} lists with {} swaps and {} returns",
+        "alike: {calls} calls with seed {seed}, {} accepted, {} refused; {} lists with {} swaps, {} returns and {} freed slots of rest stores",
         seen.accepted(),
         seen.refused(),
         seen.lists,
         seen.swaps,
         seen.returns,
+        seen.freed,
     );
     ExitCode::SUCCESS
 }

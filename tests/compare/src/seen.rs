@@ -2,12 +2,13 @@
 
 use crate::borders::{never_alone, TRIALS};
 use crate::first_tables::{borders, Border};
-use second::call::{Call, Numbers, CALL_NAMES};
+use second::call::{calls, calls_lacked_by, calls_of, Call, Name, Numbers, Whom, NAMES};
 use second::damage::{Clause, CLAUSES};
+use second::events::{Event, Events};
 use second::store::{Kind, Pitch, KINDS};
 use std::collections::BTreeSet;
 
-const CALLS: usize = 11;
+const CALLS: usize = NAMES.len();
 
 /// A row for each kind, and the first for no kind.
 const ROWS: usize = 1 + KINDS.len();
@@ -23,23 +24,82 @@ pub enum Unusual {
     /// all else as it must be.
     NewBefore,
     OldBefore,
+    /// As many words as there were before, and all else as it must be.
+    WordsBefore,
     /// Lent to makings alone.
     NullTable,
 }
 
-const UNUSUAL: [Unusual; 7] = [
+impl Unusual {
+    /// Whether a run must see this call with it.
+    fn can_meet(self, name: Name) -> bool {
+        match self {
+            Unusual::StoreLength | Unusual::NullStore | Unusual::NullEntries => true,
+            Unusual::UnknownKind | Unusual::WordsBefore => true,
+            Unusual::NewBefore => name.of(Kind::New),
+            Unusual::OldBefore => name.of(Kind::Old),
+            Unusual::NullTable => name == Name::Store,
+        }
+    }
+}
+
+const UNUSUAL: [Unusual; 8] = [
     Unusual::StoreLength,
     Unusual::NullStore,
     Unusual::NullEntries,
     Unusual::UnknownKind,
     Unusual::NewBefore,
     Unusual::OldBefore,
+    Unusual::WordsBefore,
     Unusual::NullTable,
 ];
 
+/// Where the reader or publisher that a call names stands. In a rest store
+/// it is a participant, with both places and the step of its checkpoint.
+#[derive(Clone, Copy, PartialEq, Eq, Debug)]
+pub struct Stand {
+    pub place: u64,
+    pub reader_place: u64,
+    pub publisher_place: u64,
+    pub step: u64,
+    pub participants: u64,
+}
+
+/// Where a participant is in its checkpoint.
+const STEPS: [&str; 5] = [
+    "outside a checkpoint",
+    "at step 1",
+    "at step 2",
+    "at a step before the last",
+    "at the last step",
+];
+
+impl Stand {
+    /// Which of these steps the participant is at.
+    fn steps(&self) -> [bool; STEPS.len()] {
+        let (step, last) = (self.step, self.participants + 1);
+        [
+            step == 0,
+            step == 1,
+            step == 2,
+            step > 2 && step < last,
+            step == last,
+        ]
+    }
+}
+
 pub struct Seen {
     replies: Box<[[[u64; 128]; CALLS]; ROWS]>,
+    /// The replies in lists from a fresh store.
+    listed: Box<[[[u64; 128]; CALLS]; ROWS]>,
+    /// Calls that a kind lacks, where nothing else is wrong.
+    lacked: [[u64; CALLS]; ROWS],
     places: Box<[[[u64; 39]; CALLS]; ROWS]>,
+    /// The two places and the step of a rest store's participants.
+    reader_places: [[u64; 6]; CALLS],
+    publisher_places: [[u64; 36]; CALLS],
+    steps: [[u64; STEPS.len()]; CALLS],
+    events: Events,
     alone: Box<[[[u64; CALLS]; CLAUSES.len()]; ROWS]>,
     borders: Box<[[[u64; TRIALS]; CLAUSES.len()]; ROWS]>,
     unusual: [[u64; CALLS]; UNUSUAL.len()],
@@ -48,6 +108,7 @@ pub struct Seen {
     pub lists: u64,
     pub returns: u64,
     pub swaps: u64,
+    pub freed: u64,
 }
 
 /// Makings that a run must have begun a list with.
@@ -69,7 +130,13 @@ impl Seen {
     pub fn new() -> Seen {
         Seen {
             replies: Box::new([[[0; 128]; CALLS]; ROWS]),
+            listed: Box::new([[[0; 128]; CALLS]; ROWS]),
+            lacked: [[0; CALLS]; ROWS],
             places: Box::new([[[0; 39]; CALLS]; ROWS]),
+            reader_places: [[0; 6]; CALLS],
+            publisher_places: [[0; 36]; CALLS],
+            steps: [[0; STEPS.len()]; CALLS],
+            events: Events::new(),
             alone: Box::new([[[0; CALLS]; CLAUSES.len()]; ROWS]),
             borders: Box::new([[[0; TRIALS]; CLAUSES.len()]; ROWS]),
             unusual: [[0; CALLS]; UNUSUAL.len()],
@@ -78,21 +145,47 @@ impl Seen {
             lists: 0,
             returns: 0,
             swaps: 0,
+            freed: 0,
         }
     }
 
-    /// A call with its reply, and the place it was made from.
-    pub fn note(&mut self, kind: Option<Kind>, call: &Call, reply: &Numbers, place: Option<u64>) {
-        let (kind, call) = (row(kind), call.index());
-        self.replies[kind][call][reply.code as usize & 127] += 1;
-        if let (Some(place @ 0..=38), true) = (place, reply.code != 1) {
-            self.places[kind][call][place as usize] += 1;
+    /// A call with its reply, and where it was made from.
+    pub fn note(&mut self, kind: Option<Kind>, call: &Call, reply: &Numbers, stand: Option<Stand>) {
+        let index = call.name().index();
+        self.replies[row(kind)][index][reply.code as usize & 127] += 1;
+        let Some(stand) = stand.filter(|_| reply.code != 1) else {
+            return;
+        };
+        if let place @ 0..=38 = stand.place {
+            self.places[row(kind)][index][place as usize] += 1;
         }
+        if kind == Some(Kind::Rest) {
+            self.reader_places[index][stand.reader_place.min(5) as usize] += 1;
+            self.publisher_places[index][stand.publisher_place.min(35) as usize] += 1;
+            for (count, at) in self.steps[index].iter_mut().zip(stand.steps()) {
+                *count += u64::from(at);
+            }
+        }
+    }
+
+    /// A call of a list from a fresh store, and the code that it got.
+    pub fn note_listed(&mut self, kind: Kind, call: &Call, code: u64) {
+        self.listed[row(Some(kind))][call.name().index()][code as usize & 127] += 1;
+    }
+
+    /// A call that the kind lacks, where nothing else is wrong.
+    pub fn note_lacked(&mut self, kind: Kind, call: &Call) {
+        self.lacked[row(Some(kind))][call.name().index()] += 1;
+    }
+
+    /// What a list of a rest store has shown.
+    pub fn note_events(&mut self, events: &Events) {
+        self.events.extend(events);
     }
 
     /// A call on a store that is spoiled by this clause and no other.
     pub fn note_alone(&mut self, kind: Kind, clause: Clause, call: &Call) {
-        self.alone[row(Some(kind))][clause as usize][call.index()] += 1;
+        self.alone[row(Some(kind))][clause as usize][call.name().index()] += 1;
     }
 
     /// A store at a border of this clause, spoiled by no other.
@@ -108,7 +201,7 @@ impl Seen {
     }
 
     pub fn note_unusual(&mut self, unusual: Unusual, call: &Call) {
-        self.unusual[unusual as usize][call.index()] += 1;
+        self.unusual[unusual as usize][call.name().index()] += 1;
     }
 
     /// An accepted making that begins a list.
@@ -125,13 +218,17 @@ impl Seen {
         };
         let sizes = (readers, publishers, slots);
         let last = kind.last();
+        let most_readers = match kind {
+            Kind::New | Kind::Old => 64,
+            Kind::Rest => 16,
+        };
         let met = [
             version == 0,
             version == 1,
             version == last,
             version == last - 1,
             version == last - 2,
-            sizes == (64, 16, 32),
+            sizes == (most_readers, 16, 32),
             sizes == (1, 1, 2),
         ];
         for (count, met) in self.makings[row(Some(kind))].iter_mut().zip(met) {
@@ -170,13 +267,10 @@ impl Seen {
                 }
             }
         }
+        self.missing_of_rest(&mut missing);
         for unusual in UNUSUAL {
-            let calls = match unusual {
-                Unusual::NullTable => 1,
-                _ => CALLS,
-            };
-            for (call, name) in CALL_NAMES.iter().enumerate().take(calls) {
-                if self.unusual[unusual as usize][call] == 0 {
+            for name in NAMES.into_iter().filter(|&name| unusual.can_meet(name)) {
+                if self.unusual[unusual as usize][name.index()] == 0 {
                     missing.push(format!("{name} with {unusual:?}"));
                 }
             }
@@ -185,21 +279,61 @@ impl Seen {
     }
 
     fn missing_replies(&self, kind: Kind, missing: &mut Vec<String>) {
-        for (call, name) in CALL_NAMES.iter().enumerate() {
-            for &code in codes(call, kind) {
-                if self.replies[row(Some(kind))][call][code] == 0 {
-                    let what = if code < 100 { "refusal" } else { "reply" };
-                    missing.push(format!("{kind} {name}: {what} {code}"));
+        for name in NAMES {
+            for &code in codes(name, kind) {
+                if self.replies[row(Some(kind))][name.index()][code] == 0 {
+                    missing.push(format!("{kind} {name}: {}", answer(code)));
                 }
+            }
+        }
+        for name in calls_lacked_by(kind) {
+            if self.lacked[row(Some(kind))][name.index()] == 0 {
+                missing.push(format!("{kind} {name}: where it alone is wrong"));
             }
         }
     }
 
     fn missing_places(&self, kind: Kind, missing: &mut Vec<String>) {
-        for (call, name) in CALL_NAMES.iter().enumerate().skip(1) {
-            for place in places(call, kind) {
-                if self.places[row(Some(kind))][call][place] == 0 {
+        for name in calls_of(kind) {
+            for place in places(name, kind) {
+                if self.places[row(Some(kind))][name.index()][place] == 0 {
                     missing.push(format!("{kind} {name}: from place {place}"));
+                }
+            }
+        }
+    }
+
+    /// What lists of a rest store must show, and where each of its calls must
+    /// have been made from.
+    fn missing_of_rest(&self, missing: &mut Vec<String>) {
+        let unseen = Event::all().filter(|event| !self.events.contains(event));
+        missing.extend(unseen.map(|event| format!("rest, in a list: {event}")));
+        for name in calls() {
+            let listed = &self.listed[row(Some(Kind::Rest))][name.index()];
+            // No list spoils a store.
+            let lacked = !name.of(Kind::Rest);
+            let codes = codes(name, Kind::Rest).iter();
+            for &code in codes.filter(|&&code| code != 1 || lacked) {
+                if listed[code] == 0 {
+                    missing.push(format!("rest {name}, in a list: {}", answer(code)));
+                }
+            }
+        }
+        for name in calls_of(Kind::Rest) {
+            let index = name.index();
+            for place in [0, 5] {
+                if self.reader_places[index][place] == 0 {
+                    missing.push(format!("rest {name}: from reader place {place}"));
+                }
+            }
+            for (place, count) in self.publisher_places[index].iter().enumerate() {
+                if *count == 0 {
+                    missing.push(format!("rest {name}: from publisher place {place}"));
+                }
+            }
+            for (step, count) in STEPS.iter().zip(self.steps[index]) {
+                if count == 0 {
+                    missing.push(format!("rest {name}: {step}"));
                 }
             }
         }
@@ -207,8 +341,8 @@ impl Seen {
 
     fn missing_alone(&self, kind: Kind, missing: &mut Vec<String>) {
         for clause in CLAUSES.into_iter().filter(|clause| clause.of(kind)) {
-            for (call, name) in CALL_NAMES.iter().enumerate().skip(1) {
-                if self.alone[row(Some(kind))][clause as usize][call] == 0 {
+            for name in calls_of(kind) {
+                if self.alone[row(Some(kind))][clause as usize][name.index()] == 0 {
                     missing.push(format!("{kind} {name}: spoiled by {clause:?} alone"));
                 }
             }
@@ -221,31 +355,46 @@ impl Seen {
     }
 }
 
+fn answer(code: usize) -> String {
+    let what = if code < 100 { "refusal" } else { "reply" };
+    format!("{what} {code}")
+}
+
 /// The codes that this call can give on a store of this kind.
-fn codes(call: usize, kind: Kind) -> &'static [usize] {
-    match (call, kind) {
-        (0, _) => &[2, 3, 4, 5, 6, 40, 41, 42, 100],
-        (1, _) => &[1, 10, 20, 101],
-        (2, _) => &[1, 10, 13, 20, 102],
-        (3, _) => &[1, 10, 20, 103],
-        (4, Kind::New) => &[1, 11, 12, 21, 30, 104],
-        (4, Kind::Old) => &[1, 11, 12, 21, 31, 30, 104],
-        (5, _) => &[1, 11, 14, 21, 105],
-        (6, _) => &[1, 11, 21, 106],
-        (7, _) => &[1, 11, 21, 32, 107],
-        (8, _) => &[1, 11, 21, 108, 109],
-        (9, Kind::New) => &[1, 11, 21, 33, 110, 111, 113],
-        (9, Kind::Old) => &[1, 11, 21, 33, 110, 111, 112, 113],
-        _ => &[1, 11, 21, 114],
+fn codes(name: Name, kind: Kind) -> &'static [usize] {
+    if !name.of(kind) {
+        return &[1];
+    }
+    match (name, kind) {
+        (Name::Store, Kind::New | Kind::Old) => &[2, 3, 4, 5, 6, 40, 41, 42, 100],
+        (Name::Store, Kind::Rest) => &[2, 3, 4, 5, 40, 41, 42, 100],
+        (Name::Enter, _) => &[1, 10, 20, 101],
+        (Name::Look, _) => &[1, 10, 13, 20, 102],
+        (Name::Leave, _) => &[1, 10, 20, 103],
+        (Name::Claim, Kind::New | Kind::Rest) => &[1, 11, 12, 21, 30, 104],
+        (Name::Claim, Kind::Old) => &[1, 11, 12, 21, 31, 30, 104],
+        (Name::Write, _) => &[1, 11, 14, 21, 105],
+        (Name::Swap, _) => &[1, 11, 21, 106],
+        (Name::Sync, _) => &[1, 11, 21, 32, 107],
+        (Name::Raise, _) => &[1, 11, 21, 108, 109],
+        (Name::Walk, Kind::Old) => &[1, 11, 21, 33, 110, 111, 112, 113],
+        (Name::Walk, Kind::New | Kind::Rest) => &[1, 11, 21, 33, 110, 111, 113],
+        (Name::Release, _) => &[1, 11, 21, 114],
+        (Name::Pick, _) => &[1, 10, 20, 115],
+        (Name::Checkpoint, _) => &[1, 10, 20, 101],
+        (Name::Defer, _) => &[1, 11, 21, 43, 44, 101],
     }
 }
 
 /// The places that the reader or publisher of this call can be at.
-fn places(call: usize, kind: Kind) -> Vec<usize> {
-    match (call, kind) {
-        (1..=3, Kind::New) => (0..=5).collect(),
-        (1..=3, Kind::Old) => vec![0, 1, 4, 5],
-        (_, Kind::New) => (0..=38).filter(|&place| place != 36).collect(),
-        (_, Kind::Old) => (0..=38).collect(),
+fn places(name: Name, kind: Kind) -> Vec<usize> {
+    match (name.whom(), kind) {
+        (Whom::Nobody, _) => Vec::new(),
+        (Whom::Reader, Kind::New) => (0..=5).collect(),
+        (Whom::Reader, Kind::Old) => vec![0, 1, 4, 5],
+        (Whom::Reader, Kind::Rest) => vec![0, 5],
+        (Whom::Publisher, Kind::New) => (0..=38).filter(|&place| place != 36).collect(),
+        (Whom::Publisher, Kind::Old) => (0..=38).collect(),
+        (Whom::Publisher, Kind::Rest) => (0..=35).collect(),
     }
 }

@@ -5,12 +5,13 @@
 use crate::borders::{border_case, TRIALS};
 use crate::both::{Both, Stop, MOST_ENTRIES};
 use crate::undamaged::{undamaged, Case};
+use second::call::calls;
 use second::damage::{Clause, CLAUSES};
-use second::layout::{pack, WORDS};
+use second::layout::{pack, pair_at, publisher_at, reader_at, step_at, HEAD, WORDS};
 use second::random::Random;
 use second::rules::Rules;
 use second::store::{Kind, Pitch, KINDS};
-use second::turns::{any_call, call_by, call_numbered, in_turn, some_actor};
+use second::turns::{any_call, call_by, call_named, in_turn, some_actor, RestPoints};
 
 /// Goes over every kind, clause and trial in turn.
 pub struct States {
@@ -62,7 +63,7 @@ impl States {
                 any_call(words, random)
             } else {
                 let actor = some_actor(words, 3, random);
-                in_turn(words, actor, random)
+                in_turn(words, actor, RestPoints::OFTEN, random)
             };
             both.call(&call)?;
         }
@@ -79,12 +80,12 @@ impl States {
         if case.as_meant(clause, trial) {
             both.seen.note_border(kind, clause, trial);
         }
-        for index in 1..=10 {
+        for call in calls() {
             lend(both, &case, &self.entries);
             let Some(words) = both.words() else { break };
             let call = match random.below(4) {
-                0 => call_numbered(index, words, random),
-                _ => call_by(index, name, words, random),
+                0 => call_named(call, words, random),
+                _ => call_by(call, name, words, random),
             };
             both.call(&call)?;
             if alone {
@@ -100,8 +101,7 @@ impl States {
             self.cell += 1;
             let trial = cell % TRIALS;
             let clause = CLAUSES[cell / TRIALS % CLAUSES.len()];
-            let second_half = cell / TRIALS / CLAUSES.len() % 2 == 1;
-            let kind = if second_half { Kind::Old } else { Kind::New };
+            let kind = KINDS[cell / TRIALS / CLAUSES.len() % KINDS.len()];
             if clause.of(kind) {
                 return (kind, clause, trial);
             }
@@ -115,13 +115,15 @@ fn change_words(both: &mut Both, random: &mut Random) {
     let mut words = *words;
     for _ in 0..1 + random.below(3) {
         // The head and the first records count in every store.
-        let word = match random.below(4) {
-            0 => random.below(9),
-            1 => 9 + random.below(10),
-            2 => 329 + random.below(12),
-            _ => random.below(WORDS as u64),
+        let word = match random.below(6) {
+            0 => random.below(HEAD as u64) as usize,
+            1 => reader_at(0) + random.below(10) as usize,
+            2 => publisher_at(0) + random.below(12) as usize,
+            3 => step_at(0) + random.below(4) as usize,
+            4 => pair_at(random.below(2) as usize, 0) + random.below(16) as usize,
+            _ => random.below(WORDS as u64) as usize,
         };
-        let number = &mut words[word as usize];
+        let number = &mut words[word];
         *number = match random.below(4) {
             0 => number.wrapping_add(1),
             1 => number.wrapping_sub(1),

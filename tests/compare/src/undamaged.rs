@@ -1,7 +1,9 @@
 //! Stores that are undamaged, though no list may ever reach them.
 
 use second::random::Random;
-use second::store::{Kind, Publisher, Reader, Store, Walk, NOT_READING};
+use second::store::{
+    Deferred, Kind, Participant, Publisher, Reader, Store, Walk, MOST_DEFERRED, NOT_READING,
+};
 
 /// A store and the length of the entries lent beside it.
 pub struct Case {
@@ -16,10 +18,15 @@ pub fn undamaged(kind: Kind, calm: bool, tidy: bool, random: &mut Random) -> Cas
     let (any_readers, any_publishers) = (1 + random.below(64), 1 + random.below(16));
     let any_slots = 2 + random.below(31);
     let slots = random.pick(&[2, 3, 5, 32, any_slots]);
+    let publishers = random.pick(&[1, 2, 3, 16, any_publishers]);
+    let readers = match kind {
+        Kind::New | Kind::Old => random.pick(&[1, 2, 3, 64, any_readers]),
+        Kind::Rest => publishers,
+    };
     let mut store = Store {
         kind,
-        readers: random.pick(&[1, 2, 3, 64, any_readers]),
-        publishers: random.pick(&[1, 2, 3, 16, any_publishers]),
+        readers,
+        publishers,
         slots,
         current: up_to_end(slots, random),
         version: some_version(kind, random),
@@ -27,9 +34,11 @@ pub fn undamaged(kind: Kind, calm: bool, tidy: bool, random: &mut Random) -> Cas
         indicators: [random.anything(), random.anything()],
         reader: [Reader::default(); 64],
         publisher: [Publisher::default(); 16],
+        participant: std::array::from_fn(|_| Participant::fresh()),
     };
     fill_publishers(&mut store, calm, tidy, random);
     fill_readers(&mut store, calm, tidy, random);
+    fill_participants(&mut store, calm, tidy, random);
     count_indicators(&mut store);
     Case {
         length: slots as usize * 32,
@@ -71,14 +80,18 @@ fn fill_publishers(store: &mut Store, calm: bool, tidy: bool, random: &mut Rando
             _ if calm && (p != busy || random.one_in(2)) => 0,
             0 => 0,
             1 => random.below(34),
-            _ => random.pick(&[34, 35, 35, 36, 37, 37, 37, 38]),
-        };
-        let place = if store.kind == Kind::New && place == 36 {
-            37
-        } else {
-            place
+            _ => late_place(store.kind, random),
         };
         put_publisher(store, p, place, random);
+    }
+}
+
+/// A place from 34 on that the kind has.
+fn late_place(kind: Kind, random: &mut Random) -> u64 {
+    match kind {
+        Kind::New => random.pick(&[34, 35, 35, 37, 37, 37, 37, 38]),
+        Kind::Old => random.pick(&[34, 35, 35, 36, 37, 37, 37, 38]),
+        Kind::Rest => random.pick(&[34, 35]),
     }
 }
 
@@ -165,6 +178,7 @@ fn fill_readers(store: &mut Store, calm: bool, tidy: bool, random: &mut Random) 
             _ if calm => 0,
             Kind::New => random.below(6),
             Kind::Old => random.pick(&[0, 1, 4, 5]),
+            Kind::Rest => random.pick(&[0, 5]),
         };
         put_reader(store, r, place, mark, mostly_out, random);
     }
@@ -205,7 +219,7 @@ pub fn put_reader(
         _ => mark,
     };
     let (first, second, published) = (near(), near(), near());
-    let out = mostly_out && !random.one_in(8);
+    let out = mostly_out && kind != Kind::Rest && !random.one_in(8);
     let reader = &mut store.reader[r];
     reader.place = place;
     reader.first = if out && kind == Kind::New {
@@ -224,9 +238,78 @@ pub fn put_reader(
     }
 }
 
+fn fill_participants(store: &mut Store, calm: bool, tidy: bool, random: &mut Random) {
+    let tested = match store.kind {
+        Kind::New | Kind::Old => 0,
+        Kind::Rest => store.publishers as usize,
+    };
+    for p in 0..16 {
+        if p < tested {
+            put_participant(store, p, calm, random);
+        } else if !tidy {
+            store.participant[p] = any_participant(random);
+        }
+    }
+}
+
+/// A record that holds anything, also what a damage test would find.
+fn any_participant(random: &mut Random) -> Participant {
+    let step = random.pick(&[0, 1, 2, 3, 17, 18, 19]);
+    let count = random.pick(&[0, 1, 7, 8, 9]);
+    let (any_step, any_count) = (random.anything(), random.anything());
+    let pairs = std::array::from_fn(|_| Deferred {
+        slot: random.pick(&[0, 1, 2, 31, 32, u64::MAX]),
+        mark: random.anything(),
+    });
+    let (step, count) = match random.below(3) {
+        0 => (any_step, any_count),
+        _ => (step, count),
+    };
+    Participant::packed(step, count, pairs)
+}
+
+/// Participant p with numbers that are undamaged at its places. Its marks are
+/// near the epoch and near the observed epochs, in any order.
+pub fn put_participant(store: &mut Store, p: usize, calm: bool, random: &mut Random) {
+    let last = store.publishers + 1;
+    let step = match random.below(4) {
+        0 | 1 => 0,
+        _ if calm => 0,
+        2 => random.below(last + 1),
+        _ => last,
+    };
+    let at_35 = store.publisher[p].place == 35;
+    let most = MOST_DEFERRED as u64 - u64::from(at_35);
+    let count = match random.below(4) {
+        0 => 0,
+        1 => most,
+        _ => random.below(most + 1),
+    };
+    let deferred = |n: u64, random: &mut Random| Deferred {
+        slot: match n < count {
+            true => up_to_end(store.slots, random),
+            false => random.pick(&[0, 1, store.slots - 1, store.slots, u64::MAX]),
+        },
+        mark: near_epochs(store, random),
+    };
+    let pairs = std::array::from_fn(|n| deferred(n as u64, random));
+    store.participant[p] = Participant::packed(step, count, pairs);
+}
+
+/// A number about the epoch or an observed epoch, or any.
+fn near_epochs(store: &Store, random: &mut Random) -> u64 {
+    let r = random.below(store.readers.min(64)) as usize;
+    let near = match random.below(8) {
+        0 => return random.anything(),
+        1 => store.version,
+        _ => store.reader[r].published,
+    };
+    near.wrapping_add(random.below(3)).wrapping_sub(1)
+}
+
 /// An old store's indicators are those that its readers added to.
 pub fn count_indicators(store: &mut Store) {
-    if store.kind == Kind::New {
+    if store.kind != Kind::Old {
         return;
     }
     store.indicators = [0, 0];

@@ -1,18 +1,114 @@
 //! An input taken apart from its start. Where a fuzzer changes a byte, one
 //! number changes; most bytes give numbers that are in range or near its end.
 
-use second::layout::{publisher_at, VERSION, WORDS};
+use second::call::Name;
+use second::layout::{publisher_at, VERSION, WORDS, WORDS_BEFORE};
 use second::store::{Kind, Pitch, KINDS, NARROW_ENDS, PITCHES, PITCH_ENDS, PITCH_LOW};
 
-/// How an input gives its pitches.
+/// How an input gives its pitches, its kinds, its steps and its words.
 #[derive(Clone, Copy, PartialEq, Eq, Debug)]
 pub enum Form {
-    /// In hundredths of 16 bits, as inputs kept from before do. Ten times as
-    /// many thousandths are lent.
+    /// Pitches in hundredths of 16 bits, as inputs kept from before do. Ten
+    /// times as many thousandths are lent.
     Hundredths,
-    /// In thousandths of 32 bits.
+    /// Pitches in thousandths of 32 bits. Like the form before, it has two
+    /// kinds, ten calls and 425 words.
     Thousandths,
+    /// The same with three kinds, thirteen calls and 713 words.
+    ThreeKinds,
 }
+
+/// What a byte of an input asks for.
+#[derive(Clone, Copy, PartialEq, Eq, Debug)]
+pub enum Step {
+    Make,
+    Call(Name),
+    /// How often the next call is made.
+    Times,
+    PutWord,
+    PutReader,
+    PutPublisher,
+    PutParticipant,
+    CountIndicators,
+    LendWords,
+    LendEntries,
+    /// The call that a reader's, or a publisher's, place allows.
+    ReaderInTurn,
+    PublisherInTurn,
+    /// Each of the calls on the same store.
+    EachCall,
+}
+
+/// The steps of the first two forms.
+const STEPS_BEFORE: [Step; 21] = [
+    Step::Make,
+    Step::Call(Name::Enter),
+    Step::Call(Name::Look),
+    Step::Call(Name::Leave),
+    Step::Call(Name::Claim),
+    Step::Call(Name::Write),
+    Step::Call(Name::Swap),
+    Step::Call(Name::Sync),
+    Step::Call(Name::Raise),
+    Step::Call(Name::Walk),
+    Step::Call(Name::Release),
+    Step::Times,
+    Step::PutWord,
+    Step::PutReader,
+    Step::PutPublisher,
+    Step::CountIndicators,
+    Step::LendWords,
+    Step::LendEntries,
+    Step::ReaderInTurn,
+    Step::PublisherInTurn,
+    Step::EachCall,
+];
+
+const STEPS: [Step; 25] = [
+    Step::Make,
+    Step::Call(Name::Enter),
+    Step::Call(Name::Look),
+    Step::Call(Name::Leave),
+    Step::Call(Name::Claim),
+    Step::Call(Name::Write),
+    Step::Call(Name::Swap),
+    Step::Call(Name::Sync),
+    Step::Call(Name::Raise),
+    Step::Call(Name::Walk),
+    Step::Call(Name::Release),
+    Step::Call(Name::Pick),
+    Step::Call(Name::Checkpoint),
+    Step::Call(Name::Defer),
+    Step::Times,
+    Step::PutWord,
+    Step::PutReader,
+    Step::PutPublisher,
+    Step::PutParticipant,
+    Step::CountIndicators,
+    Step::LendWords,
+    Step::LendEntries,
+    Step::ReaderInTurn,
+    Step::PublisherInTurn,
+    Step::EachCall,
+];
+
+/// No store that is lent has more words than this. In the first two forms
+/// none has more than 900.
+pub const MOST_WORDS: usize = 1500;
+const MOST_WORDS_BEFORE: usize = 900;
+
+/// Lengths at which words are lent, the right one first.
+const LENGTHS_BEFORE: [usize; 8] = [WORDS, 0, 1, 9, WORDS - 1, WORDS + 1, 850, MOST_WORDS_BEFORE];
+const LENGTHS: [usize; 8] = [
+    WORDS,
+    0,
+    1,
+    WORDS_BEFORE,
+    WORDS - 1,
+    WORDS + 1,
+    2 * WORDS,
+    MOST_WORDS,
+];
 
 /// Hundredths in thousandths.
 fn tenfold(hundredths: i16) -> Pitch {
@@ -24,7 +120,7 @@ impl Form {
     pub fn moved(self, pitch: Pitch, by: Pitch) -> Pitch {
         match self {
             Form::Hundredths => tenfold(((pitch / 10) as i16).wrapping_add(by as i16)),
-            Form::Thousandths => pitch.wrapping_add(by),
+            Form::Thousandths | Form::ThreeKinds => pitch.wrapping_add(by),
         }
     }
 
@@ -32,24 +128,94 @@ impl Form {
     pub fn in_range(self, number: u16) -> Pitch {
         let thousandths = match self {
             Form::Hundredths => u64::from(number) % (PITCHES / 10 + 1) * 10,
-            Form::Thousandths => u64::from(number) * (PITCHES - 1) / u64::from(u16::MAX),
+            Form::Thousandths | Form::ThreeKinds => {
+                u64::from(number) * (PITCHES - 1) / u64::from(u16::MAX)
+            }
         };
         thousandths as Pitch + PITCH_LOW
     }
+
+    /// The step that a byte asks for.
+    pub fn step(self, byte: u8) -> Step {
+        let steps = match self {
+            Form::Hundredths | Form::Thousandths => &STEPS_BEFORE[..],
+            Form::ThreeKinds => &STEPS,
+        };
+        steps[usize::from(byte) % steps.len()]
+    }
+
+    /// The calls that steps ask for.
+    pub fn calls(self) -> impl Iterator<Item = Name> {
+        let steps = match self {
+            Form::Hundredths | Form::Thousandths => &STEPS_BEFORE[..],
+            Form::ThreeKinds => &STEPS,
+        };
+        steps.iter().filter_map(|step| match step {
+            Step::Call(name) => Some(*name),
+            _ => None,
+        })
+    }
+
+    /// The kind that a byte gives.
+    pub fn kind(self, byte: u8) -> Kind {
+        let kinds = match self {
+            Form::Hundredths | Form::Thousandths => &[Kind::New, Kind::Old][..],
+            Form::ThreeKinds => &KINDS,
+        };
+        kinds[usize::from(byte) % kinds.len()]
+    }
+
+    /// In the first two forms a kind's number means the kind whatever the
+    /// format: 1 and 2 stand for the numbers of today, and those for 1 and 2,
+    /// which no kind has any more. 19, which no kind had, stands for 3.
+    pub fn kind_number(self, number: u64) -> u64 {
+        let before = |kind: Kind| kind.number_before().unwrap_or(3);
+        let exchanged = |kind: Kind| match number {
+            n if Some(n) == kind.number_before() => Some(kind.number()),
+            n if n == kind.number() => Some(before(kind)),
+            _ => None,
+        };
+        match self {
+            Form::Hundredths | Form::Thousandths => {
+                KINDS.into_iter().find_map(exchanged).unwrap_or(number)
+            }
+            Form::ThreeKinds => number,
+        }
+    }
+
+    /// The word that a number gives.
+    pub fn word(self, number: u16) -> usize {
+        match self {
+            Form::Hundredths | Form::Thousandths => usize::from(number) % WORDS_BEFORE,
+            Form::ThreeKinds => usize::from(number) % WORDS,
+        }
+    }
+
+    /// A likely length of the words.
+    pub fn likely_length(self, byte: u8) -> usize {
+        match self {
+            Form::Hundredths | Form::Thousandths => LENGTHS_BEFORE[usize::from(byte % 8)],
+            Form::ThreeKinds => LENGTHS[usize::from(byte % 8)],
+        }
+    }
+
+    /// Any length of the words. In the first two forms 425 stands for the
+    /// right length of today, and that for 425, which is right no more.
+    pub fn any_length(self, number: u16) -> usize {
+        match self {
+            Form::Hundredths | Form::Thousandths => {
+                match usize::from(number) % (MOST_WORDS_BEFORE + 1) {
+                    WORDS_BEFORE => WORDS,
+                    WORDS => WORDS_BEFORE,
+                    length => length,
+                }
+            }
+            Form::ThreeKinds => usize::from(number) % (MOST_WORDS + 1),
+        }
+    }
 }
 
-/// A kind's number means the kind whatever the format: 1 and 2 stand for the
-/// numbers of today, and those for 1 and 2, which no kind has any more.
-pub fn kind_number(number: u64) -> u64 {
-    let exchanged = |kind: Kind| match number {
-        n if n == kind.number_before() => Some(kind.number()),
-        n if n == kind.number() => Some(kind.number_before()),
-        _ => None,
-    };
-    KINDS.into_iter().find_map(exchanged).unwrap_or(number)
-}
-
-/// What is left of an input, and the form of its pitches.
+/// What is left of an input, and its form.
 pub struct Bytes<'a> {
     rest: &'a [u8],
     pub form: Form,
@@ -94,7 +260,7 @@ impl<'a> Bytes<'a> {
     pub fn pitch(&mut self) -> Pitch {
         match self.form {
             Form::Hundredths => tenfold(self.hundredths()),
-            Form::Thousandths => self.thousandths(),
+            Form::Thousandths | Form::ThreeKinds => self.thousandths(),
         }
     }
 
@@ -124,7 +290,7 @@ impl<'a> Bytes<'a> {
     pub fn move_by(&mut self) -> Pitch {
         match self.form {
             Form::Hundredths => Pitch::from(self.wide() as i16),
-            Form::Thousandths => self.whole(),
+            Form::Thousandths | Form::ThreeKinds => self.whole(),
         }
     }
 
@@ -151,7 +317,8 @@ impl<'a> Bytes<'a> {
 #[cfg(test)]
 mod tests {
     use super::*;
-    use Form::{Hundredths, Thousandths};
+    use second::call::{calls, NAMES};
+    use Form::{Hundredths, Thousandths, ThreeKinds};
 
     fn pitch(form: Form, input: &[u8]) -> Pitch {
         Bytes::new(input, form).pitch()
@@ -177,8 +344,41 @@ mod tests {
         assert_eq!(in_range, [-5000, 95_000, -5000]);
         let by = Bytes::new(&[0xff, 0xff, 9, 9], Hundredths).move_by();
         assert_eq!(Hundredths.moved(90_000, by), 89_990);
-        let kinds = [0, 1, 2, 3, 16, 17, 18, 33, u64::MAX].map(kind_number);
-        assert_eq!(kinds, [0, 17, 18, 3, 16, 1, 2, 33, u64::MAX]);
+        for form in [Hundredths, Thousandths] {
+            let numbers = [0, 1, 2, 3, 4, 16, 17, 18, 19, 33, u64::MAX];
+            let kinds = numbers.map(|number| form.kind_number(number));
+            assert_eq!(kinds, [0, 17, 18, 3, 4, 16, 1, 2, 3, 33, u64::MAX]);
+            assert_eq!((form.kind(198), form.kind(199)), (Kind::New, Kind::Old));
+            assert_eq!((form.word(424), form.word(425)), (424, 0));
+            let lengths = [0, 425, 713, 900, 901].map(|number| form.any_length(number));
+            assert_eq!(lengths, [0, 713, 425, 900, 0]);
+            assert_eq!(form.likely_length(8), 713);
+            let ten: Vec<Name> = NAMES[1..=10].to_vec();
+            assert_eq!(form.calls().collect::<Vec<_>>(), ten);
+            assert_eq!((form.step(0), form.step(20)), (Step::Make, Step::EachCall));
+            assert_eq!(form.step(21), Step::Make);
+            assert_eq!(form.step(10), Step::Call(Name::Release));
+            assert_eq!((form.step(11), form.step(12)), (Step::Times, Step::PutWord));
+            assert_eq!(form.step(31), Step::Call(Name::Release));
+        }
+    }
+
+    #[test]
+    fn three_kinds_have_thirteen_calls() {
+        let form = ThreeKinds;
+        assert!(form.calls().eq(calls()));
+        let kinds = [0, 1, 2, 3].map(|byte| form.kind(byte));
+        assert_eq!(kinds, [Kind::New, Kind::Old, Kind::Rest, Kind::New]);
+        let numbers = [1, 3, 17, 19].map(|number| form.kind_number(number));
+        assert_eq!(numbers, [1, 3, 17, 19]);
+        assert_eq!((form.word(712), form.word(713)), (712, 0));
+        assert_eq!((form.any_length(425), form.any_length(1500)), (425, 1500));
+        assert_eq!((form.likely_length(0), form.likely_length(3)), (713, 425));
+        for step in STEPS_BEFORE {
+            assert!(STEPS.contains(&step), "{step:?}");
+        }
+        assert_eq!(pitch(form, &[0]), pitch(Thousandths, &[0]));
+        assert_eq!(form.moved(Pitch::MAX, 1), Pitch::MIN);
     }
 
     #[test]

@@ -1,20 +1,20 @@
 //! Surface A: an input as words, lengths and calls, on the library and on
 //! the second implementation.
 
-use crate::bytes::{kind_number, Bytes, Form};
+use crate::bytes::{Bytes, Form, Step, MOST_WORDS};
 use crate::seen::Cell;
 use crate::slices::{Lent, Side};
-use second::call::{Call, Numbers, Reply, CALL_NAMES};
+use second::call::{Call, Name, Numbers, Reply, Whom};
 use second::damage::{Clause, CLAUSES};
 use second::demand3::Demand3;
 use second::layout::{
-    self, publisher_at, reader_at, INDICATOR_0, INDICATOR_1, KIND, PUBLISHER, PUBLISHERS, READER,
-    READERS, SLOTS, WORDS,
+    self, pair_at, publisher_at, reader_at, step_at, COUNTS, INDICATOR_0, INDICATOR_1, KIND, PAIRS,
+    PUBLISHER, PUBLISHERS, READER, READERS, SLOTS, WORDS,
 };
 use second::lent;
 use second::making::Making;
 use second::rules::Rules;
-use second::store::{Kind, Pitch, FEATHERED, KINDS, PITCH_HIGH, PITCH_LOW, STEP_MOST, TABLE};
+use second::store::{Kind, Pitch, FEATHERED, PITCH_HIGH, PITCH_LOW, STEP_MOST, TABLE};
 use std::fmt;
 
 /// The library: the lent slices and a call.
@@ -25,19 +25,25 @@ pub type Library = unsafe fn(Lent, &Call) -> Numbers;
 const CARD: &[u8] = b"card";
 /// The same, and its pitches are given in thousandths.
 const WIDE: &[u8] = b"wide";
+/// The same, with three kinds, thirteen calls and all the words.
+const REST: &[u8] = b"rest";
 const LEND_TABLE: u8 = 255;
 
-/// What follows the marker, with the form of its pitches, and whether first
-/// tables are lent.
+/// What follows the marker, with its form, and whether first tables are lent.
 fn marked(input: &[u8]) -> (Bytes<'_>, bool) {
-    match (input.strip_prefix(CARD), input.strip_prefix(WIDE)) {
-        (Some(rest), _) => (Bytes::new(rest, Form::Hundredths), true),
-        (_, Some(rest)) => (Bytes::new(rest, Form::Thousandths), true),
-        _ => (Bytes::new(input, Form::Hundredths), false),
+    let markers = [
+        (CARD, Form::Hundredths),
+        (WIDE, Form::Thousandths),
+        (REST, Form::ThreeKinds),
+    ];
+    for (marker, form) in markers {
+        if let Some(rest) = input.strip_prefix(marker) {
+            return (Bytes::new(rest, form), true);
+        }
     }
+    (Bytes::new(input, Form::Hundredths), false)
 }
 
-const MOST_WORDS: usize = 900;
 const MOST_ENTRIES: usize = 1100;
 /// An input makes no more calls than this.
 const MOST_CALLS: u64 = 3000;
@@ -90,7 +96,7 @@ pub fn play(
     while let Some(step) = played.bytes.next() {
         match step {
             LEND_TABLE if lends_tables => played.lend_table(),
-            _ => played.step(usize::from(step), seen)?,
+            _ => played.step(played.bytes.form.step(step), seen)?,
         }
         if played.calls >= MOST_CALLS {
             break;
@@ -100,45 +106,38 @@ pub fn play(
 }
 
 impl Played<'_> {
-    fn step(&mut self, step: usize, seen: &mut dyn FnMut(Cell)) -> Result<(), Difference> {
-        const STEPS: usize = CALL_NAMES.len() + 10;
-        match step % STEPS {
-            0 => {
+    fn step(&mut self, step: Step, seen: &mut dyn FnMut(Cell)) -> Result<(), Difference> {
+        match step {
+            Step::Make => {
                 let making = self.making();
-                self.call(&making, seen).map(|_| ())
+                self.call(&making, seen)?;
             }
-            index @ 1..=10 => {
-                let call = self.ask(index);
-                self.call_times(call, seen)
+            Step::Call(name) => {
+                let call = self.ask(name);
+                self.call_times(call, seen)?;
             }
-            11 => {
-                self.times = 1 + u16::from(self.bytes.byte() % 64);
-                Ok(())
-            }
-            18 => self.reader_in_turn(seen),
-            19 => self.publisher_in_turn(seen),
-            20 => self.each_call(seen),
-            other => {
-                self.list = None;
-                match other {
-                    12 => self.put_word(),
-                    13 => self.put_reader(),
-                    14 => self.put_publisher(),
-                    15 => self.count_indicators(),
-                    16 => self.lend_words(),
-                    _ => self.lend_entries(),
-                }
-                Ok(())
-            }
+            Step::Times => self.times = 1 + u16::from(self.bytes.byte() % 64),
+            Step::ReaderInTurn => self.reader_in_turn(seen)?,
+            Step::PublisherInTurn => self.publisher_in_turn(seen)?,
+            Step::EachCall => self.each_call(seen)?,
+            Step::PutWord => self.put_word(),
+            Step::PutReader => self.put_reader(),
+            Step::PutPublisher => self.put_publisher(),
+            Step::PutParticipant => self.put_participant(),
+            Step::CountIndicators => self.count_indicators(),
+            Step::LendWords => self.lend_words(),
+            Step::LendEntries => self.lend_entries(),
         }
+        Ok(())
     }
 
     /// A making; three times in four beside entries of the length due.
     fn making(&mut self) -> Call {
+        let form = self.bytes.form;
         let kind = match self.bytes.byte() {
-            byte @ 0..=199 => KINDS[usize::from(byte) % KINDS.len()].number() as u16,
-            byte @ 200..=249 => kind_number(u64::from(byte) - 200) as u16,
-            _ => kind_number(u64::from(self.bytes.wide())) as u16,
+            byte @ 0..=199 => form.kind(byte).number() as u16,
+            byte @ 200..=249 => form.kind_number(u64::from(byte) - 200) as u16,
+            _ => form.kind_number(u64::from(self.bytes.wide())) as u16,
         };
         let readers = self.bytes.within(1, 64);
         let publishers = self.bytes.within(1, 16);
@@ -165,35 +164,45 @@ impl Played<'_> {
         self.words[word].clamp(1, most) as u16
     }
 
-    /// The call of this index with arguments from the input.
-    fn ask(&mut self, index: usize) -> Call {
+    /// The call of this name with arguments from the input.
+    fn ask(&mut self, name: Name) -> Call {
         let (readers, publishers) = (self.size(READERS, 64), self.size(PUBLISHERS, 16));
         let slots = self.size(SLOTS, 32);
         let bytes = &mut self.bytes;
-        let n = bytes.within(0, if index <= 3 { readers } else { publishers });
-        match index {
-            1 => Call::Enter { r: n },
-            2 => Call::Look {
+        let n = bytes.within(
+            0,
+            match name.whom() {
+                Whom::Reader => readers,
+                Whom::Publisher | Whom::Nobody => publishers,
+            },
+        );
+        match name {
+            Name::Store => unreachable!("making is a step of its own"),
+            Name::Enter => Call::Enter { r: n },
+            Name::Look => Call::Look {
                 r: n,
                 k: bytes.within(0, 32),
             },
-            3 => Call::Leave { r: n },
-            4 => Call::Claim {
+            Name::Leave => Call::Leave { r: n },
+            Name::Claim => Call::Claim {
                 p: n,
                 s: bytes.within(0, slots),
             },
-            5 => Call::Write {
+            Name::Write => Call::Write {
                 p: n,
                 v: bytes.pitch(),
             },
-            6 => Call::Swap { p: n },
-            7 => Call::Sync { p: n },
-            8 => Call::Raise { p: n },
-            9 => Call::Walk {
+            Name::Swap => Call::Swap { p: n },
+            Name::Sync => Call::Sync { p: n },
+            Name::Raise => Call::Raise { p: n },
+            Name::Walk => Call::Walk {
                 p: n,
                 b: bytes.within(0, readers + 2),
             },
-            _ => Call::Release { p: n },
+            Name::Release => Call::Release { p: n },
+            Name::Pick => Call::Pick { r: n },
+            Name::Checkpoint => Call::Checkpoint { r: n },
+            Name::Defer => Call::Defer { p: n },
         }
     }
 
@@ -209,80 +218,103 @@ impl Played<'_> {
         Ok(())
     }
 
-    /// The call of this index by this name, with arguments in range.
-    fn in_range(&self, index: usize, n: u16, wide: u16) -> Call {
+    /// The call of this name by this number, with arguments in range.
+    fn in_range(&self, name: Name, n: u16, wide: u16) -> Call {
         let readers = self.size(READERS, 64);
         let (r, p) = (n % readers, n % self.size(PUBLISHERS, 16));
-        match index {
-            1 => Call::Enter { r },
-            2 => Call::Look {
+        match name {
+            Name::Store => unreachable!("making is a step of its own"),
+            Name::Enter => Call::Enter { r },
+            Name::Look => Call::Look {
                 r,
                 k: wide / 2 % 32,
             },
-            3 => Call::Leave { r },
-            4 => Call::Claim {
+            Name::Leave => Call::Leave { r },
+            Name::Claim => Call::Claim {
                 p,
                 s: wide % self.size(SLOTS, 32),
             },
-            5 => Call::Write {
+            Name::Write => Call::Write {
                 p,
                 v: self.bytes.form.in_range(wide),
             },
-            6 => Call::Swap { p },
-            7 => Call::Sync { p },
-            8 => Call::Raise { p },
-            9 => Call::Walk {
+            Name::Swap => Call::Swap { p },
+            Name::Sync => Call::Sync { p },
+            Name::Raise => Call::Raise { p },
+            Name::Walk => Call::Walk {
                 p,
                 b: wide % (readers + 2),
             },
-            _ => Call::Release { p },
+            Name::Release => Call::Release { p },
+            Name::Pick => Call::Pick { r },
+            Name::Checkpoint => Call::Checkpoint { r },
+            Name::Defer => Call::Defer { p },
         }
+    }
+
+    fn kind(&self) -> Option<Kind> {
+        Kind::from_number(self.words[KIND])
     }
 
     /// The call that this reader's place allows, as often as was asked for.
     fn reader_in_turn(&mut self, seen: &mut dyn FnMut(Cell)) -> Result<(), Difference> {
         let (n, wide) = (u16::from(self.bytes.byte()), self.bytes.wide());
-        let at = reader_at(usize::from(n % self.size(READERS, 64)));
+        let r = usize::from(n % self.size(READERS, 64));
         for _ in 0..std::mem::replace(&mut self.times, 1) {
-            let index = match self.words[at] {
-                4 if wide % 8 == 0 => 3,
-                5 if wide % 2 == 0 => 3,
-                5 => 2,
-                _ => 1,
+            let name = match (self.kind(), self.words[reader_at(r)]) {
+                (Some(Kind::Rest), place) => self.participant_reads(r, place, wide),
+                (_, 4) if wide % 8 == 0 => Name::Leave,
+                (_, 5) if wide % 2 == 0 => Name::Leave,
+                (_, 5) => Name::Look,
+                _ => Name::Enter,
             };
-            self.call(&self.in_range(index, n, wide), seen)?;
+            self.call(&self.in_range(name, n, wide), seen)?;
         }
         Ok(())
+    }
+
+    /// What a rest store's participant does as a reader.
+    fn participant_reads(&self, r: usize, place: u64, wide: u16) -> Name {
+        let p = r.min(15);
+        match (self.words[step_at(p)], place) {
+            _ if self.words[publisher_at(p)] == 35 => Name::Defer,
+            (1.., _) => Name::Checkpoint,
+            (0, 5) if wide % 4 > 1 => Name::Look,
+            (0, _) if wide % 2 == 0 => Name::Checkpoint,
+            (0, _) => Name::Pick,
+        }
     }
 
     /// The call that this publisher's place allows, likewise. The entries of
     /// a table differ.
     fn publisher_in_turn(&mut self, seen: &mut dyn FnMut(Cell)) -> Result<(), Difference> {
         let (n, wide) = (u16::from(self.bytes.byte()), self.bytes.wide());
-        let at = publisher_at(usize::from(n % self.size(PUBLISHERS, 16)));
+        let p = usize::from(n % self.size(PUBLISHERS, 16));
         for time in 0..std::mem::replace(&mut self.times, 1) {
-            let index = match (self.words[at], Kind::from_number(self.words[KIND])) {
-                (0, _) => 4,
-                (1..=32, _) => 5,
-                (33, _) => 6,
-                (34, _) => 7,
-                (37, _) | (35, Some(Kind::Old)) => 9,
-                (35 | 36, _) => 8,
-                _ => 10,
+            let name = match (self.words[publisher_at(p)], self.kind()) {
+                (0, _) => Name::Claim,
+                (1..=32, _) => Name::Write,
+                (33, _) => Name::Swap,
+                (34.., Some(Kind::Rest)) if self.words[step_at(p)] != 0 => Name::Checkpoint,
+                (34.., Some(Kind::Rest)) => Name::Defer,
+                (34, _) => Name::Sync,
+                (37, _) | (35, Some(Kind::Old)) => Name::Walk,
+                (35 | 36, _) => Name::Raise,
+                _ => Name::Release,
             };
-            let wide = wide.wrapping_add(if index == 5 { time } else { 0 });
-            self.call(&self.in_range(index, n, wide), seen)?;
+            let wide = wide.wrapping_add(if name == Name::Write { time } else { 0 });
+            self.call(&self.in_range(name, n, wide), seen)?;
         }
         Ok(())
     }
 
-    /// Each of the ten calls on the same store.
+    /// Each of the form's calls on the same store.
     fn each_call(&mut self, seen: &mut dyn FnMut(Cell)) -> Result<(), Difference> {
         self.list = None;
         let (n, wide) = (u16::from(self.bytes.byte()), self.bytes.wide());
         let (words, entries) = (self.words, self.library.entries.lent().to_vec());
-        for index in 1..=10 {
-            if self.call(&self.in_range(index, n, wide), seen)?.accepted() {
+        for name in self.bytes.form.calls() {
+            if self.call(&self.in_range(name, n, wide), seen)?.accepted() {
                 self.words = words;
                 self.set_words(WORDS);
                 self.set_entries(&entries);
@@ -292,8 +324,8 @@ impl Played<'_> {
     }
 
     fn put_word(&mut self) {
-        let at = usize::from(self.bytes.wide()) % WORDS;
-        self.put_numbers(at, 1);
+        let number = self.bytes.wide();
+        self.put_numbers(self.bytes.form.word(number), 1);
     }
 
     fn put_reader(&mut self) {
@@ -306,12 +338,21 @@ impl Played<'_> {
         self.put_numbers(publisher_at(p), PUBLISHER);
     }
 
+    /// A step and a count, and so many of the pairs as a byte says.
+    fn put_participant(&mut self) {
+        let p = usize::from(self.bytes.byte() % 16);
+        let pairs = usize::from(self.bytes.byte()) % (PAIRS + 1);
+        self.put_numbers(step_at(p), COUNTS);
+        self.put_numbers(pair_at(p, 0), pairs);
+    }
+
     /// So many numbers from this word on.
     fn put_numbers(&mut self, at: usize, count: usize) {
+        self.list = None;
         for word in at..at + count {
             let number = self.bytes.number(&self.words);
             self.words[word] = match word {
-                KIND => kind_number(number),
+                KIND => self.bytes.form.kind_number(number),
                 _ => number,
             };
         }
@@ -320,6 +361,7 @@ impl Played<'_> {
 
     /// Both indicators as the readers have them.
     fn count_indicators(&mut self) {
+        self.list = None;
         let readers = self.words[READERS].min(64) as usize;
         (self.words[INDICATOR_0], self.words[INDICATOR_1]) = (0, 0);
         for at in (0..readers).map(reader_at) {
@@ -333,16 +375,17 @@ impl Played<'_> {
 
     /// The words at a length: a likely one, none with a null pointer, or any.
     fn lend_words(&mut self) {
-        const LENGTHS: [usize; 8] = [WORDS, 0, 1, 9, WORDS - 1, WORDS + 1, 850, MOST_WORDS];
+        self.list = None;
+        let form = self.bytes.form;
         match self.bytes.byte() {
-            byte @ 0..=199 => self.set_words(LENGTHS[usize::from(byte % 8)]),
+            byte @ 0..=199 => self.set_words(form.likely_length(byte)),
             200..=219 => {
                 self.library.words.set_null();
                 self.second.words.set_null();
             }
             _ => {
-                let length = usize::from(self.bytes.wide()) % (MOST_WORDS + 1);
-                self.set_words(length);
+                let number = self.bytes.wide();
+                self.set_words(form.any_length(number));
             }
         }
     }
@@ -350,6 +393,7 @@ impl Played<'_> {
     /// Entries at a length: the one due, near it, none with a null pointer,
     /// or any.
     fn lend_entries(&mut self) {
+        self.list = None;
         let due = self.words[SLOTS].min(32) as usize * 32;
         let length = match self.bytes.byte() {
             0..=99 => due,
@@ -446,7 +490,8 @@ impl Played<'_> {
     /// The call on both sides, and the comparison.
     fn call(&mut self, call: &Call, seen: &mut dyn FnMut(Cell)) -> Result<Reply, Difference> {
         self.calls += 1;
-        let (kind, place) = (self.kind_called(call), self.place_called(call));
+        let kind = self.kind_called(call);
+        let place = self.place_called(kind, call);
         // The guarded cells are lent for the time of the call.
         let numbers = unsafe { (self.call_library)(self.library.lent(), call) };
         let side = &mut self.second;
@@ -464,7 +509,7 @@ impl Played<'_> {
             40..=42 => table_place(self.second.table.lent(), numbers.code),
             _ => place,
         };
-        seen(Cell::new(kind, call.index(), from, numbers.code));
+        seen(Cell::new(kind, call.name(), from, numbers.code));
         let kept = self.keep_list(call, reply);
         match kept {
             Ok(()) => Ok(reply),
@@ -497,21 +542,38 @@ impl Played<'_> {
     /// The kind given to a making, or the kind in word 0.
     fn kind_called(&self, call: &Call) -> Option<Kind> {
         let words = self.lent_words()?;
-        match call {
-            Call::Make { kind, .. } => Kind::from_number(u64::from(*kind)),
-            _ => Kind::from_number(words[KIND]),
+        if let Call::Make { kind, .. } = call {
+            return Kind::from_number(u64::from(*kind));
         }
+        Kind::from_number(words[KIND])
     }
 
     /// The place, before the call, of the reader or publisher that it names.
-    fn place_called(&self, call: &Call) -> Option<u64> {
+    /// For a rest store's own calls it says where a participant stands.
+    fn place_called(&self, kind: Option<Kind>, call: &Call) -> Option<u64> {
         let words = self.lent_words()?;
         let within = |n: u16, size: usize, most: u64| u64::from(n) < words[size].min(most);
-        if let Some(r) = call.reader().filter(|&r| within(r, READERS, 64)) {
-            return Some(words[reader_at(usize::from(r))]);
+        let reader = call.reader().filter(|&r| within(r, READERS, 64));
+        let publisher = call.publisher().filter(|&p| within(p, PUBLISHERS, 16));
+        let n = usize::from(reader.or(publisher)?);
+        let place = match reader {
+            Some(_) => words[reader_at(n)],
+            None => words[publisher_at(n)],
+        };
+        if kind != Some(Kind::Rest) || n > 15 {
+            return Some(place);
         }
-        let p = call.publisher().filter(|&p| within(p, PUBLISHERS, 16))?;
-        Some(words[publisher_at(usize::from(p))])
+        let (step, at_35) = (words[step_at(n)].min(18), words[publisher_at(n)] == 35);
+        Some(match call.name() {
+            Name::Checkpoint if at_35 => 35,
+            Name::Checkpoint => step,
+            Name::Pick if at_35 => 35,
+            Name::Pick | Name::Look if step != 0 => 6 + step,
+            Name::Defer | Name::Claim if step != 0 => 36 + u64::from(place == 34),
+            Name::Store | Name::Look | Name::Claim | Name::Write | Name::Swap => place,
+            Name::Enter | Name::Leave | Name::Sync | Name::Raise | Name::Walk => place,
+            Name::Release | Name::Pick | Name::Defer => place,
+        })
     }
 
     /// The clause that spoils the store by itself.
@@ -623,6 +685,7 @@ mod tests {
         };
         assert_eq!(marks(b"card7"), (Form::Hundredths, true, Some(b'7')));
         assert_eq!(marks(b"wide7"), (Form::Thousandths, true, Some(b'7')));
+        assert_eq!(marks(b"rest7"), (Form::ThreeKinds, true, Some(b'7')));
         assert_eq!(marks(b"7wide"), (Form::Hundredths, false, Some(b'7')));
     }
 }

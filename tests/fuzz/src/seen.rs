@@ -1,38 +1,39 @@
 //! What inputs have reached: which call of which kind, from which place, got
 //! which answer.
 
-use second::call::CALL_NAMES;
+use second::call::{calls, calls_lacked_by, calls_of, Name, NAMES};
 use second::damage::CLAUSES;
 use second::store::{Kind, KINDS};
 
 /// Every code of a reply, and 0 for a line that was unread.
-const CODES: [u64; 36] = [
-    0, 1, 2, 3, 4, 5, 6, 10, 11, 12, 13, 14, 20, 21, 30, 31, 32, 33, 40, 41, 42, 100, 101, 102,
-    103, 104, 105, 106, 107, 108, 109, 110, 111, 112, 113, 114,
+const CODES: [u64; 39] = [
+    0, 1, 2, 3, 4, 5, 6, 10, 11, 12, 13, 14, 20, 21, 30, 31, 32, 33, 40, 41, 42, 43, 44, 100, 101,
+    102, 103, 104, 105, 106, 107, 108, 109, 110, 111, 112, 113, 114, 115,
 ];
 const PLACES: usize = 40;
 
 /// How many cells there are.
-pub const CELLS: usize = (1 + KINDS.len()) * CALL_NAMES.len() * PLACES * CODES.len();
+pub const CELLS: usize = (1 + KINDS.len()) * NAMES.len() * PLACES * CODES.len();
 
-/// What was answered: the kind, the call's number and the code.
-pub type Answer = (Option<Kind>, usize, u64);
+/// What was answered: the kind, the call and the code.
+pub type Answer = (Option<Kind>, Name, u64);
 
 /// One call and its answer.
 #[derive(Clone, Copy, PartialEq, Eq, PartialOrd, Ord, Debug)]
 pub struct Cell {
     kind: Option<Kind>,
-    call: usize,
+    call: Name,
     place: usize,
     code: u64,
 }
 
 impl Cell {
-    /// The place is that of the reader or publisher named, before the call;
+    /// The place is that of the reader or publisher named, before the call,
+    /// or where it stands in its checkpoint;
     /// with code 1, the number of the clause that spoils the store alone;
     /// with 40 the length of the first table, with 41 and 42 where it is
     /// refused.
-    pub fn new(kind: Option<Kind>, call: usize, place: Option<u64>, code: u64) -> Cell {
+    pub fn new(kind: Option<Kind>, call: Name, place: Option<u64>, code: u64) -> Cell {
         let beyond = PLACES - 1;
         Cell {
             kind,
@@ -42,17 +43,23 @@ impl Cell {
         }
     }
 
-    /// An unread line.
+    /// An unread line, which is misshapen.
     pub fn unread() -> Cell {
-        Cell::new(None, 0, None, 0)
+        Cell::new(None, Name::Store, None, 0)
+    }
+
+    /// A line that is unread because the made store's kind lacks the call.
+    pub fn lacked(kind: Kind, call: Name) -> Cell {
+        Cell::new(Some(kind), call, None, 0)
     }
 
     /// The cell's number, below `CELLS`.
     pub fn index(&self) -> usize {
         let code = CODES.iter().position(|&code| code == self.code);
+        let code = code.expect("every code is listed");
         let kind = self.kind.map_or(0, |kind| 1 + kind as usize);
-        let row = kind * CALL_NAMES.len() + self.call;
-        (row * PLACES + self.place) * CODES.len() + code.unwrap_or(0)
+        let row = kind * NAMES.len() + self.call.index();
+        (row * PLACES + self.place) * CODES.len() + code
     }
 
     /// The cell without its place: kind, call and code.
@@ -62,13 +69,13 @@ impl Cell {
 }
 
 /// Each answer that the C calls can give and none of these cells has, and
-/// each clause that alone spoils no store for one of the ten calls.
+/// each clause that alone spoils no store for one of the kind's calls.
 pub fn missing_of_calls(cells: &[Cell]) -> Vec<String> {
     let mut missing = missing(cells, needed(|_, _| true));
     for kind in KINDS {
         for clause in CLAUSES.into_iter().filter(|clause| clause.of(kind)) {
-            for (call, name) in CALL_NAMES.iter().enumerate().skip(1) {
-                let cell = Cell::new(Some(kind), call, Some(clause as u64), 1);
+            for name in calls_of(kind) {
+                let cell = Cell::new(Some(kind), name, Some(clause as u64), 1);
                 if !cells.contains(&cell) {
                     missing.push(format!("{kind}, {name}: spoiled by {clause:?} alone"));
                 }
@@ -87,15 +94,19 @@ pub fn missing_of_sheets(cells: &[Cell]) -> Vec<String> {
         109 => kind == Kind::New,
         _ => true,
     });
-    wanted.extend((1..CALL_NAMES.len()).map(|call| (None, call, 1)));
+    wanted.extend(calls().map(|call| (None, call, 1)));
     wanted.push(Cell::unread().answer());
+    for kind in KINDS {
+        let lacked = calls_lacked_by(kind);
+        wanted.extend(lacked.map(|call| Cell::lacked(kind, call).answer()));
+    }
     missing(cells, wanted)
 }
 
 fn needed(can: fn(Kind, u64) -> bool) -> Vec<Answer> {
     let mut needed = Vec::new();
     for kind in KINDS {
-        for call in 0..CALL_NAMES.len() {
+        for call in NAMES {
             let codes = codes(call, kind).iter().copied();
             let met = codes.filter(|&code| can(kind, code));
             needed.extend(met.map(|code| (Some(kind), call, code)));
@@ -108,26 +119,69 @@ fn missing(cells: &[Cell], mut wanted: Vec<Answer>) -> Vec<String> {
     wanted.retain(|answer| !cells.iter().any(|cell| cell.answer() == *answer));
     let name = |(kind, call, code): Answer| {
         let kind = kind.map_or("no kind".to_string(), |kind| kind.to_string());
-        format!("{kind}, {}: {code}", CALL_NAMES[call])
+        format!("{kind}, {call}: {code}")
     };
     wanted.into_iter().map(name).collect()
 }
 
 /// The codes that this call can give on a store of this kind.
-fn codes(call: usize, kind: Kind) -> &'static [u64] {
+fn codes(call: Name, kind: Kind) -> &'static [u64] {
+    if !call.of(kind) {
+        return &[1];
+    }
     match (call, kind) {
-        (0, _) => &[2, 3, 4, 5, 6, 40, 41, 42, 100],
-        (1, _) => &[1, 10, 20, 101],
-        (2, _) => &[1, 10, 13, 20, 102],
-        (3, _) => &[1, 10, 20, 103],
-        (4, Kind::New) => &[1, 11, 12, 21, 30, 104],
-        (4, Kind::Old) => &[1, 11, 12, 21, 30, 31, 104],
-        (5, _) => &[1, 11, 14, 21, 105],
-        (6, _) => &[1, 11, 21, 106],
-        (7, _) => &[1, 11, 21, 32, 107],
-        (8, _) => &[1, 11, 21, 108, 109],
-        (9, Kind::New) => &[1, 11, 21, 33, 110, 111, 113],
-        (9, Kind::Old) => &[1, 11, 21, 33, 110, 111, 112, 113],
-        _ => &[1, 11, 21, 114],
+        (Name::Store, Kind::New | Kind::Old) => &[2, 3, 4, 5, 6, 40, 41, 42, 100],
+        (Name::Store, Kind::Rest) => &[2, 3, 4, 5, 40, 41, 42, 100],
+        (Name::Enter, _) => &[1, 10, 20, 101],
+        (Name::Look, _) => &[1, 10, 13, 20, 102],
+        (Name::Leave, _) => &[1, 10, 20, 103],
+        (Name::Claim, Kind::New | Kind::Rest) => &[1, 11, 12, 21, 30, 104],
+        (Name::Claim, Kind::Old) => &[1, 11, 12, 21, 30, 31, 104],
+        (Name::Write, _) => &[1, 11, 14, 21, 105],
+        (Name::Swap, _) => &[1, 11, 21, 106],
+        (Name::Sync, _) => &[1, 11, 21, 32, 107],
+        (Name::Raise, _) => &[1, 11, 21, 108, 109],
+        (Name::Walk, Kind::New | Kind::Rest) => &[1, 11, 21, 33, 110, 111, 113],
+        (Name::Walk, Kind::Old) => &[1, 11, 21, 33, 110, 111, 112, 113],
+        (Name::Release, _) => &[1, 11, 21, 114],
+        (Name::Pick, _) => &[1, 10, 20, 115],
+        (Name::Checkpoint, _) => &[1, 10, 20, 101],
+        (Name::Defer, _) => &[1, 11, 21, 43, 44, 101],
+    }
+}
+
+#[cfg(test)]
+mod tests {
+    use super::*;
+
+    /// What a kind adds is missing until some cell has it.
+    #[test]
+    fn answers_are_missing_until_they_are_reached() {
+        let missing = missing_of_calls(&[]);
+        let lacks = |what: &str| missing.iter().any(|line| line == what);
+        assert!(lacks("rest, defer: 43") && lacks("rest, defer: 44") && lacks("rest, pick: 115"));
+        assert!(lacks("rest, enter: 1") && lacks("old, pick: 1") && !lacks("old, pick: 20"));
+        assert!(lacks("rest, checkpoint: spoiled by Step alone"));
+        assert!(!lacks("rest, enter: spoiled by Step alone"));
+        assert!(!lacks("rest, store: 6") && !lacks("rest, claim: 31"));
+        let cell = Cell::new(Some(Kind::Rest), Name::Defer, Some(34), 43);
+        assert_eq!(missing_of_calls(&[cell]).len() + 1, missing.len());
+        let sheets = missing_of_sheets(&[]);
+        let lacks = |what: &str| sheets.iter().any(|line| line == what);
+        assert!(lacks("rest, enter: 0") && lacks("new, defer: 0") && !lacks("rest, defer: 0"));
+        assert!(lacks("rest, defer: 44") && lacks("no kind, pick: 1") && !lacks("rest, pick: 1"));
+    }
+
+    #[test]
+    fn cells_have_numbers_of_their_own() {
+        let mut indexes = std::collections::BTreeSet::new();
+        for kind in KINDS.into_iter().map(Some).chain([None]) {
+            for call in NAMES {
+                for code in CODES {
+                    let index = Cell::new(kind, call, Some(7), code).index();
+                    assert!(index < CELLS && indexes.insert(index));
+                }
+            }
+        }
     }
 }

@@ -117,15 +117,22 @@ pub fn note(table: &[Pitch], text: &[u8], seen: &mut dyn FnMut(Cell)) {
     let mut sheet = Sheet::new(table, Rules::AS_WRITTEN);
     for line in lines(text) {
         let before = sheet.kind();
-        let (Some(call), Some(reply)) = (read(line), sheet.reply(line)) else {
+        let Some(call) = read(line) else {
             seen(Cell::unread());
             continue;
         };
-        let kind = match call {
-            Call::Make { kind, .. } => Kind::from_number(u64::from(kind)),
-            _ => before,
-        };
-        seen(Cell::new(kind, call.index(), None, reply.numbers().code));
+        let mut kind = before;
+        if let Call::Make { kind: number, .. } = call {
+            kind = Kind::from_number(u64::from(number));
+        }
+        match (sheet.reply(line), kind) {
+            (Some(reply), _) => {
+                let code = reply.numbers().code;
+                seen(Cell::new(kind, call.name(), None, code));
+            }
+            (None, Some(kind)) => seen(Cell::lacked(kind, call.name())),
+            (None, None) => unreachable!("before a made store every call is read"),
+        }
     }
 }
 

@@ -8,23 +8,23 @@ use crate::layout::WORDS;
 use crate::lent;
 use crate::making::Making;
 use crate::rules::{Alteration, Rules};
-use crate::store::{Kind, Pitch, KINDS};
+use crate::store::{Kind, Pitch};
 
 /// The first table of every example.
 const FIRST: [Pitch; 32] = [90_000; 32];
 
 /// A store being played, with everything that went otherwise than told.
-struct Play {
+pub struct Play {
     rules: Rules,
-    words: [u64; WORDS],
+    pub words: [u64; WORDS],
     entries: Vec<Pitch>,
     lines: Vec<String>,
-    wrong: Vec<String>,
+    pub wrong: Vec<String>,
     demand3: Option<Demand3>,
 }
 
 impl Play {
-    fn fresh(rules: Rules, kind: Kind, sizes: (u16, u16, u16), version: u64) -> Play {
+    pub fn fresh(rules: Rules, kind: Kind, sizes: (u16, u16, u16), version: u64) -> Play {
         let (readers, publishers, slots) = sizes;
         let mut play = Play {
             rules,
@@ -49,7 +49,7 @@ impl Play {
     }
 
     /// Makes the call and notes if the reply is not this one.
-    fn says(&mut self, call: Call, due: &str) {
+    pub fn says(&mut self, call: Call, due: &str) {
         let (words, entries) = (&mut self.words, &mut self.entries);
         let reply = lent::call(words, entries, &FIRST, &call, self.rules);
         self.lines
@@ -68,7 +68,7 @@ impl Play {
         }
     }
 
-    fn note(&mut self, right: bool, text: &str) {
+    pub fn note(&mut self, right: bool, text: &str) {
         if !right {
             self.wrong.push(text.to_string());
         }
@@ -82,7 +82,7 @@ impl Play {
     }
 
     /// CLAIM and the first n WRITEs of the pitch v.
-    fn writes(&mut self, p: u16, s: u16, n: u64, v: Pitch) {
+    pub fn writes(&mut self, p: u16, s: u16, n: u64, v: Pitch) {
         self.says(Call::Claim { p, s }, &format!("claimed {s}"));
         for written in 1..=n {
             self.says(Call::Write { p, v }, &format!("written {written}"));
@@ -90,7 +90,7 @@ impl Play {
     }
 
     /// From CLAIM to SWAP, which hands out the former slot.
-    fn swaps(&mut self, p: u16, s: u16, v: Pitch, former: u16) {
+    pub fn swaps(&mut self, p: u16, s: u16, v: Pitch, former: u16) {
         self.writes(p, s, 32, v);
         self.says(Call::Swap { p }, &format!("swapped {former}"));
     }
@@ -216,7 +216,7 @@ fn p5(rules: Rules) -> Vec<String> {
 
 fn p6(rules: Rules) -> Vec<String> {
     let mut wrong = Vec::new();
-    for kind in KINDS {
+    for kind in [Kind::New, Kind::Old] {
         let mut play = Play::fresh(rules, kind, (1, 1, 2), 0);
         play.swaps(0, 1, 100, 0);
         play.says(Call::Sync { p: 0 }, "synced 1");
@@ -308,7 +308,7 @@ fn p12(rules: Rules) -> Vec<String> {
     play.wrong
 }
 
-type Example = fn(Rules) -> Vec<String>;
+pub type Example = fn(Rules) -> Vec<String>;
 
 const EXAMPLES: [(&str, Example); 12] = [
     ("P1", p1),
@@ -417,14 +417,19 @@ fn examples_fall_under_altered_rules() {
         ("P12", p12, &[A::LeavesAtThree, A::LeavesAtFiveOnly]),
     ];
     for (name, example, alterations) in against {
-        for &alteration in alterations {
-            let wrong = example(Rules::altered(alteration));
-            assert!(
-                !wrong.is_empty(),
-                "{name} stands with {}",
-                alteration.name()
-            );
-        }
+        falls(name, example, alterations);
+    }
+}
+
+/// The example stands under none of these alterations.
+pub fn falls(name: &str, example: Example, alterations: &[Alteration]) {
+    for &alteration in alterations {
+        let wrong = example(Rules::altered(alteration));
+        assert!(
+            !wrong.is_empty(),
+            "{name} stands with {}",
+            alteration.name()
+        );
     }
 }
 

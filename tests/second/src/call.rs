@@ -5,7 +5,125 @@
 use crate::store::{Kind, Pitch};
 use std::fmt;
 
-/// Making and the ten calls. Arguments have the widths that C gives them.
+/// Which call: making, or one of the thirteen.
+#[derive(Clone, Copy, PartialEq, Eq, PartialOrd, Ord, Debug)]
+pub enum Name {
+    Store,
+    Enter,
+    Look,
+    Leave,
+    Claim,
+    Write,
+    Swap,
+    Sync,
+    Raise,
+    Walk,
+    Release,
+    Pick,
+    Checkpoint,
+    Defer,
+}
+
+/// Making, and after it the thirteen calls.
+pub const NAMES: [Name; 14] = [
+    Name::Store,
+    Name::Enter,
+    Name::Look,
+    Name::Leave,
+    Name::Claim,
+    Name::Write,
+    Name::Swap,
+    Name::Sync,
+    Name::Raise,
+    Name::Walk,
+    Name::Release,
+    Name::Pick,
+    Name::Checkpoint,
+    Name::Defer,
+];
+
+/// The thirteen calls.
+pub fn calls() -> impl Iterator<Item = Name> {
+    NAMES.into_iter().skip(1)
+}
+
+/// The calls that a store of this kind has.
+pub fn calls_of(kind: Kind) -> impl Iterator<Item = Name> {
+    calls().filter(move |name| name.of(kind))
+}
+
+/// The calls that a store of this kind lacks.
+pub fn calls_lacked_by(kind: Kind) -> impl Iterator<Item = Name> {
+    calls().filter(move |name| !name.of(kind))
+}
+
+/// Whom a call names first.
+#[derive(Clone, Copy, PartialEq, Eq, Debug)]
+pub enum Whom {
+    Nobody,
+    Reader,
+    Publisher,
+}
+
+impl Name {
+    /// Its place in `NAMES`.
+    pub const fn index(self) -> usize {
+        self as usize
+    }
+
+    /// The word on the run sheet.
+    pub const fn word(self) -> &'static str {
+        match self {
+            Name::Store => "store",
+            Name::Enter => "enter",
+            Name::Look => "look",
+            Name::Leave => "leave",
+            Name::Claim => "claim",
+            Name::Write => "write",
+            Name::Swap => "swap",
+            Name::Sync => "sync",
+            Name::Raise => "raise",
+            Name::Walk => "walk",
+            Name::Release => "release",
+            Name::Pick => "pick",
+            Name::Checkpoint => "checkpoint",
+            Name::Defer => "defer",
+        }
+    }
+
+    /// Whether a store of this kind has the call.
+    pub fn of(self, kind: Kind) -> bool {
+        let rest = match kind {
+            Kind::New | Kind::Old => false,
+            Kind::Rest => true,
+        };
+        match self {
+            Name::Store | Name::Look | Name::Claim | Name::Write | Name::Swap => true,
+            Name::Enter | Name::Leave => !rest,
+            Name::Sync | Name::Raise | Name::Walk | Name::Release => !rest,
+            Name::Pick | Name::Checkpoint | Name::Defer => rest,
+        }
+    }
+
+    pub fn whom(self) -> Whom {
+        match self {
+            Name::Store => Whom::Nobody,
+            Name::Enter | Name::Look | Name::Leave => Whom::Reader,
+            Name::Pick | Name::Checkpoint => Whom::Reader,
+            Name::Claim | Name::Write | Name::Swap | Name::Sync => Whom::Publisher,
+            Name::Raise | Name::Walk | Name::Release | Name::Defer => Whom::Publisher,
+        }
+    }
+}
+
+impl fmt::Display for Name {
+    fn fmt(&self, f: &mut fmt::Formatter<'_>) -> fmt::Result {
+        f.write_str(self.word())
+    }
+}
+
+/// Making and the thirteen calls. Arguments have the widths that C gives
+/// them.
 #[derive(Clone, Copy, PartialEq, Eq, Debug)]
 pub enum Call {
     Make {
@@ -49,55 +167,59 @@ pub enum Call {
     Release {
         p: u16,
     },
+    Pick {
+        r: u16,
+    },
+    Checkpoint {
+        r: u16,
+    },
+    Defer {
+        p: u16,
+    },
 }
 
-/// The names of the calls, in the order of `Call::index`.
-pub const CALL_NAMES: [&str; 11] = [
-    "store", "enter", "look", "leave", "claim", "write", "swap", "sync", "raise", "walk", "release",
-];
-
 impl Call {
-    /// 0 for making, 1 to 10 for the ten calls.
-    pub fn index(&self) -> usize {
+    pub fn name(&self) -> Name {
         match self {
-            Call::Make { .. } => 0,
-            Call::Enter { .. } => 1,
-            Call::Look { .. } => 2,
-            Call::Leave { .. } => 3,
-            Call::Claim { .. } => 4,
-            Call::Write { .. } => 5,
-            Call::Swap { .. } => 6,
-            Call::Sync { .. } => 7,
-            Call::Raise { .. } => 8,
-            Call::Walk { .. } => 9,
-            Call::Release { .. } => 10,
+            Call::Make { .. } => Name::Store,
+            Call::Enter { .. } => Name::Enter,
+            Call::Look { .. } => Name::Look,
+            Call::Leave { .. } => Name::Leave,
+            Call::Claim { .. } => Name::Claim,
+            Call::Write { .. } => Name::Write,
+            Call::Swap { .. } => Name::Swap,
+            Call::Sync { .. } => Name::Sync,
+            Call::Raise { .. } => Name::Raise,
+            Call::Walk { .. } => Name::Walk,
+            Call::Release { .. } => Name::Release,
+            Call::Pick { .. } => Name::Pick,
+            Call::Checkpoint { .. } => Name::Checkpoint,
+            Call::Defer { .. } => Name::Defer,
         }
     }
 
-    pub fn name(&self) -> &'static str {
-        CALL_NAMES[self.index()]
+    /// The number of the reader or publisher that the call names.
+    fn named(&self) -> Option<u16> {
+        match *self {
+            Call::Make { .. } => None,
+            Call::Enter { r: n } | Call::Look { r: n, .. } | Call::Leave { r: n } => Some(n),
+            Call::Pick { r: n } | Call::Checkpoint { r: n } => Some(n),
+            Call::Claim { p: n, .. } | Call::Write { p: n, .. } | Call::Swap { p: n } => Some(n),
+            Call::Sync { p: n } | Call::Raise { p: n } | Call::Walk { p: n, .. } => Some(n),
+            Call::Release { p: n } | Call::Defer { p: n } => Some(n),
+        }
     }
 
     /// The reader that the call names, if it is a reader's call.
     pub fn reader(&self) -> Option<u16> {
-        match *self {
-            Call::Enter { r } | Call::Look { r, .. } | Call::Leave { r } => Some(r),
-            _ => None,
-        }
+        let names_one = self.name().whom() == Whom::Reader;
+        self.named().filter(|_| names_one)
     }
 
     /// The publisher that the call names, if it is a publisher's call.
     pub fn publisher(&self) -> Option<u16> {
-        match *self {
-            Call::Claim { p, .. }
-            | Call::Write { p, .. }
-            | Call::Swap { p }
-            | Call::Sync { p }
-            | Call::Raise { p }
-            | Call::Walk { p, .. }
-            | Call::Release { p } => Some(p),
-            _ => None,
-        }
+        let names_one = self.name().whom() == Whom::Publisher;
+        self.named().filter(|_| names_one)
     }
 }
 
@@ -124,9 +246,10 @@ impl fmt::Display for Call {
             Call::Write { p, v } => write!(f, "({name} {p} {v})"),
             Call::Walk { p, b } => write!(f, "({name} {p} {b})"),
             Call::Enter { r: n } | Call::Leave { r: n } => write!(f, "({name} {n})"),
-            Call::Swap { p } | Call::Sync { p } | Call::Raise { p } | Call::Release { p } => {
-                write!(f, "({name} {p})")
-            }
+            Call::Pick { r: n } | Call::Checkpoint { r: n } => write!(f, "({name} {n})"),
+            Call::Swap { p: n } | Call::Sync { p: n } => write!(f, "({name} {n})"),
+            Call::Raise { p: n } | Call::Release { p: n } => write!(f, "({name} {n})"),
+            Call::Defer { p: n } => write!(f, "({name} {n})"),
         }
     }
 }
@@ -158,6 +281,7 @@ pub enum Reply {
     Quiet,
     Returned { looks: u64, waits: u64 },
     Freed { slot: u64, releases: u64 },
+    Picked(u64),
 }
 
 /// The three numbers of a reply in C.
@@ -201,6 +325,7 @@ impl Reply {
             Reply::Quiet => (112, 0, 0),
             Reply::Returned { looks, waits } => (113, looks, waits),
             Reply::Freed { slot, releases } => (114, slot, releases),
+            Reply::Picked(slot) => (115, slot, 0),
         };
         Numbers {
             code,
@@ -234,6 +359,7 @@ impl Reply {
                 slot: n.first,
                 releases: n.second,
             },
+            115 => Reply::Picked(n.first),
             _ => return None,
         };
         (reply.numbers() == n).then_some(reply)
@@ -259,6 +385,7 @@ impl fmt::Display for Reply {
             Reply::Quiet => write!(f, "quiet"),
             Reply::Returned { looks, waits } => write!(f, "returned {looks} {waits}"),
             Reply::Freed { slot, releases } => write!(f, "freed {slot} {releases}"),
+            Reply::Picked(slot) => write!(f, "picked {slot}"),
         }
     }
 }

@@ -1,5 +1,5 @@
 //! Cards, each with what a sheet prints beside it, worked out by hand from
-//! requests 1 and 2 of document 02.
+//! requests 1, 2 and 3 of document 02.
 
 use crate::card;
 use crate::examples::{Example, Line, Table};
@@ -13,6 +13,10 @@ const BEFORE: &[Line] = &[
     (b"(store old 64 16 33 0)", "refused 4"),
     (b"(store new 1 1 2 18446744073709551615)", "refused 6"),
     (b"(store old 1 1 2 9223372036854775808)", "refused 6"),
+    (b"(store rest 65 64 33 0)", "refused 2"),
+    (b"(store rest 17 17 33 0)", "refused 3"),
+    (b"(store rest 2 3 33 0)", "refused 3"),
+    (b"(store rest 16 16 33 0)", "refused 4"),
     (b"(store new 1 1 2 -0)", "unread"),
     (b"(enter 0)", "refused 1"),
 ];
@@ -21,23 +25,32 @@ const BEFORE: &[Line] = &[
 fn refused(name: &'static str, card: Option<Vec<u8>>, number: u64) -> Example {
     let due = format!("refused {number}");
     let mut table = Table::default().say(BEFORE);
-    for store in ["(store new 1 1 2 0)", "(store old 64 16 32 7)"] {
+    for store in [
+        "(store new 1 1 2 0)",
+        "(store old 64 16 32 7)",
+        "(store rest 16 16 32 18446744073709551615)",
+    ] {
         table = table.says(store.as_bytes(), &due);
         table = table.says(b"(enter 0)", "refused 1");
+        table = table.says(b"(pick 0)", "refused 1");
     }
     table.beside(name, card)
 }
 
-/// A sheet beside a card of these entries, in both kinds of store.
+/// A sheet beside a card of these entries, in every kind of store.
 fn made(name: &'static str, card: Vec<u8>, entries: &[Pitch]) -> Example {
     let mut table = Table::default().say(BEFORE);
     for (store, places) in [
         ("(store new 1 1 2 0)", &[1, 2, 3, 4, 5][..]),
         ("(store old 1 1 32 0)", &[1, 4, 5]),
+        ("(store rest 1 1 2 0)", &[]),
     ] {
         table = table.says(store.as_bytes(), "made");
         for place in places {
             table = table.says(b"(enter 0)", &format!("at {place}"));
+        }
+        if places.is_empty() {
+            table = table.says(b"(pick 0)", "picked 0");
         }
         for (k, entry) in entries.iter().enumerate() {
             let look = format!("(look 0 {k})");

@@ -1,17 +1,20 @@
 //! Tests of the parts that the comparison leans on: the words, the replies'
 //! numbers, the shelf and demand 3, and the alterations' names.
 
-use crate::call::{Call, Numbers, Reply};
+use crate::call::{calls, Call, Name, Numbers, Reply, NAMES};
 use crate::damage::{Clause, CLAUSES};
 use crate::demand3::Demand3;
-use crate::layout::{name, pack, publisher_at, reader_at, unpack, KIND, WORDS};
+use crate::events::{Event, Events};
+use crate::layout::{
+    name, pack, pair_at, publisher_at, reader_at, step_at, unpack, KIND, WORDS, WORDS_BEFORE,
+};
 use crate::lent;
 use crate::making::Making;
 use crate::random::Random;
 use crate::rules::{Alteration, Rules};
-use crate::store::{Kind, Pitch, Store, KINDS};
+use crate::store::{Deferred, Kind, Pitch, Store, KINDS};
 use crate::tables;
-use crate::turns::Scheduler;
+use crate::turns::{call_by, call_named, Scheduler};
 
 const AS_WRITTEN: Rules = Rules::AS_WRITTEN;
 
@@ -32,17 +35,26 @@ fn making(kind: Kind, sizes: (u16, u16, u16), version: u64) -> Call {
 }
 
 fn made(kind: Kind, sizes: (u16, u16, u16), version: u64) -> ([u64; WORDS], Vec<Pitch>) {
+    made_by(AS_WRITTEN, kind, sizes, version)
+}
+
+fn made_by(
+    rules: Rules,
+    kind: Kind,
+    sizes: (u16, u16, u16),
+    version: u64,
+) -> ([u64; WORDS], Vec<Pitch>) {
     let mut words = [77; WORDS];
     let mut entries = vec![-3; usize::from(sizes.2) * 32];
     let make = making(kind, sizes, version);
     assert_eq!(
-        lent::call(&mut words, &mut entries, &first(), &make, AS_WRITTEN),
+        lent::call(&mut words, &mut entries, &first(), &make, rules),
         Reply::Made
     );
     (words, entries)
 }
 
-/// One of the ten calls, to which no first table is lent.
+/// One of the thirteen calls, to which no first table is lent.
 fn gives(words: &mut [u64], entries: &mut [Pitch], call: Call) -> Reply {
     lent::call(words, entries, &[], &call, AS_WRITTEN)
 }
@@ -98,18 +110,129 @@ fn a_fresh_old_store_has_not_reading_in_every_record() {
     assert_eq!(entries, first().repeat(32));
 }
 
+/// All 64 records of a fresh rest store have observed the first version.
+#[test]
+fn a_fresh_rest_store_has_observed_its_first_version() {
+    let (words, entries) = made(Kind::Rest, (3, 3, 4), 5);
+    let mut due = [0; WORDS];
+    due[..6].copy_from_slice(&[19, 3, 3, 4, 0, 5]);
+    for word in (12..=327).step_by(5) {
+        due[word] = 5;
+    }
+    assert_eq!(words, due);
+    assert_eq!(entries, first().repeat(4));
+}
+
+/// The calls of a rest store, word by word. Participant 1 publishes; the
+/// first number of each change is its word.
+#[test]
+fn words_of_a_rest_store_are_those_of_the_page() {
+    let (mut words, mut entries) = made(Kind::Rest, (2, 2, 3), 5);
+    let mut due = words;
+    let publishes = |n: u64| match n {
+        0 => Call::Claim { p: 1, s: 2 },
+        _ => Call::Write {
+            p: 1,
+            v: n as Pitch,
+        },
+    };
+    for n in 0..=32 {
+        gives(&mut words, &mut entries, publishes(n));
+    }
+    (due[335], due[336]) = (33, 2);
+    assert_eq!(words, due);
+    let (pick, checkpoint) = (Call::Pick { r: 1 }, Call::Checkpoint { r: 1 });
+    let (swap, defer) = (Call::Swap { p: 1 }, Call::Defer { p: 1 });
+    let steps: [(Call, u64, &[(usize, u64)]); 14] = [
+        (pick, 0, &[(14, 5), (18, 0)]),
+        (swap, 0, &[(335, 34), (336, 0), (4, 2)]),
+        (pick, 2, &[(18, 2)]),
+        (defer, 35, &[(335, 35), (337, 6), (5, 6), (14, 0)]),
+        (defer, 0, &[(335, 0), (17, 6), (428, 1), (473, 0), (474, 6)]),
+        (Call::Pick { r: 0 }, 2, &[(9, 5), (13, 2)]),
+        (Call::Checkpoint { r: 0 }, 1, &[(9, 0), (10, 6), (425, 1)]),
+        (checkpoint, 1, &[(15, 6), (427, 1)]),
+        (checkpoint, 2, &[(427, 2)]),
+        (checkpoint, 3, &[(427, 3), (16, 5)]),
+        (checkpoint, 4, &[(427, 0)]),
+        (Call::Checkpoint { r: 0 }, 2, &[(12, 6), (425, 2)]),
+        (Call::Checkpoint { r: 0 }, 3, &[(11, 6), (425, 3)]),
+        (Call::Checkpoint { r: 0 }, 4, &[(425, 0)]),
+    ];
+    for (call, number, changes) in steps {
+        let reply = gives(&mut words, &mut entries, call).numbers();
+        assert_eq!(reply.first, number, "{call}");
+        for &(word, number) in changes {
+            due[word] = number;
+        }
+        assert_eq!(words, due, "{call}");
+    }
+    // All have observed 6: the slot is freed, and its pair stays.
+    for step in 1..=4 {
+        let reply = gives(&mut words, &mut entries, checkpoint);
+        assert_eq!(reply, Reply::At(step));
+    }
+    (due[16], due[428]) = (6, 0);
+    assert_eq!(words, due);
+}
+
+/// A call that the kind lacks gets 1, and a store of 425 words too.
+#[test]
+fn calls_that_a_kind_lacks_get_1() {
+    for kind in KINDS {
+        let (words, entries) = made(kind, (2, 2, 3), 0);
+        for name in calls() {
+            let mut random = Random::from_seed(name.index() as u64);
+            let call = call_by(name, 0, &words, &mut random);
+            let (mut after, mut lent) = (words, entries.clone());
+            let reply = gives(&mut after, &mut lent, call);
+            assert_eq!(reply == Reply::Refused(1), !name.of(kind), "{kind} {call}");
+            let before = &mut after[..WORDS_BEFORE];
+            assert_eq!(gives(before, &mut lent, call), Reply::Refused(1), "{call}");
+        }
+    }
+    let lacked = |kind| calls().filter(move |name| !name.of(kind));
+    let of_rest = [Name::Pick, Name::Checkpoint, Name::Defer];
+    let not_of_rest = [
+        Name::Enter,
+        Name::Leave,
+        Name::Sync,
+        Name::Raise,
+        Name::Walk,
+        Name::Release,
+    ];
+    assert!(lacked(Kind::New).eq(of_rest) && lacked(Kind::Old).eq(of_rest));
+    assert!(lacked(Kind::Rest).eq(not_of_rest));
+}
+
+#[test]
+fn names_stand_in_their_order() {
+    for (index, name) in NAMES.into_iter().enumerate() {
+        assert_eq!(name.index(), index);
+    }
+    let mut random = Random::from_seed(1);
+    for name in calls() {
+        let words = [0; WORDS];
+        assert_eq!(call_named(name, &words, &mut random).name(), name);
+        assert_eq!(call_by(name, 7, &words, &mut random).name(), name);
+        let call = call_by(name, 7, &words, &mut random);
+        assert_eq!(call.reader().xor(call.publisher()), Some(7), "{call}");
+    }
+}
+
 /// A store packed in the format before, and a making by its numbers.
 #[test]
 fn kinds_of_the_format_before_are_unknown() {
-    assert_eq!(KINDS.map(Kind::number), [17, 18]);
-    assert_eq!(KINDS.map(Kind::number_before), [1, 2]);
-    for kind in KINDS {
+    assert_eq!(KINDS.map(Kind::number), [17, 18, 19]);
+    assert_eq!(KINDS.map(Kind::number_before), [Some(1), Some(2), None]);
+    for kind in [Kind::New, Kind::Old] {
         let (mut words, mut entries) = made(kind, (1, 1, 2), 0);
-        words[KIND] = kind.number_before();
+        let number = kind.number_before().expect("a kind of the format before");
+        words[KIND] = number;
         let (before, enter) = (words, Call::Enter { r: 0 });
         assert_eq!(gives(&mut words, &mut entries, enter), Reply::Refused(1));
         let make = Call::Make {
-            kind: kind.number_before() as u16,
+            kind: number as u16,
             readers: 1,
             publishers: 1,
             slots: 2,
@@ -165,9 +288,36 @@ fn packing_undoes_unpacking_word_by_word() {
         assert_eq!(store.reader[63].picked, words[328]);
         assert_eq!(store.publisher[15].walk.waits, words[424]);
         assert_eq!(store.publisher[0].walk.next, words[332]);
+        assert_eq!(store.participant[15].step, words[455]);
+        assert_eq!(store.participant[15].count(), words[456]);
+        assert_eq!(store.participant[15].deferred[7].mark, words[712]);
     }
     words[KIND] = 3;
     assert!(unpack(&words).is_none());
+}
+
+/// A count says how many of the eight pairs are deferred slots.
+#[test]
+fn packed_counts_split_the_pairs() {
+    let mut words = [0; WORDS];
+    words[KIND] = Kind::Rest.number();
+    for i in 0..8 {
+        words[pair_at(2, i)] = 10 + i as u64;
+        words[pair_at(2, i) + 1] = 20 + i as u64;
+    }
+    for (count, known) in [(0, 0), (3, 3), (8, 8), (9, 8), (u64::MAX, 8)] {
+        words[step_at(2) + 1] = count;
+        let store = unpack(&words).expect("a known kind");
+        let participant = &store.participant[2];
+        assert_eq!(
+            (participant.deferred.len(), participant.count()),
+            (known, count)
+        );
+        assert_eq!(participant.behind.len(), 8 - known);
+        let mut again = [1; WORDS];
+        pack(&store, &mut again);
+        assert_eq!(words, again);
+    }
 }
 
 #[test]
@@ -179,6 +329,17 @@ fn words_have_their_names() {
     assert_eq!(name(329), "publisher 0 place");
     assert_eq!(name(424), "publisher 15 waits");
     assert_eq!((reader_at(1), publisher_at(1)), (14, 335));
+    assert_eq!((step_at(0), step_at(15)), (425, 455));
+    assert_eq!(
+        (pair_at(0, 0), pair_at(3, 2), pair_at(15, 7)),
+        (457, 509, 711)
+    );
+    assert_eq!(name(425), "participant 0 step");
+    assert_eq!(name(456), "participant 15 count");
+    assert_eq!(name(457), "participant 0 deferred slot 0");
+    assert_eq!(name(510), "participant 3 deferred mark 2");
+    assert_eq!(name(712), "participant 15 deferred mark 7");
+    assert_eq!(name(713), "beyond the store");
 }
 
 #[test]
@@ -202,7 +363,11 @@ fn replies_and_numbers_agree() {
     let sign_lost = numbers(102, (1 << 32) - 5000, 0);
     assert_eq!(Reply::from_numbers(sign_lost), None);
     assert_eq!(Reply::from_numbers(numbers(30, 1, 0)), None);
-    assert_eq!(Reply::from_numbers(numbers(115, 0, 0)), None);
+    assert_eq!(Reply::from_numbers(numbers(116, 0, 0)), None);
+    let picked = Reply::Picked(31);
+    assert_eq!(picked.numbers(), numbers(115, 31, 0));
+    assert_eq!(Reply::from_numbers(numbers(115, 31, 0)), Some(picked));
+    assert_eq!(Reply::from_numbers(numbers(115, 31, 1)), None);
     let freed = Reply::Freed {
         slot: 3,
         releases: 9,
@@ -233,6 +398,27 @@ fn makings_are_refused_in_the_order_of_the_rows() {
     assert_eq!(refused(good, 0, &[95_001; 32]), Reply::Refused(41));
     assert_eq!(refused(good, 0, &steep), Reply::Refused(42));
     assert_eq!(refused(good, (1 << 63) - 1, &first()), Reply::Made);
+}
+
+/// A rest store has as many publishers as readers, up to 16.
+#[test]
+fn unequal_sizes_are_refused_in_their_row() {
+    let mut entries = vec![0; 64];
+    let mut words = [5; WORDS];
+    let mut refused = |kind, sizes, table: &[Pitch]| {
+        let make = making(kind, sizes, u64::MAX);
+        lent::call(&mut words, &mut entries, table, &make, AS_WRITTEN)
+    };
+    assert_eq!(refused(Kind::Rest, (0, 1, 1), &[]), Reply::Refused(2));
+    assert_eq!(refused(Kind::Rest, (65, 65, 1), &[]), Reply::Refused(2));
+    assert_eq!(refused(Kind::Rest, (17, 17, 1), &[]), Reply::Refused(3));
+    assert_eq!(refused(Kind::Rest, (3, 2, 1), &[]), Reply::Refused(3));
+    assert_eq!(refused(Kind::Rest, (2, 3, 1), &[]), Reply::Refused(3));
+    assert_eq!(refused(Kind::Rest, (3, 3, 1), &[]), Reply::Refused(4));
+    assert_eq!(refused(Kind::Rest, (3, 3, 3), &[]), Reply::Refused(5));
+    assert_eq!(refused(Kind::Rest, (3, 3, 2), &[]), Reply::Refused(40));
+    assert_eq!(refused(Kind::Rest, (16, 16, 2), &first()), Reply::Made);
+    assert_eq!(refused(Kind::New, (3, 2, 2), &[]), Reply::Refused(6));
 }
 
 fn refused_table(table: &[Pitch]) -> Reply {
@@ -319,13 +505,14 @@ fn refusals_come_in_the_order_of_the_table() {
     words[1] = 0;
     let enter = Call::Enter { r: 9 };
     assert_eq!(gives(&mut words, &mut entries, enter), Reply::Refused(1));
-    assert_eq!(gives(&mut words[..424], &mut [], enter), Reply::Refused(1));
+    let shorter = &mut words[..WORDS - 1];
+    assert_eq!(gives(shorter, &mut [], enter), Reply::Refused(1));
 }
 
 /// 33 looks at looks + b, also when an old walk would make one look only.
 #[test]
 fn sums_of_looks_end_at_the_highest_number() {
-    for kind in KINDS {
+    for kind in [Kind::New, Kind::Old] {
         let (mut words, mut entries) = made(kind, (1, 1, 2), 7);
         let at = publisher_at(0);
         words[at..at + 6].copy_from_slice(&[37, 1, 7, 0, u64::MAX - 3, u64::MAX - 3]);
@@ -362,12 +549,61 @@ fn clauses_are_told_apart() {
     assert!(damaged(|s| s.publisher[1].place = 38).only(Clause::MarkZero));
     assert!(!damaged(|s| s.reader[2].place = 6).any());
     assert!(!damaged(|s| s.indicators = [1, 1]).any());
+    assert!(!damaged(|s| s.participant[0].step = 4).any());
+    assert!(!damaged(|s| s.participant[0].excess = 9).any());
+}
+
+/// A slot deferred with this mark.
+fn deferred(slot: u64, mark: u64) -> Deferred {
+    Deferred { slot, mark }
+}
+
+/// The clauses of a rest store, each alone at its border.
+#[test]
+fn clauses_of_a_rest_store_are_told_apart() {
+    let (words, _) = made(Kind::Rest, (2, 2, 2), u64::MAX);
+    let fresh = unpack(&words).expect("a known kind");
+    assert!(!fresh.clauses(64, AS_WRITTEN).any());
+    let damaged = |change: fn(&mut Store)| {
+        let mut store = fresh.clone();
+        change(&mut store);
+        store.clauses(64, AS_WRITTEN)
+    };
+    let at_35 = |s: &mut Store| (s.publisher[1].place, s.publisher[1].walk.mark) = (35, u64::MAX);
+    let good = |change: fn(&mut Store)| !damaged(change).any();
+    assert!(damaged(|s| s.readers = 1).only(Clause::Unequal));
+    assert!(damaged(|s| s.publishers = 3).only(Clause::Unequal));
+    assert!(damaged(|s| (s.readers, s.publishers) = (17, 17)).only(Clause::Publishers));
+    assert!(damaged(|s| s.reader[1].place = 4).only(Clause::ReaderPlace));
+    assert!(
+        damaged(|s| (s.publisher[1].place, s.publisher[1].walk.mark) = (36, 1))
+            .only(Clause::PublisherPlace)
+    );
+    assert!(damaged(|s| s.publisher[1].place = 35).only(Clause::MarkZero));
+    assert!(good(|s| s.participant[1].step = 3));
+    assert!(damaged(|s| s.participant[1].step = 4).only(Clause::Step));
+    assert!(good(|s| s.participant[2].step = 4));
+    assert!(good(|s| s.participant[1].deferred = vec![deferred(1, 0); 8]));
+    assert!(damaged(|s| s.participant[1].excess = 9).only(Clause::Count));
+    assert!(
+        damaged(|s| s.participant[1].deferred = vec![deferred(2, 0)]).only(Clause::DeferredSlot)
+    );
+    assert!(good(|s| s.participant[1].behind = vec![deferred(2, 0)]));
+    assert!(good(|s| s.reader[0].published = 0));
+    let mut full = fresh.clone();
+    at_35(&mut full);
+    full.participant[1].deferred = vec![deferred(0, 0); 7];
+    assert!(!full.clauses(64, AS_WRITTEN).any());
+    full.participant[1].deferred.push(deferred(0, 0));
+    assert!(full.clauses(64, AS_WRITTEN).only(Clause::EightAt35));
+    full.publisher[1].place = 34;
+    assert!(!full.clauses(64, AS_WRITTEN).any());
 }
 
 #[test]
 fn alterations_have_names_of_their_own() {
     let all = Alteration::all();
-    assert!(all.len() > 135, "{} alterations", all.len());
+    assert!(all.len() > 220, "{} alterations", all.len());
     for (n, &alteration) in all.iter().enumerate() {
         assert_eq!(Alteration::by_name(&alteration.name()), Some(alteration));
         assert!(all[..n]
@@ -512,78 +748,440 @@ fn records_are_compared_with_what_was_told() {
     }
 }
 
-/// Random lists on this implementation: the first fault of demand 3.
-fn first_fault(kind: Kind, rules: Rules, calls: u64) -> Option<String> {
-    let mut random = Random::from_seed(3);
-    for _ in 0..calls / 1000 {
-        let sizes = random.pick(&[(2, 2, 3), (1, 1, 2), (5, 3, 6)]);
-        let (mut words, mut entries) = made(kind, sizes, random.below(3));
-        let mut demand3 = demand3(kind, sizes, rules);
-        let mut scheduler = Scheduler::new(&mut random);
-        for _ in 0..1000 {
-            let call = scheduler.next(&words, &mut random);
-            let reply = lent::call(&mut words, &mut entries, &[], &call, rules);
-            let kept = demand3
-                .hear(&call, &reply)
-                .and_then(|()| demand3.recorded(&words));
-            if let Err(fault) = kept {
-                return Some(fault);
-            }
+/// A list of a rest store with 2 participants and 3 slots.
+fn told_of_rest(list: &[(Call, Reply)]) -> Result<(), String> {
+    told(Kind::Rest, list)
+}
+
+/// CLAIM, 32 WRITEs of v and SWAP.
+fn swapped(p: u16, s: u16, v: Pitch, former: u64) -> Vec<(Call, Reply)> {
+    let mut list = publication(p, s, v, former);
+    list.pop();
+    list
+}
+
+fn picks(r: u16, slot: u64) -> (Call, Reply) {
+    (Call::Pick { r }, Reply::Picked(slot))
+}
+
+fn defers(p: u16) -> [(Call, Reply); 2] {
+    [35, 0].map(|place| (Call::Defer { p }, Reply::At(place)))
+}
+
+/// These steps of a checkpoint.
+fn steps(r: u16, steps: std::ops::RangeInclusive<u64>) -> Vec<(Call, Reply)> {
+    let step = |step| (Call::Checkpoint { r }, Reply::At(step));
+    steps.map(step).collect()
+}
+
+fn claims(p: u16, s: u16) -> (Call, Reply) {
+    (Call::Claim { p, s }, Reply::Claimed(u64::from(s)))
+}
+
+/// Participant 0 publishes in slot 1 and defers slot 0.
+fn defers_slot_0() -> Vec<(Call, Reply)> {
+    [&swapped(0, 1, 55, 0)[..], &defers(0)].concat()
+}
+
+#[test]
+fn the_shelf_hears_picks() {
+    let looks = |v: Pitch| (Call::Look { r: 1, k: 3 }, Reply::Pitch(v.into()));
+    let list = |before: &[(Call, Reply)], after: &[(Call, Reply)]| {
+        told_of_rest(&[before, &swapped(0, 1, 55, 0), after].concat())
+    };
+    assert_eq!(list(&[picks(1, 0)], &[looks(103)]), Ok(()));
+    assert!(list(&[picks(1, 0)], &[looks(55)]).is_err());
+    assert_eq!(list(&[picks(1, 0)], &[picks(1, 1), looks(55)]), Ok(()));
+    assert!(list(&[picks(1, 0)], &[picks(1, 1), looks(103)]).is_err());
+    assert!(list(&[], &[picks(1, 0)]).is_err());
+    assert!(list(&[], &[looks(55)]).is_err());
+}
+
+/// A slot is free from the checkpoint on that read of everybody a moment not
+/// before its raise.
+#[test]
+fn moments_tell_when_a_slot_is_free() {
+    let list = |after: &[(Call, Reply)]| told_of_rest(&[&defers_slot_0()[..], after].concat());
+    let observes = steps(1, 1..=2);
+    let whole = steps(0, 1..=4);
+    assert!(list(&[claims(1, 0)]).is_err());
+    assert!(list(&[&whole[..], &[claims(1, 0)]].concat()).is_err());
+    assert!(list(&[&observes[..], &[claims(1, 0)]].concat()).is_err());
+    let freed = [&observes[..], &whole].concat();
+    assert_eq!(list(&[&freed[..], &[claims(1, 0)]].concat()), Ok(()));
+    assert_eq!(list(&[&freed[..], &[claims(0, 0)]].concat()), Ok(()));
+    // Read before it observed, and again after that.
+    let early = [&steps(0, 1..=4)[..], &observes].concat();
+    assert!(list(&[&early[..], &[claims(1, 0)]].concat()).is_err());
+    let again = [&early[..], &whole, &[claims(1, 0)]].concat();
+    assert_eq!(list(&again), Ok(()));
+    let late = [&steps(0, 1..=3)[..], &observes, &steps(0, 4..=4)].concat();
+    assert_eq!(list(&[&late[..], &[claims(1, 0)]].concat()), Ok(()));
+}
+
+/// The loaded moment counts, not that of the second step.
+#[test]
+fn moments_are_those_of_the_load() {
+    let whole = steps(0, 1..=4);
+    let loaded_before = [
+        &steps(1, 1..=1)[..],
+        &defers_slot_0(),
+        &steps(1, 2..=2),
+        &whole,
+        &[claims(1, 0)],
+    ];
+    assert!(told_of_rest(&loaded_before.concat()).is_err());
+    let loaded_after = [
+        &swapped(0, 1, 55, 0)[..],
+        &defers(0)[..1],
+        &steps(1, 1..=2),
+        &defers(0)[1..],
+        &whole,
+        &[claims(1, 0)],
+    ];
+    assert_eq!(told_of_rest(&loaded_after.concat()), Ok(()));
+    let loaded_at_34 = [
+        &swapped(0, 1, 55, 0)[..],
+        &steps(1, 1..=2),
+        &defers(0),
+        &whole,
+        &[claims(1, 0)],
+    ];
+    assert!(told_of_rest(&loaded_at_34.concat()).is_err());
+}
+
+/// A participant that defers observes the moment of its own raise.
+#[test]
+fn deferring_observes_its_raise() {
+    let both = [&swapped(0, 1, 55, 0)[..], &swapped(1, 2, 66, 1)].concat();
+    let list = |parts: &[&[(Call, Reply)]]| told_of_rest(&[&both[..], &parts.concat()].concat());
+    let whole = |r| steps(r, 1..=4);
+    let (zero, one) = (defers(0), defers(1));
+    // Participant 1 raised later: it has observed the raise of participant 0.
+    let later = [&zero[..], &one, &whole(0), &[claims(0, 0)]];
+    assert_eq!(list(&later), Ok(()));
+    let not_other = [&zero[..], &one, &whole(0), &[claims(0, 1)]];
+    assert!(list(&not_other).is_err());
+    let earlier = [&one[..1], &zero, &one[1..], &whole(0), &[claims(0, 0)]];
+    assert!(list(&earlier).is_err());
+    let unqueued = [&zero[..], &one[..1], &whole(0), &[claims(0, 0)]];
+    assert!(list(&unqueued).is_err());
+    assert!(list(&[&zero[1..]]).is_err() && list(&[&one[..1], &one[..1]]).is_err());
+    assert!(list(&[&steps(0, 2..=2)]).is_err() && list(&[&steps(0, 1..=5)]).is_err());
+}
+
+/// A pick is dropped by CHECKPOINT's first step and by DEFER at 34.
+#[test]
+fn picks_are_kept_until_they_are_dropped() {
+    let claim_of_picked = [picks(1, 0), claims(0, 0)];
+    let fault = told_of_rest(&claim_of_picked).expect_err("a slot picked");
+    assert_eq!(fault, "a CLAIM of slot 0, which reader 1 picked");
+    let (mut words, mut entries) = made(Kind::Rest, (2, 2, 3), 0);
+    let mut demand3 = demand3(Kind::Rest, (2, 2, 3), AS_WRITTEN);
+    let picked = [&[picks(1, 0)][..], &defers_slot_0()].concat();
+    for (call, due) in picked {
+        assert_eq!(gives(&mut words, &mut entries, call), due);
+        assert_eq!(demand3.hear(&call, &due), Ok(()));
+    }
+    let fault = "slot 0, picked by reader 1, is recorded free";
+    for (word, number) in [(step_at(0) + 1, 0), (pair_at(0, 0), 2)] {
+        let mut freed = words;
+        freed[word] = number;
+        assert_eq!(demand3.recorded(&freed), Err(fault.to_string()));
+    }
+    let drops = (Call::Checkpoint { r: 1 }, Reply::At(1));
+    assert_eq!(demand3.hear(&drops.0, &drops.1), Ok(()));
+    words[step_at(0) + 1] = 0;
+    assert_ne!(demand3.recorded(&words), Err(fault.to_string()));
+}
+
+/// What a rest store records is compared with what was told.
+#[test]
+fn records_of_participants_are_compared() {
+    let (mut words, mut entries) = made(Kind::Rest, (2, 2, 3), 0);
+    let mut demand3 = demand3(Kind::Rest, (2, 2, 3), AS_WRITTEN);
+    let mut list = vec![picks(1, 0).0, Call::Checkpoint { r: 1 }, picks(0, 0).0];
+    list.extend(defers_slot_0().into_iter().map(|(call, _)| call));
+    list.extend(steps(1, 2..=4).into_iter().map(|(call, _)| call));
+    for call in list {
+        let reply = gives(&mut words, &mut entries, call);
+        assert!(reply.accepted(), "{call}");
+        assert_eq!(demand3.hear(&call, &reply), Ok(()), "{call}");
+        assert_eq!(demand3.recorded(&words), Ok(()), "{call}");
+    }
+    let wrong = [
+        (reader_at(0), 5),
+        (reader_at(1), 5),
+        (step_at(0), 1),
+        (step_at(1), 3),
+        (step_at(0) + 1, 0),
+        (step_at(0) + 1, 2),
+        (step_at(1) + 1, 1),
+        (pair_at(0, 0), 2),
+        (publisher_at(0), 35),
+    ];
+    for (word, number) in wrong {
+        let mut other = words;
+        other[word] = number;
+        assert!(demand3.recorded(&other).is_err(), "{}", name(word));
+    }
+    let mut behind = words;
+    (behind[pair_at(0, 1)], behind[pair_at(0, 0) + 1]) = (9, 9);
+    assert_eq!(demand3.recorded(&behind), Ok(()));
+}
+
+/// A call that the kind lacks gets 1, and nothing else does.
+#[test]
+fn demand_3_knows_what_a_kind_lacks() {
+    let refused = |call, number| [(call, Reply::Refused(number))];
+    let (enter, pick) = (Call::Enter { r: 0 }, Call::Pick { r: 0 });
+    assert_eq!(told(Kind::Rest, &refused(enter, 1)), Ok(()));
+    assert!(told(Kind::Rest, &refused(enter, 20)).is_err());
+    assert!(told(Kind::Rest, &[(enter, Reply::At(1))]).is_err());
+    assert!(told(Kind::Rest, &refused(pick, 1)).is_err());
+    assert_eq!(told(Kind::Old, &refused(pick, 1)), Ok(()));
+    assert!(told(Kind::Old, &[picks(0, 0)]).is_err());
+}
+
+/// What lists of a rest store show is seen where it happens.
+#[test]
+fn events_are_noted() {
+    use Event as E;
+    let seen = |list: &[(Call, Reply)], event| {
+        let mut demand3 = demand3(Kind::Rest, (2, 2, 3), AS_WRITTEN);
+        for (call, reply) in list {
+            assert_eq!(demand3.hear(call, reply), Ok(()), "{call}");
+        }
+        demand3.events().contains(&event)
+    };
+    let observes = steps(1, 1..=2);
+    let early = [&defers_slot_0()[..], &steps(0, 1..=4)].concat();
+    assert!(!seen(&early, E::FreedAmong(2)));
+    let read = [&defers_slot_0()[..], &steps(0, 1..=3), &observes].concat();
+    let freed = [&read[..], &steps(0, 4..=4)].concat();
+    assert!(seen(&freed, E::FreedAmong(2)) && !seen(&freed, E::FreedAmong(1)));
+    assert!(!seen(&freed, E::FreedAfterTooEarly) && seen(&freed, E::TwoCheckpoints));
+    let one_defers = [&swapped(1, 1, 55, 0)[..], &defers(1)].concat();
+    let too_early = [
+        &one_defers[..],
+        &steps(1, 1..=3),
+        &steps(0, 1..=2),
+        &steps(1, 4..=4),
+    ]
+    .concat();
+    assert!(!seen(&too_early, E::FreedAfterTooEarly));
+    let next = [&too_early[..], &steps(1, 1..=4)].concat();
+    assert!(seen(&next, E::FreedAfterTooEarly) && seen(&next, E::FreedAmong(2)));
+    let refused = |call, number| (call, Reply::Refused(number));
+    let (own, others) = (Call::Claim { p: 0, s: 0 }, Call::Claim { p: 1, s: 0 });
+    let claims_own = [&defers_slot_0()[..], &[refused(own, 30)]].concat();
+    assert!(seen(&claims_own, E::ClaimOfOwn) && !seen(&claims_own, E::ClaimOfAnothers));
+    let claims_others = [&defers_slot_0()[..], &[refused(others, 30)]].concat();
+    assert!(seen(&claims_others, E::ClaimOfAnothers) && !seen(&claims_others, E::ClaimOfOwn));
+    let at_35 = [&swapped(0, 1, 55, 0)[..], &defers(0)[..1]].concat();
+    let pick = refused(Call::Pick { r: 0 }, 20);
+    let picks_at_35 = [&at_35[..], &[pick]].concat();
+    assert!(seen(&picks_at_35, E::PickAt35) && !seen(&picks_at_35, E::PickInCheckpoint));
+    let picks_inside = [&steps(0, 1..=1)[..], &[pick]].concat();
+    assert!(seen(&picks_inside, E::PickInCheckpoint) && !seen(&picks_inside, E::PickAt35));
+    let last = [
+        &swapped(0, 1, 55, 0)[..],
+        &[refused(Call::Defer { p: 0 }, 43)],
+    ]
+    .concat();
+    assert!(seen(&last, E::LastEpochWithFewer) && !seen(&last, E::LastEpochWithSeven));
+}
+
+/// Sizes of the lists below. A rest store has as many readers as publishers.
+fn some_sizes(kind: Kind, random: &mut Random) -> (u16, u16, u16) {
+    match kind {
+        Kind::New | Kind::Old => random.pick(&[(2, 2, 3), (1, 1, 2), (5, 3, 6)]),
+        Kind::Rest => random.pick(&[(2, 2, 3), (1, 1, 2), (3, 3, 6), (2, 2, 12)]),
+    }
+}
+
+/// A random list of 1000 calls on this implementation: its first fault of
+/// demand 3.
+fn fault_of_a_list(kind: Kind, rules: Rules, random: &mut Random) -> Option<String> {
+    let sizes = some_sizes(kind, random);
+    let (mut words, mut entries) = made_by(rules, kind, sizes, random.below(3));
+    let mut demand3 = demand3(kind, sizes, rules);
+    let mut scheduler = Scheduler::new(random);
+    for _ in 0..1000 {
+        let call = scheduler.next(&words, random);
+        let reply = lent::call(&mut words, &mut entries, &[], &call, rules);
+        let kept = demand3
+            .hear(&call, &reply)
+            .and_then(|()| demand3.recorded(&words));
+        if let Err(fault) = kept {
+            return Some(fault);
         }
     }
     None
 }
 
+/// The faults of random lists with so many calls in all.
+fn faults(kind: Kind, rules: Rules, calls: u64) -> impl Iterator<Item = String> {
+    let mut random = Random::from_seed(3);
+    (0..calls / 1000).filter_map(move |_| fault_of_a_list(kind, rules, &mut random))
+}
+
 #[test]
 fn demand_3_holds_as_written() {
     for kind in KINDS {
-        assert_eq!(first_fault(kind, AS_WRITTEN, 100_000), None);
+        assert_eq!(faults(kind, AS_WRITTEN, 100_000).next(), None);
     }
 }
+
+/// Random lists show all that can happen in a rest store.
+#[test]
+fn random_lists_show_every_event() {
+    let mut random = Random::from_seed(5);
+    let mut events = Events::new();
+    for round in 0..640 {
+        let n = 1 + round as u16 / 4 % 16;
+        let sizes = match round % 4 {
+            0 => (1, 1, 12),
+            1 => (2, 2, 14),
+            _ => (n, n, random.pick(&[2, 3, 6, 32])),
+        };
+        let version = random.pick(&[0, u64::MAX - 8, u64::MAX - 7, u64::MAX - 3]);
+        let (mut words, mut entries) = made(Kind::Rest, sizes, version);
+        let mut demand3 = demand3(Kind::Rest, sizes, AS_WRITTEN);
+        let mut scheduler = match round % 4 {
+            0 | 1 => Scheduler::deferring(&mut random),
+            2 => Scheduler::resting(&mut random),
+            _ => Scheduler::new(&mut random),
+        };
+        for _ in 0..1500 {
+            let call = scheduler.next(&words, &mut random);
+            let reply = lent::call(&mut words, &mut entries, &[], &call, AS_WRITTEN);
+            assert_eq!(demand3.hear(&call, &reply), Ok(()));
+        }
+        events.extend(demand3.events());
+    }
+    let unseen: Vec<String> = Event::all()
+        .filter(|event| !events.contains(event))
+        .map(|event| event.to_string())
+        .collect();
+    assert_eq!(unseen, Vec::<String>::new());
+}
+
+/// Alterations that break demand 3 of a new store.
+const BREAK_NEW: [Alteration; 16] = [
+    Alteration::PassesBelowMark,
+    Alteration::MarkIsVersion,
+    Alteration::ReleasesAt37,
+    Alteration::CurrentIsFree,
+    Alteration::HolderAt34Ignored,
+    Alteration::HolderAt38Ignored,
+    Alteration::SwapKeepsHeld,
+    Alteration::SwapsAt32,
+    Alteration::PicksOnOpening,
+    Alteration::LooksAtFour,
+    Alteration::LooksAtCurrent,
+    Alteration::WritesCurrent,
+    Alteration::WaitNotALook,
+    Alteration::SyncKeepsLooks,
+    Alteration::WaitsNotCounted,
+    Alteration::ShelfFeathered,
+];
+
+/// Alterations that break demand 3 of a old store.
+const BREAK_OLD: [Alteration; 11] = [
+    Alteration::ReleasesAt37,
+    Alteration::CurrentIsFree,
+    Alteration::SwapKeepsHeld,
+    Alteration::LooksAtCurrent,
+    Alteration::WritesCurrent,
+    Alteration::OldEntersTwo,
+    Alteration::ArrivesByVersion,
+    Alteration::DepartsByVersion,
+    Alteration::WaitNotALook,
+    Alteration::OldLooksAreB,
+    Alteration::ShelfFeathered,
+];
+
+/// Alterations that break demand 3 of a rest store.
+const BREAK_REST: [Alteration; 40] = [
+    Alteration::CurrentIsFree,
+    Alteration::HolderAt34Ignored,
+    Alteration::SwapKeepsHeld,
+    Alteration::SwapsAt32,
+    Alteration::LooksAtCurrent,
+    Alteration::WritesCurrent,
+    Alteration::ShelfFeathered,
+    Alteration::FreshObservedNotReading,
+    Alteration::LackedByTurn,
+    Alteration::RestLeaves,
+    Alteration::DeferredIsFree,
+    Alteration::OwnDeferredIsFree,
+    Alteration::OthersDeferredIsFree,
+    Alteration::ClaimsAt34,
+    Alteration::PicksSlotZero,
+    Alteration::PickKeepsFormer,
+    Alteration::PickObserves,
+    Alteration::PickRepliesPlace,
+    Alteration::CheckpointKeepsPick,
+    Alteration::ReadsOwnObserved,
+    Alteration::ReadsLoaded,
+    Alteration::LeastNotRestarted,
+    Alteration::GreatestRead,
+    Alteration::LastReadLeftOut,
+    Alteration::FreesByLeastBefore,
+    Alteration::FreesBelowLeast,
+    Alteration::FreesEverything,
+    Alteration::NeverFrees,
+    Alteration::FreesFirstOnly,
+    Alteration::FreesOfOthers,
+    Alteration::FreedByExchange,
+    Alteration::NinthDeferred,
+    Alteration::EpochNotRaised,
+    Alteration::MarkBeforeRaise,
+    Alteration::DeferKeepsPick,
+    Alteration::DeferKeepsObserved,
+    Alteration::QueuesCurrent,
+    Alteration::QueuesEpochOfNow,
+    Alteration::QueuesAtFront,
+    Alteration::CountNotRaised,
+];
 
 /// These alterations break demand 3, and random lists find it.
 #[test]
 fn demand_3_falls_under_altered_rules() {
-    use Alteration as A;
-    let new = [
-        A::PassesBelowMark,
-        A::MarkIsVersion,
-        A::ReleasesAt37,
-        A::CurrentIsFree,
-        A::HolderAt34Ignored,
-        A::HolderAt38Ignored,
-        A::SwapKeepsHeld,
-        A::SwapsAt32,
-        A::PicksOnOpening,
-        A::LooksAtFour,
-        A::LooksAtCurrent,
-        A::WritesCurrent,
-        A::WaitNotALook,
-        A::SyncKeepsLooks,
-        A::WaitsNotCounted,
-        A::ShelfFeathered,
+    let altered = [
+        (Kind::New, &BREAK_NEW[..]),
+        (Kind::Old, &BREAK_OLD),
+        (Kind::Rest, &BREAK_REST),
     ];
-    let old = [
-        A::ReleasesAt37,
-        A::CurrentIsFree,
-        A::SwapKeepsHeld,
-        A::LooksAtCurrent,
-        A::WritesCurrent,
-        A::OldEntersTwo,
-        A::ArrivesByVersion,
-        A::DepartsByVersion,
-        A::WaitNotALook,
-        A::OldLooksAreB,
-        A::ShelfFeathered,
-    ];
-    for (kind, alterations) in [(Kind::New, &new[..]), (Kind::Old, &old[..])] {
+    for (kind, alterations) in altered {
         for &alteration in alterations {
-            let fault = first_fault(kind, Rules::altered(alteration), 2_000_000);
+            let fault = faults(kind, Rules::altered(alteration), 2_000_000).next();
             assert!(
                 fault.is_some(),
                 "{kind} {} keeps demand 3",
                 alteration.name()
             );
         }
+    }
+}
+
+/// These free a slot that somebody has picked, by what the store records.
+#[test]
+fn picked_slots_are_freed_under_altered_rules() {
+    let early = [
+        Alteration::FreshObservedNotReading,
+        Alteration::ReadsOwnObserved,
+        Alteration::GreatestRead,
+        Alteration::LastReadLeftOut,
+        Alteration::FreesEverything,
+        Alteration::MarkBeforeRaise,
+        Alteration::CountNotRaised,
+        Alteration::QueuesCurrent,
+    ];
+    for alteration in early {
+        let mut faults = faults(Kind::Rest, Rules::altered(alteration), 2_000_000);
+        let freed = faults.any(|fault| fault.ends_with("is recorded free"));
+        assert!(freed, "{}", alteration.name());
     }
 }

@@ -1,7 +1,8 @@
-//! When a store is spoiled. Each clause of document 01 is one `Clause`.
+//! When a store is spoiled. Each clause of document 01, and of request 3, is
+//! one `Clause`.
 
 use crate::rules::{Alteration, Rules};
-use crate::store::{Kind, Publisher, Reader, Store, TABLE};
+use crate::store::{Kind, Publisher, Reader, Store, MOST_DEFERRED, TABLE};
 
 #[derive(Clone, Copy, PartialEq, Eq, Debug)]
 pub enum Clause {
@@ -22,9 +23,19 @@ pub enum Clause {
     Published,
     Indicator0,
     Indicator1,
+    /// A rest store with readers and publishers of different numbers.
+    Unequal,
+    /// A checkpoint's step above participants + 1.
+    Step,
+    /// More than eight deferred slots.
+    Count,
+    /// Eight deferred slots of a participant at 35.
+    EightAt35,
+    /// A deferred slot too large.
+    DeferredSlot,
 }
 
-pub const CLAUSES: [Clause; 17] = [
+pub const CLAUSES: [Clause; 22] = [
     Clause::Readers,
     Clause::Publishers,
     Clause::Slots,
@@ -42,15 +53,29 @@ pub const CLAUSES: [Clause; 17] = [
     Clause::Published,
     Clause::Indicator0,
     Clause::Indicator1,
+    Clause::Unequal,
+    Clause::Step,
+    Clause::Count,
+    Clause::EightAt35,
+    Clause::DeferredSlot,
 ];
 
 impl Clause {
-    /// Whether the kind has this clause.
+    /// Whether this clause can spoil a store of this kind by itself. In a rest
+    /// store readers out of range are publishers out of range too, or unequal.
     pub fn of(self, kind: Kind) -> bool {
         match self {
+            Clause::Publishers | Clause::Slots | Clause::EntriesLength | Clause::Current => true,
+            Clause::ReaderPlace | Clause::Picked | Clause::PublisherPlace => true,
+            Clause::Held | Clause::MarkZero | Clause::WaitsAboveLooks => true,
+            Clause::Readers | Clause::Version | Clause::MarkAboveLast => match kind {
+                Kind::New | Kind::Old => true,
+                Kind::Rest => false,
+            },
             Clause::Next | Clause::Published => kind == Kind::New,
             Clause::Indicator0 | Clause::Indicator1 => kind == Kind::Old,
-            _ => true,
+            Clause::Unequal | Clause::Step | Clause::Count => kind == Kind::Rest,
+            Clause::EightAt35 | Clause::DeferredSlot => kind == Kind::Rest,
         }
     }
 }
@@ -100,6 +125,7 @@ impl Store {
             self.test_publisher(publisher, &mut found, rules);
         }
         self.test_indicators(&mut found, rules);
+        self.test_participants(&mut found, rules);
         found
     }
 
@@ -117,12 +143,13 @@ impl Store {
             rules,
         );
         found.note(Clause::Current, self.current >= self.slots, rules);
-        let last = if rules.has(Alteration::OldLastUnsigned) {
-            Kind::New.last()
-        } else {
-            self.kind.last()
+        let last = match self.kind {
+            Kind::Old if rules.has(Alteration::OldLastUnsigned) => Kind::New.last(),
+            Kind::New | Kind::Old | Kind::Rest => self.kind.last(),
         };
         found.note(Clause::Version, self.version > last, rules);
+        let unequal = self.kind == Kind::Rest && self.readers != self.publishers;
+        found.note(Clause::Unequal, unequal, rules);
     }
 
     fn wrong_length(&self, entries_length: usize, rules: Rules) -> bool {
@@ -142,6 +169,10 @@ impl Store {
                 matches!(reader.place, 0 | 1 | 2 | 4 | 5)
             }
             Kind::Old => matches!(reader.place, 0 | 1 | 4 | 5),
+            Kind::Rest if rules.has(Alteration::RestReaderAtFour) => {
+                matches!(reader.place, 0 | 4 | 5)
+            }
+            Kind::Rest => matches!(reader.place, 0 | 5),
         };
         found.note(Clause::ReaderPlace, !place_exists, rules);
         let has_picked = reader.place == 5 || rules.has(Alteration::PickedAlwaysTested);
@@ -157,17 +188,15 @@ impl Store {
         };
         let unlike = reader.published != reader.first;
         let applies = self.kind == Kind::New && has_published && unlike;
-        found.note(Clause::Published, applies, rules);
+        let ahead = self.kind == Kind::Rest && reader.published > self.version;
+        let ahead = ahead && rules.has(Alteration::ObservedAheadSpoiled);
+        found.note(Clause::Published, applies || ahead, rules);
     }
 
     fn test_publisher(&self, publisher: &Publisher, found: &mut Clauses, rules: Rules) {
         let place = publisher.place;
         let walk = &publisher.walk;
-        let place_exists = match self.kind {
-            Kind::New if rules.has(Alteration::NewPlace36) => place <= 38,
-            Kind::New => place <= 38 && place != 36,
-            Kind::Old => place <= 38,
-        };
+        let place_exists = self.has_publisher_place(place, rules);
         found.note(Clause::PublisherPlace, !place_exists, rules);
         let holds = place != 0 || rules.has(Alteration::HeldAlwaysTested);
         found.note(Clause::Held, holds && publisher.held >= self.slots, rules);
@@ -178,7 +207,9 @@ impl Store {
         };
         let synced = (from..=38).contains(&place);
         let highest = if rules.has(Alteration::MarkPastLast) {
-            self.kind.last() + 1
+            self.kind.last().saturating_add(1)
+        } else if self.kind == Kind::Rest && rules.has(Alteration::RestMarkBelowLast) {
+            self.kind.last() - 1
         } else {
             self.kind.last()
         };
@@ -191,17 +222,82 @@ impl Store {
         );
         let walks =
             matches!(place, 35 | 37) || (place == 38 && rules.has(Alteration::NextTestedAt38));
-        let applies = self.kind == Kind::New && walks && walk.next >= self.readers;
+        let has_next = match self.kind {
+            Kind::New => true,
+            Kind::Old => false,
+            Kind::Rest => rules.has(Alteration::RestNextTested),
+        };
+        let applies = has_next && walks && walk.next >= self.readers;
         found.note(Clause::Next, applies, rules);
     }
 
+    fn has_publisher_place(&self, place: u64, rules: Rules) -> bool {
+        match self.kind {
+            Kind::New if rules.has(Alteration::NewPlace36) => place <= 38,
+            Kind::New => place <= 38 && place != 36,
+            Kind::Old => place <= 38,
+            Kind::Rest if rules.has(Alteration::RestPlace36) => place <= 36,
+            Kind::Rest => place <= 35,
+        }
+    }
+
     fn test_indicators(&self, found: &mut Clauses, rules: Rules) {
-        if self.kind == Kind::New && !rules.has(Alteration::NewIndicatorsTested) {
+        let tested = match self.kind {
+            Kind::New => rules.has(Alteration::NewIndicatorsTested),
+            Kind::Old => true,
+            Kind::Rest => rules.has(Alteration::RestIndicatorsTested),
+        };
+        if !tested {
             return;
         }
         let unlike = |parity: usize| self.indicators[parity] != self.readers_at(parity);
         found.note(Clause::Indicator0, unlike(0), rules);
         found.note(Clause::Indicator1, unlike(1), rules);
+    }
+
+    /// Steps, counts and deferred slots. Marks and epochs have no range.
+    fn test_participants(&self, found: &mut Clauses, rules: Rules) {
+        let tested = match self.kind {
+            Kind::New | Kind::Old => rules.has(Alteration::ParticipantsTestedInAll),
+            Kind::Rest => true,
+        };
+        let present = match rules.has(Alteration::SpoiledBeyondSizes) {
+            true => self.participant.len(),
+            false => self.present_participants().len(),
+        };
+        for p in (0..present).filter(|_| tested) {
+            self.test_step(p, found, rules);
+            self.test_deferred(p, found, rules);
+        }
+    }
+
+    fn test_step(&self, p: usize, found: &mut Clauses, rules: Rules) {
+        let last = if rules.has(Alteration::StepPastEnd) {
+            self.publishers.saturating_add(2)
+        } else if rules.has(Alteration::StepBelowEnd) {
+            self.publishers
+        } else {
+            self.publishers.saturating_add(1)
+        };
+        found.note(Clause::Step, self.participant[p].step > last, rules);
+    }
+
+    fn test_deferred(&self, p: usize, found: &mut Clauses, rules: Rules) {
+        let participant = &self.participant[p];
+        let most = MOST_DEFERRED as u64;
+        found.note(Clause::Count, participant.count() > most, rules);
+        let at_35 = self.publisher[p].place == 35 || rules.has(Alteration::EightSpoiledElsewhere);
+        let eight = participant.count() == most;
+        found.note(Clause::EightAt35, at_35 && eight, rules);
+        let behind = match rules.has(Alteration::BehindTested) {
+            true => &participant.behind[..],
+            false => &[],
+        };
+        for deferred in participant.deferred.iter().chain(behind) {
+            let unmarked = deferred.mark == 0 && rules.has(Alteration::QueuedMarkTested);
+            let too_large = deferred.slot >= self.slots;
+            found.note(Clause::DeferredSlot, too_large || unmarked, rules);
+        }
     }
 
     /// The number of readers at 4 or 5 whose loaded version has this parity.

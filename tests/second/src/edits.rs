@@ -1,7 +1,7 @@
 //! The changes that the alterations of the sheet make to cards, texts,
 //! lines, arguments, calls and printed lines.
 
-use crate::call::{Call, Reply, CALL_NAMES};
+use crate::call::{Call, Reply, NAMES};
 use crate::card::entries_if_any;
 use crate::sheet::{lines, pitch, printed, LONGEST};
 use crate::store::{Kind, Pitch, FEATHERED, KINDS, PITCH_HIGH, PITCH_LOW, TABLE};
@@ -231,17 +231,16 @@ pub fn with_word(line: &[u8], change: fn(&[u8]) -> Vec<u8>) -> Vec<u8> {
 
 /// The first of the calls whose name begins with this word.
 pub fn completed(word: &[u8]) -> Vec<u8> {
-    let whole = |name: &&&str| !word.is_empty() && name.as_bytes().starts_with(word);
-    let name = CALL_NAMES.iter().find(whole);
-    name.map_or(word, |name| name.as_bytes()).to_vec()
+    let mut words = NAMES.iter().map(|name| name.word().as_bytes());
+    let whole = words.find(|name| !word.is_empty() && name.starts_with(word));
+    whole.unwrap_or(word).to_vec()
 }
 
 /// The call whose name this word begins with.
 pub fn shortened(word: &[u8]) -> Vec<u8> {
-    let name = CALL_NAMES
-        .iter()
-        .find(|name| word.starts_with(name.as_bytes()));
-    name.map_or(word, |name| name.as_bytes()).to_vec()
+    let mut words = NAMES.iter().map(|name| name.word().as_bytes());
+    let begins = words.find(|name| word.starts_with(name));
+    begins.unwrap_or(word).to_vec()
 }
 
 /// The line with arguments too many dropped, or with 0 for missing ones.
@@ -294,10 +293,13 @@ pub fn without_plus(text: &[u8]) -> Vec<u8> {
 }
 
 pub fn known_kind(text: &[u8]) -> Vec<u8> {
-    match text {
-        b"old" => b"old".to_vec(),
-        _ => b"new".to_vec(),
-    }
+    let known = KINDS.iter().any(|kind| kind.to_string().as_bytes() == text);
+    if known { text } else { b"new" }.to_vec()
+}
+
+/// The kind rest is unread.
+pub fn not_rest(text: &[u8]) -> Vec<u8> {
+    unread_at(text, b"rest")
 }
 
 pub fn numbered_kind(text: &[u8]) -> Vec<u8> {
@@ -409,7 +411,8 @@ pub fn other_kind(mut call: Call) -> Call {
     if let Call::Make { kind, .. } = &mut call {
         let other = match Kind::from_number(u64::from(*kind)) {
             Some(Kind::New) => Kind::Old,
-            _ => Kind::New,
+            Some(Kind::Old) => Kind::New,
+            Some(Kind::Rest) | None => return call,
         };
         *kind = other.number() as u16;
     }
@@ -512,6 +515,13 @@ pub fn pitch_by_16_bits(n: u64, reply: Option<Reply>) -> String {
         Some(Reply::Pitch(v)) => format!("({n} pitch {})\n", v as i16),
         _ => printed(n, reply),
     }
+}
+
+pub fn picked_alone(n: u64, reply: Option<Reply>) -> String {
+    if let Some(Reply::Picked(_)) = reply {
+        return format!("({n} picked)\n");
+    }
+    printed(n, reply)
 }
 
 pub fn mark_signed(n: u64, reply: Option<Reply>) -> String {

@@ -1,9 +1,10 @@
 //! Whole sheets with their outputs, worked out by hand from document 01.
 //! The card beside them is that of a feathered blade; the examples of cards
-//! have their own.
+//! have their own. Those of the rest store stand by themselves.
 
 use crate::card;
 use crate::card_examples;
+use crate::rest_examples;
 use crate::store::Pitch;
 
 /// A sheet, the card beside it, which may be missing, and what must be
@@ -153,6 +154,21 @@ const MISSHAPEN: &[&[u8]] = &[
     b"(walk 0)",
     b"(walk 0 0 0)",
     b"(release)",
+    b"(pick)",
+    b"(pick 0 0)",
+    b"(pick -0)",
+    b"(picks 0)",
+    b"(picked 0)",
+    b"(Pick 0)",
+    b"(checkpoint)",
+    b"(checkpoint 0 0)",
+    b"(checkpoin 0)",
+    b"(checkpoints 0)",
+    b"(check point 0)",
+    b"(defer)",
+    b"(defer 0 1)",
+    b"(defers 0)",
+    b"(DEFER 0)",
     b"(enter zero)",
     b"(enter 0x)",
     b"(enter 0x0)",
@@ -215,12 +231,20 @@ const NO_STORES: &[&[u8]] = &[
     b"(store 1 1 1 2 0)",
     b"(store 17 1 1 2 0)",
     b"(store 18 1 1 2 0)",
+    b"(store 19 1 1 2 0)",
     b"(store 1 new 1 2 0)",
     b"(store NEW 1 1 2 0)",
     b"(store mid 1 1 2 0)",
     b"(store ne 1 1 2 0)",
     b"(store newer 1 1 2 0)",
     b"(store newold 1 1 2 0)",
+    b"(store res 1 1 2 0)",
+    b"(store rests 1 1 2 0)",
+    b"(store REST 1 1 2 0)",
+    b"(store rest 1 1 2)",
+    b"(store rest 1 2 0)",
+    b"(store rest 1 1 2 0 0)",
+    b"(rest 1 1 2 0)",
     b"(STORE new 1 1 2 0)",
     b"(stor new 1 1 2 0)",
     b"(stores new 1 1 2 0)",
@@ -262,6 +286,13 @@ const BEFORE_A_MADE_STORE: &[Line] = &[
     (b"(raise 0)", "refused 1"),
     (b"(walk 0 0)", "refused 1"),
     (b"(release 0)", "refused 1"),
+    (b"(pick 0)", "refused 1"),
+    (b"(checkpoint 65535)", "refused 1"),
+    (b"(defer 0)", "refused 1"),
+    (b"(defer 65536)", "unread"),
+    (b"(store rest 1 2 2 0)", "refused 3"),
+    (b"(pick 0)", "refused 1"),
+    (b"(enter 0)", "refused 1"),
     (b"(store new 0 1 2 0)", "refused 2"),
     (b"(enter 0)", "refused 1"),
     (b"(store new 1 1 2 00)", "unread"),
@@ -487,14 +518,14 @@ impl Table {
             .fold(self, |table, (line, reply)| table.says(line, reply))
     }
 
-    fn unread(self, lines: &[&[u8]]) -> Table {
+    pub fn unread(self, lines: &[&[u8]]) -> Table {
         lines
             .iter()
             .fold(self, |table, line| table.says(line, "unread"))
     }
 
     /// CLAIM, 32 WRITEs of v and SWAP, which hands out the former slot.
-    fn publishes(self, p: u64, s: u64, v: i64, former: u64) -> Table {
+    pub fn publishes(self, p: u64, s: u64, v: i64, former: u64) -> Table {
         let claim = format!("(claim {p} {s})");
         let mut table = self.says(claim.as_bytes(), &format!("claimed {s}"));
         for written in 1..=32 {
@@ -505,7 +536,7 @@ impl Table {
         table.says(swap.as_bytes(), &format!("swapped {former}"))
     }
 
-    fn named(self, name: &'static str) -> Example {
+    pub fn named(self, name: &'static str) -> Example {
         self.beside(name, Some(card::feathered()))
     }
 
@@ -635,7 +666,7 @@ fn by_unread_lines() -> Vec<Example> {
     ]
 }
 
-/// Whole publications of both kinds.
+/// Whole publications of the new and the old store.
 fn publications() -> Vec<Example> {
     let new = Table::default().say(NEW_BEFORE);
     let new = new.publishes(0, 1, 1000, 0).publishes(1, 2, -5000, 1);
@@ -661,6 +692,7 @@ pub fn all() -> Vec<Example> {
     examples.extend(by_lines());
     examples.extend(by_unread_lines());
     examples.extend(publications());
+    examples.extend(rest_examples::all());
     examples.extend(card_examples::all());
     examples
 }

@@ -1,4 +1,4 @@
-//! The second implementation of the pitch table store, old and new.
+//! The second implementation of the pitch table store: new, old and rest.
 //!
 //! It was written from documents 01 and 02, the page on the words and the
 //! numbers of the C replies alone, without a look at the product. It keeps
@@ -11,15 +11,19 @@ pub mod card_examples;
 pub mod damage;
 pub mod demand3;
 pub mod edits;
+pub mod events;
 pub mod examples;
 pub mod first_table;
 pub mod layout;
 pub mod lent;
 pub mod making;
 pub mod misread;
+pub mod moments;
 pub mod publisher;
 pub mod random;
 pub mod reader;
+pub mod rest;
+pub mod rest_examples;
 pub mod rules;
 pub mod sheet;
 pub mod shelf;
@@ -32,3 +36,5 @@ pub mod walk;
 mod bench;
 #[cfg(test)]
 mod checks;
+#[cfg(test)]
+mod rest_bench;

@@ -4,8 +4,8 @@ use crate::call::{Call, Refusal};
 use crate::first_table;
 use crate::rules::{Alteration, Rules};
 use crate::store::{
-    Kind, Pitch, Publisher, Reader, Store, MOST_PUBLISHERS, MOST_READERS, MOST_SLOTS, NOT_READING,
-    TABLE,
+    Kind, Participant, Pitch, Publisher, Reader, Store, MOST_PUBLISHERS, MOST_READERS, MOST_SLOTS,
+    NOT_READING, TABLE,
 };
 
 /// What a making is given, besides the lent slices.
@@ -65,8 +65,9 @@ pub fn make(
         version: making.version,
         releases: 0,
         indicators: [0, 0],
-        reader: fresh_readers(making.kind, making.readers, rules),
+        reader: fresh_readers(making, rules),
         publisher: [Publisher::default(); MOST_PUBLISHERS],
+        participant: std::array::from_fn(|_| Participant::fresh()),
     })
 }
 
@@ -106,16 +107,34 @@ fn refuse_sizes(making: &Making, rules: Rules) -> Result<(), Refusal> {
     } else {
         2
     };
+    if rules.has(Alteration::UnequalFirst) {
+        refuse_unequal(making, rules)?;
+    }
     if !(1..=most_readers).contains(&usize::from(making.readers)) {
         return Err(Refusal(2));
     }
     if !(1..=MOST_PUBLISHERS).contains(&usize::from(making.publishers)) {
         return Err(Refusal(3));
     }
+    if !rules.has(Alteration::UnequalAfterSlots) {
+        refuse_unequal(making, rules)?;
+    }
     if !(fewest_slots..=MOST_SLOTS).contains(&usize::from(making.slots)) {
         return Err(Refusal(4));
     }
-    Ok(())
+    refuse_unequal(making, rules)
+}
+
+/// 3 if a rest store has not as many publishers as readers.
+fn refuse_unequal(making: &Making, rules: Rules) -> Result<(), Refusal> {
+    let asks = match making.kind {
+        Kind::New | Kind::Old => rules.has(Alteration::UnequalRefusedInAll),
+        Kind::Rest => !rules.has(Alteration::UnequalMade),
+    };
+    match asks && making.readers != making.publishers {
+        true => Err(Refusal(3)),
+        false => Ok(()),
+    }
 }
 
 fn first_version_limit(kind: Kind, rules: Rules) -> u64 {
@@ -126,19 +145,23 @@ fn first_version_limit(kind: Kind, rules: Rules) -> u64 {
     }
 }
 
-/// All 64 records are fresh, whatever the number of readers.
-fn fresh_readers(kind: Kind, readers: u16, rules: Rules) -> [Reader; MOST_READERS] {
-    let zero = match kind {
-        Kind::New => Alteration::FreshNewPublishedZero,
-        Kind::Old => Alteration::FreshOldPublishedZero,
+/// All 64 records are fresh, whatever the number of readers. The first epoch
+/// of a rest store is observed by all.
+fn fresh_readers(making: &Making, rules: Rules) -> [Reader; MOST_READERS] {
+    let published = match making.kind {
+        Kind::New if rules.has(Alteration::FreshNewPublishedZero) => 0,
+        Kind::Old if rules.has(Alteration::FreshOldPublishedZero) => 0,
+        Kind::New | Kind::Old => NOT_READING,
+        Kind::Rest if rules.has(Alteration::FreshObservedZero) => 0,
+        Kind::Rest if rules.has(Alteration::FreshObservedNotReading) => NOT_READING,
+        Kind::Rest => making.version,
     };
-    let published = if rules.has(zero) { 0 } else { NOT_READING };
     let mut records = [Reader {
         published,
         ..Reader::default()
     }; MOST_READERS];
     if rules.has(Alteration::FreshWithinSizeOnly) {
-        for record in records.iter_mut().skip(usize::from(readers)) {
+        for record in records.iter_mut().skip(usize::from(making.readers)) {
             record.published = 0;
         }
     }

@@ -180,6 +180,7 @@ const SHAPES: &[Misreading] = &[
         Argument(&[Role::Kind], edits::known_kind)),
     altered("kind-by-number", "kinds may be numbers",
         Argument(&[Role::Kind], edits::numbered_kind)),
+    altered("rest-unread", "rest is no kind", Argument(&[Role::Kind], edits::not_rest)),
 ];
 
 #[rustfmt::skip]
@@ -261,6 +262,16 @@ const CALLS: &[Misreading] = &[
         Step::Reply(before_made_is_1)),
     altered("before-made-names", "before a made store names are refused with 10 and 11",
         Step::Reply(before_made_names)),
+    altered("before-made-lacks", "before a made store pick, checkpoint and defer are unread",
+        Step::Reply(before_made_lacks)),
+    altered("lacked-is-1", "a call that the made store's kind lacks gets 1",
+        Step::Reply(lacked_is_1)),
+    altered("lacked-is-turn", "a call that the made store's kind lacks gets 20 or 21",
+        Step::Reply(lacked_is_turn)),
+    altered("enter-is-pick", "enter is read as pick if the kind lacks it",
+        Step::Reply(enter_is_pick)),
+    altered("pick-is-enter", "pick is read as enter if the kind lacks it",
+        Step::Reply(pick_is_enter)),
 ];
 
 #[rustfmt::skip]
@@ -281,6 +292,10 @@ const REPLIES: &[Misreading] = &[
         Print(|n, reply| edits::exchanged_words(n, reply, "returned", "freed"))),
     altered("pitch-is-refused", "pitch and refused are exchanged",
         Print(|n, reply| edits::exchanged_words(n, reply, "pitch", "refused"))),
+    altered("picked-is-claimed", "picked and claimed are exchanged",
+        Print(|n, reply| edits::exchanged_words(n, reply, "picked", "claimed"))),
+    altered("picked-without-slot", "picked is printed without its slot",
+        Print(edits::picked_alone)),
     altered("waits-first", "returned gives waits before looks", Print(edits::waits_first)),
     altered("releases-first", "freed gives releases before the slot", Print(edits::releases_first)),
     altered("pitch-unsigned", "a negative pitch is printed modulo 2^32",
@@ -340,7 +355,7 @@ impl Misreading {
         match self.step {
             Line(change) => sheet.reply(&change(line)),
             Argument(roles, change) => sheet.reply(&edits::with_arguments(line, roles, change)),
-            Step::Call(change) => read(line).map(|call| sheet.call(&change(call))),
+            Step::Call(change) => sheet.read(line).map(|call| sheet.call(&change(call))),
             Step::Reply(reply) => reply(sheet, line),
             _ => sheet.reply(line),
         }
@@ -454,6 +469,48 @@ fn before_made_names(sheet: &mut Sheet, line: &[u8]) -> Option<Reply> {
         (Reply::Refused(1), None) => Some(Reply::Refused(11)),
         _ => Some(reply),
     }
+}
+
+fn before_made_lacks(sheet: &mut Sheet, line: &[u8]) -> Option<Reply> {
+    let call = sheet.read(line)?;
+    let of_others = call.name().of(Kind::New) || call.name().of(Kind::Old);
+    (of_others || sheet.made.is_some()).then(|| sheet.call(&call))
+}
+
+/// The reply to a line, and this one to a call that the kind lacks.
+fn reply_or(sheet: &mut Sheet, line: &[u8], reply: fn(&Call) -> u64) -> Option<Reply> {
+    let lacked = read(line).filter(|call| sheet.lacks(call));
+    match lacked {
+        Some(call) => Some(Reply::Refused(reply(&call))),
+        None => sheet.reply(line),
+    }
+}
+
+fn lacked_is_1(sheet: &mut Sheet, line: &[u8]) -> Option<Reply> {
+    reply_or(sheet, line, |_| 1)
+}
+
+fn lacked_is_turn(sheet: &mut Sheet, line: &[u8]) -> Option<Reply> {
+    reply_or(sheet, line, |call| match call.reader() {
+        Some(_) => 20,
+        None => 21,
+    })
+}
+
+fn enter_is_pick(sheet: &mut Sheet, line: &[u8]) -> Option<Reply> {
+    let call = read(line)?;
+    if let (Call::Enter { r }, true) = (call, sheet.lacks(&call)) {
+        return Some(sheet.call(&Call::Pick { r }));
+    }
+    sheet.reply(line)
+}
+
+fn pick_is_enter(sheet: &mut Sheet, line: &[u8]) -> Option<Reply> {
+    let call = read(line)?;
+    if let (Call::Pick { r }, true) = (call, sheet.lacks(&call)) {
+        return Some(sheet.call(&Call::Enter { r }));
+    }
+    sheet.reply(line)
 }
 
 #[cfg(test)]

@@ -48,14 +48,20 @@ impl Store {
         if slot >= self.slots {
             return Err(Refusal(12));
         }
-        self.turn(p, 0)?;
-        if rules.has(Alteration::Claim30First) && !self.free(slot, rules) {
+        if self.turn(p, 0).is_err() {
+            if !(self.kind == Kind::Rest && rules.has(Alteration::ClaimsAt34)) {
+                return Err(Refusal(21));
+            }
+            self.turn(p, 34)?;
+        }
+        self.stop_in_checkpoint(p, rules)?;
+        if rules.has(Alteration::Claim30First) && !self.free(slot, p, rules) {
             return Err(Refusal(30));
         }
         if self.refuses_others(rules) && self.other_busy(p) {
             return Err(Refusal(31));
         }
-        if !self.free(slot, rules) {
+        if !self.free(slot, p, rules) {
             return Err(Refusal(30));
         }
         self.publisher[p].place = 1;
@@ -67,6 +73,16 @@ impl Store {
         match self.kind {
             Kind::New => rules.has(Alteration::NewRefusesBusy),
             Kind::Old => !rules.has(Alteration::OldTakesSeveral),
+            Kind::Rest => rules.has(Alteration::RestRefusesBusy),
+        }
+    }
+
+    /// As written, CLAIM, WRITE and SWAP go on inside a checkpoint.
+    fn stop_in_checkpoint(&self, p: usize, rules: Rules) -> Result<(), Refusal> {
+        let inside = self.kind == Kind::Rest && self.participant[p].step != 0;
+        match inside && rules.has(Alteration::StopsInCheckpoint) {
+            true => Err(Refusal(21)),
+            false => Ok(()),
         }
     }
 
@@ -75,8 +91,9 @@ impl Store {
         publishers.any(|(n, other)| n != p && other.place != 0)
     }
 
-    /// Not current, and held by no publisher at a place other than 0.
-    fn free(&self, slot: u64, rules: Rules) -> bool {
+    /// Not current, held by no publisher at a place other than 0, and in a
+    /// rest store deferred by nobody. Publisher p asks.
+    fn free(&self, slot: u64, p: usize, rules: Rules) -> bool {
         let counts = |publisher: &Publisher| match publisher.place {
             0 => rules.has(Alteration::HeldAtZeroCounts),
             34 => !rules.has(Alteration::HolderAt34Ignored),
@@ -92,7 +109,12 @@ impl Store {
             .iter()
             .any(|publisher| counts(publisher) && publisher.held == slot);
         let current = slot == self.current && !rules.has(Alteration::CurrentIsFree);
-        !current && !held
+        let deferred = match self.kind {
+            Kind::New | Kind::Old => false,
+            Kind::Rest if rules.has(Alteration::DeferredIsFree) => false,
+            Kind::Rest => self.is_deferred(slot, p, rules),
+        };
+        !current && !held && !deferred
     }
 
     pub fn write(&mut self, entries: &mut [Pitch], p: u16, v: Pitch, rules: Rules) -> Answer {
@@ -107,6 +129,7 @@ impl Store {
         if !at_turn {
             return Err(Refusal(21));
         }
+        self.stop_in_checkpoint(p, rules)?;
         let slot = if rules.has(Alteration::WritesCurrent) {
             self.current
         } else {
@@ -135,6 +158,7 @@ impl Store {
             }
             self.turn(p, 32)?;
         }
+        self.stop_in_checkpoint(p, rules)?;
         let former = self.current;
         let publisher = &mut self.publisher[p];
         publisher.place = 34;
@@ -180,6 +204,7 @@ impl Store {
             Kind::New => 35,
             Kind::Old if rules.has(Alteration::OldRaisesAt35) => 35,
             Kind::Old => 36,
+            Kind::Rest => unreachable!("a rest store has no RAISE"),
         };
         self.turn(p, place)?;
         let mark = self.publisher[p].walk.mark;

@@ -14,6 +14,7 @@ impl Store {
         match self.kind {
             Kind::New => self.enter_new(r, rules),
             Kind::Old => self.enter_old(r, rules),
+            Kind::Rest => unreachable!("a rest store has no ENTER"),
         }
     }
 
@@ -143,6 +144,7 @@ impl Store {
                 let indicator = &mut self.indicators[parity(loaded)];
                 *indicator = indicator.wrapping_sub(1);
             }
+            Kind::Rest => unreachable!("a rest store has no LEAVE"),
         }
         Ok(Reply::Left)
     }

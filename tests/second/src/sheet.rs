@@ -1,9 +1,9 @@
 //! The run sheet: a text in, a printed line for each of its lines out.
 
-use crate::call::{Call, Reply};
+use crate::call::{Call, Name, Reply, NAMES};
 use crate::making::{make, Making};
 use crate::rules::Rules;
-use crate::store::{Kind, Pitch, Store, TABLE};
+use crate::store::{Kind, Pitch, Store, KINDS, TABLE};
 
 /// A line of more bytes than this, without its newline, is unread.
 pub const LONGEST: usize = 80;
@@ -15,64 +15,69 @@ pub fn lines(text: &[u8]) -> impl Iterator<Item = &[u8]> {
         .map(|line| line.strip_suffix(b"\n").unwrap_or(line))
 }
 
-/// The call that a line asks for; none if the line is unread. Both kinds of
-/// store have all ten calls, so that no line is unread for its kind alone.
+/// The call that a line asks for; none if the line is misshapen. Whether the
+/// made store's kind has the call is not asked here.
 pub fn read(line: &[u8]) -> Option<Call> {
     if line.len() > LONGEST {
         return None;
     }
     let inside = line.strip_prefix(b"(")?.strip_suffix(b")")?;
     let parts: Vec<&[u8]> = inside.split(|&byte| byte == b' ').collect();
-    let call = match parts[..] {
-        [b"store", kind, readers, publishers, slots, version] => Call::Make {
-            kind: kind_number(kind)?,
-            readers: argument(readers)?,
-            publishers: argument(publishers)?,
-            slots: argument(slots)?,
-            version: decimal(version)?,
-        },
-        [b"look", r, k] => Call::Look {
-            r: argument(r)?,
-            k: argument(k)?,
-        },
-        [b"claim", p, s] => Call::Claim {
-            p: argument(p)?,
-            s: argument(s)?,
-        },
-        [b"write", p, v] => Call::Write {
-            p: argument(p)?,
-            v: pitch(v)?,
-        },
-        [b"walk", p, b] => Call::Walk {
-            p: argument(p)?,
-            b: argument(b)?,
-        },
-        [word, name] => by_name_alone(word, argument(name)?)?,
-        _ => return None,
-    };
-    Some(call)
+    let (word, arguments) = parts.split_first()?;
+    let named = |name: &Name| name.word().as_bytes() == *word;
+    read_named(NAMES.into_iter().find(named)?, arguments)
 }
 
-/// The calls that take a reader or a publisher and nothing else.
-fn by_name_alone(word: &[u8], n: u16) -> Option<Call> {
-    match word {
-        b"enter" => Some(Call::Enter { r: n }),
-        b"leave" => Some(Call::Leave { r: n }),
-        b"swap" => Some(Call::Swap { p: n }),
-        b"sync" => Some(Call::Sync { p: n }),
-        b"raise" => Some(Call::Raise { p: n }),
-        b"release" => Some(Call::Release { p: n }),
+/// The call of this name with these arguments.
+fn read_named(name: Name, arguments: &[&[u8]]) -> Option<Call> {
+    let one = || match arguments {
+        [n] => argument(n),
         _ => None,
-    }
+    };
+    let two = || match arguments {
+        [n, second] => Some((argument(n)?, argument(second)?)),
+        _ => None,
+    };
+    Some(match name {
+        Name::Store => read_store(arguments)?,
+        Name::Enter => Call::Enter { r: one()? },
+        Name::Look => two().map(|(r, k)| Call::Look { r, k })?,
+        Name::Leave => Call::Leave { r: one()? },
+        Name::Claim => two().map(|(p, s)| Call::Claim { p, s })?,
+        Name::Write => read_write(arguments)?,
+        Name::Swap => Call::Swap { p: one()? },
+        Name::Sync => Call::Sync { p: one()? },
+        Name::Raise => Call::Raise { p: one()? },
+        Name::Walk => two().map(|(p, b)| Call::Walk { p, b })?,
+        Name::Release => Call::Release { p: one()? },
+        Name::Pick => Call::Pick { r: one()? },
+        Name::Checkpoint => Call::Checkpoint { r: one()? },
+        Name::Defer => Call::Defer { p: one()? },
+    })
 }
 
-fn kind_number(word: &[u8]) -> Option<u16> {
-    let kind = match word {
-        b"new" => Kind::New,
-        b"old" => Kind::Old,
-        _ => return None,
+fn read_store(arguments: &[&[u8]]) -> Option<Call> {
+    let [kind, readers, publishers, slots, version] = arguments else {
+        return None;
     };
-    Some(kind.number() as u16)
+    let word = |named: &Kind| named.to_string().as_bytes() == *kind;
+    Some(Call::Make {
+        kind: KINDS.into_iter().find(word)?.number() as u16,
+        readers: argument(readers)?,
+        publishers: argument(publishers)?,
+        slots: argument(slots)?,
+        version: decimal(version)?,
+    })
+}
+
+fn read_write(arguments: &[&[u8]]) -> Option<Call> {
+    let [p, v] = arguments else {
+        return None;
+    };
+    Some(Call::Write {
+        p: argument(p)?,
+        v: pitch(v)?,
+    })
 }
 
 /// A plain decimal of 64 bits without leading zeros.
@@ -131,9 +136,21 @@ impl Sheet {
         self.made.as_ref().map(|made| made.store.kind)
     }
 
+    /// The call that a line asks for; none if it is unread. A call that the
+    /// made store's kind lacks is unread.
+    pub fn read(&self, line: &[u8]) -> Option<Call> {
+        read(line).filter(|call| !self.lacks(call))
+    }
+
+    /// Whether there is a made store whose kind lacks the call. Every kind
+    /// has making.
+    pub fn lacks(&self, call: &Call) -> bool {
+        self.kind().is_some_and(|kind| !call.name().of(kind))
+    }
+
     /// The reply to a line; none if it is unread, and then no call is made.
     pub fn reply(&mut self, line: &[u8]) -> Option<Reply> {
-        let call = read(line)?;
+        let call = self.read(line)?;
         Some(self.call(&call))
     }
 
@@ -189,6 +206,7 @@ pub fn play(table: &[Pitch], text: &[u8]) -> Vec<u8> {
 #[cfg(test)]
 mod tests {
     use super::*;
+    use crate::call::calls;
     use crate::examples;
     use crate::store::{PITCH_HIGH, PITCH_LOW};
 
@@ -217,27 +235,61 @@ mod tests {
             version,
         };
         let mut calls = vec![make(Kind::New, 0), make(Kind::Old, u64::MAX)];
+        calls.push(make(Kind::Rest, 1));
         for n in [0, 1, 9, 10, 65_535] {
             calls.extend([Call::Enter { r: n }, Call::Look { r: n, k: 31 }]);
             calls.extend([Call::Leave { r: n }, Call::Claim { p: 2, s: n }]);
             calls.extend([Call::Swap { p: n }, Call::Sync { p: n }]);
             calls.extend([Call::Raise { p: n }, Call::Walk { p: 3, b: n }]);
-            calls.push(Call::Release { p: n });
+            calls.extend([Call::Release { p: n }, Call::Pick { r: n }]);
+            calls.extend([Call::Checkpoint { r: n }, Call::Defer { p: n }]);
         }
         for v in [Pitch::MIN, PITCH_LOW, -1, 0, 1, PITCH_HIGH, Pitch::MAX] {
             calls.push(Call::Write { p: 4, v });
+        }
+        for name in NAMES {
+            assert!(calls.iter().any(|call| call.name() == name), "{name}");
         }
         for call in calls {
             assert_eq!(read(call.to_string().as_bytes()), Some(call), "{call}");
         }
     }
 
-    /// No line of more than 50 bytes is well shaped.
+    /// No line of more than 51 bytes is well shaped.
     #[test]
-    fn the_longest_call_has_50_bytes() {
-        let line = b"(store new 65535 65535 65535 18446744073709551615)";
-        assert_eq!(line.len(), 50);
+    fn the_longest_call_has_51_bytes() {
+        let line = b"(store rest 65535 65535 65535 18446744073709551615)";
+        assert_eq!(line.len(), 51);
         assert!(read(line).is_some());
+    }
+
+    /// What the made store's kind lacks is unread; before there is one, every
+    /// call is read.
+    #[test]
+    fn calls_are_unread_by_kind() {
+        for kind in KINDS {
+            let mut sheet = Sheet::new(&[90_000; TABLE], Rules::AS_WRITTEN);
+            for name in calls() {
+                let line = call_line(name);
+                assert_eq!(sheet.reply(line.as_bytes()), Some(Reply::Refused(1)));
+            }
+            let store = format!("(store {kind} 1 1 2 0)");
+            assert_eq!(sheet.reply(store.as_bytes()), Some(Reply::Made));
+            for name in calls() {
+                let unread = sheet.read(call_line(name).as_bytes()).is_none();
+                assert_eq!(unread, !name.of(kind), "{kind} {name}");
+            }
+        }
+    }
+
+    /// A well shaped line of this name.
+    fn call_line(name: Name) -> String {
+        let arguments = ["0", "0 0"];
+        let lines = arguments.map(|arguments| format!("({name} {arguments})"));
+        let shaped = lines
+            .into_iter()
+            .find(|line| read(line.as_bytes()).is_some());
+        shaped.expect("one or two arguments")
     }
 
     #[test]

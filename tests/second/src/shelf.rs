@@ -28,26 +28,32 @@ impl Shelf {
     /// Moves by an accepted call. For a LOOK it says what the pitch should
     /// have been if the reply gives another.
     pub fn hear(&mut self, call: &Call, reply: &Reply) -> Result<(), String> {
-        match (*call, *reply) {
-            (Call::Claim { p, .. }, Reply::Claimed(_)) => self.drafts[usize::from(p)].clear(),
-            (Call::Write { p, v }, Reply::Written(_)) => self.drafts[usize::from(p)].push(v),
-            (Call::Swap { p }, Reply::Swapped(_)) => {
-                self.table.clone_from(&self.drafts[usize::from(p)]);
-            }
-            (Call::Enter { r }, Reply::At(5)) => {
-                self.notes[usize::from(r)]
-                    .get_or_insert_with(Vec::new)
-                    .clone_from(&self.table);
-            }
-            (Call::Look { r, k }, Reply::Pitch(v)) => {
+        if !reply.accepted() {
+            return Ok(());
+        }
+        match *call {
+            Call::Claim { p, .. } => self.drafts[usize::from(p)].clear(),
+            Call::Write { p, v } => self.drafts[usize::from(p)].push(v),
+            Call::Swap { p } => self.table.clone_from(&self.drafts[usize::from(p)]),
+            Call::Enter { r } if *reply == Reply::At(5) => self.fill_note(usize::from(r)),
+            Call::Pick { r } => self.fill_note(usize::from(r)),
+            Call::Look { r, k } => {
                 let note = self.notes[usize::from(r)].as_ref();
                 let due = note.and_then(|note| note.get(usize::from(k)).copied());
-                if due.map(i64::from) != Some(v) {
+                if due.map(|v| Reply::Pitch(v.into())) != Some(*reply) {
                     return Err(format!("the shelf gives {due:?} for this LOOK"));
                 }
             }
-            _ => {}
+            Call::Make { .. } | Call::Enter { .. } | Call::Leave { .. } => {}
+            Call::Sync { .. } | Call::Raise { .. } | Call::Walk { .. } => {}
+            Call::Release { .. } | Call::Checkpoint { .. } | Call::Defer { .. } => {}
         }
         Ok(())
+    }
+
+    fn fill_note(&mut self, r: usize) {
+        self.notes[r]
+            .get_or_insert_with(Vec::new)
+            .clone_from(&self.table);
     }
 }

@@ -1,6 +1,6 @@
 //! The numbers of a store, and how a call finds its way to its step.
 
-use crate::call::{Answer, Call, Refusal, Reply};
+use crate::call::{Answer, Call, Refusal, Reply, Whom};
 use crate::rules::{Alteration, Rules};
 use std::fmt;
 
@@ -39,14 +39,17 @@ pub const STEP_MOST: Pitch = 15_000;
 pub const MOST_READERS: usize = 64;
 pub const MOST_PUBLISHERS: usize = 16;
 pub const MOST_SLOTS: usize = 32;
+/// The most slots that a participant of a rest store may have deferred.
+pub const MOST_DEFERRED: usize = 8;
 
 #[derive(Clone, Copy, PartialEq, Eq, PartialOrd, Ord, Debug)]
 pub enum Kind {
     New,
     Old,
+    Rest,
 }
 
-pub const KINDS: [Kind; 2] = [Kind::New, Kind::Old];
+pub const KINDS: [Kind; 3] = [Kind::New, Kind::Old, Kind::Rest];
 
 /// The format of words and entries, which a kind's number carries.
 pub const FORMAT: u64 = 1;
@@ -57,15 +60,19 @@ impl Kind {
         self.number_in(FORMAT)
     }
 
-    /// The kind word of the format before.
-    pub const fn number_before(self) -> u64 {
-        self.number_in(FORMAT - 1)
+    /// The kind word of the format before, if that had the kind.
+    pub const fn number_before(self) -> Option<u64> {
+        match self {
+            Kind::New | Kind::Old => Some(self.number_in(FORMAT - 1)),
+            Kind::Rest => None,
+        }
     }
 
     const fn number_in(self, format: u64) -> u64 {
         let kind = match self {
             Kind::New => 1,
             Kind::Old => 2,
+            Kind::Rest => 3,
         };
         16 * format + kind
     }
@@ -75,7 +82,7 @@ impl Kind {
     }
 
     pub fn from_number_before(number: u64) -> Option<Kind> {
-        let before = |kind: &Kind| kind.number_before() == number;
+        let before = |kind: &Kind| kind.number_before() == Some(number);
         KINDS.into_iter().find(before)
     }
 
@@ -84,6 +91,7 @@ impl Kind {
         match self {
             Kind::New => u64::MAX - 1,
             Kind::Old => (1 << 63) - 1,
+            Kind::Rest => u64::MAX,
         }
     }
 }
@@ -93,10 +101,13 @@ impl fmt::Display for Kind {
         f.write_str(match self {
             Kind::New => "new",
             Kind::Old => "old",
+            Kind::Rest => "rest",
         })
     }
 }
 
+/// In a rest store the numbers are epochs: `first` is the loaded one,
+/// `second` the least read, `published` the observed one.
 #[derive(Clone, Copy, PartialEq, Eq, Debug, Default)]
 pub struct Reader {
     pub place: u64,
@@ -121,8 +132,51 @@ pub struct Publisher {
     pub walk: Walk,
 }
 
-/// A store of either kind. The records beyond the sizes are kept, because
-/// a packed store has them too.
+/// A slot that a participant has deferred, and the mark queued with it.
+#[derive(Clone, Copy, PartialEq, Eq, Debug, Default)]
+pub struct Deferred {
+    pub slot: u64,
+    pub mark: u64,
+}
+
+/// What a participant of a rest store has besides the reader and the
+/// publisher of its number.
+#[derive(Clone, PartialEq, Eq, Debug)]
+pub struct Participant {
+    /// The step of its checkpoint, 0 outside one.
+    pub step: u64,
+    /// Its deferred slots, in the order in which they were queued.
+    pub deferred: Vec<Deferred>,
+    /// What stands in the room behind them, up to eight in all.
+    pub behind: Vec<Deferred>,
+    /// By how much a packed count is above eight.
+    pub excess: u64,
+}
+
+impl Participant {
+    /// A participant with this packed count and these eight pairs.
+    pub fn packed(step: u64, count: u64, pairs: [Deferred; MOST_DEFERRED]) -> Participant {
+        let known = count.min(MOST_DEFERRED as u64);
+        let (deferred, behind) = pairs.split_at(known as usize);
+        Participant {
+            step,
+            deferred: deferred.to_vec(),
+            behind: behind.to_vec(),
+            excess: count - known,
+        }
+    }
+
+    pub fn fresh() -> Participant {
+        Participant::packed(0, 0, [Deferred::default(); MOST_DEFERRED])
+    }
+
+    pub fn count(&self) -> u64 {
+        self.deferred.len() as u64 + self.excess
+    }
+}
+
+/// A store of any kind. The records beyond the sizes are kept, because a
+/// packed store has them too; so are the participants of every kind.
 #[derive(Clone, PartialEq, Eq, Debug)]
 pub struct Store {
     pub kind: Kind,
@@ -135,15 +189,19 @@ pub struct Store {
     pub indicators: [u64; 2],
     pub reader: [Reader; MOST_READERS],
     pub publisher: [Publisher; MOST_PUBLISHERS],
+    pub participant: [Participant; MOST_PUBLISHERS],
 }
 
 impl Store {
-    /// One of the ten calls on this store.
+    /// One of the thirteen calls on this store.
     pub fn call(&mut self, entries: &mut [Pitch], call: &Call, rules: Rules) -> Reply {
         Reply::from(self.answer(entries, call, rules))
     }
 
     fn answer(&mut self, entries: &mut [Pitch], call: &Call, rules: Rules) -> Answer {
+        if !call.name().of(self.kind) {
+            return self.lacked(call, rules);
+        }
         if rules.has(Alteration::NameBeforeSpoiled) {
             self.names_exist(call)?;
         }
@@ -162,7 +220,30 @@ impl Store {
             Call::Raise { p } => self.raise(p, rules),
             Call::Walk { p, b } => self.walk(p, b, rules),
             Call::Release { p } => self.release(p, rules),
+            Call::Pick { r } => self.pick(r, rules),
+            Call::Checkpoint { r } => self.checkpoint(r, rules),
+            Call::Defer { p } => self.defer(p, rules),
         }
+    }
+
+    /// A call that the kind lacks gets 1 before all else.
+    fn lacked(&mut self, call: &Call, rules: Rules) -> Answer {
+        if rules.has(Alteration::LackedByName) {
+            self.names_exist(call)?;
+        }
+        if rules.has(Alteration::LackedByTurn) {
+            let reader = call.name().whom() == Whom::Reader;
+            return Err(Refusal(if reader { 20 } else { 21 }));
+        }
+        if let (Call::Leave { r }, true) = (*call, rules.has(Alteration::RestLeaves)) {
+            let r = self.reader_named(r)?;
+            self.reader[r].place = 0;
+            return Ok(Reply::Left);
+        }
+        if let (Call::Pick { r }, true) = (*call, rules.has(Alteration::OthersPick)) {
+            return self.pick(r, rules);
+        }
+        Err(Refusal(1))
     }
 
     fn names_exist(&self, call: &Call) -> Result<(), Refusal> {
@@ -193,6 +274,11 @@ impl Store {
     /// The publishers within the size.
     pub fn present_publishers(&self) -> &[Publisher] {
         &self.publisher[..self.publishers.min(MOST_PUBLISHERS as u64) as usize]
+    }
+
+    /// The participants within the size.
+    pub fn present_participants(&self) -> &[Participant] {
+        &self.participant[..self.publishers.min(MOST_PUBLISHERS as u64) as usize]
     }
 }
 

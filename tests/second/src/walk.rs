@@ -22,6 +22,7 @@ impl Store {
         match self.kind {
             Kind::New => Ok(self.walk_new(p, b, rules)),
             Kind::Old => Ok(self.walk_old(p, b, rules)),
+            Kind::Rest => unreachable!("a rest store has no WALK"),
         }
     }
 

@@ -82,6 +82,9 @@ fn shows(alteration: Alteration) -> bool {
         // Words lent by C, and numbers beyond the sizes.
         A::RefusedMakingClears | A::FreshWithinSizeOnly => true,
         A::SpoiledBeyondSizes | A::HoldersBeyondSizes => true,
+        A::WordsBeforeTaken | A::MakingLeavesParticipants | A::DeferredBeyondSizes => true,
+        // A call that the kind lacks is unread.
+        A::LackedByTurn | A::LackedByName | A::RestLeaves | A::OthersPick => true,
         // Numbers that no call looks at.
         A::FreshOldPublishedZero | A::OldSyncKeepsNext | A::ReleaseClearsHeld => true,
         // From a fresh store the version is never below mark - 1.
@@ -89,7 +92,28 @@ fn shows(alteration: Alteration) -> bool {
         // Nearly 2^64 looks or releases.
         A::LooksBeforeTurn | A::OldAsksOneLook => true,
         A::SumBelowHighest | A::SumNotTested | A::ReleasesSaturate => true,
-        _ => false,
+        _ => hidden_of_rest(alteration),
     };
     !hidden
+}
+
+/// Whether an alteration of the rest store never shows on a sheet.
+fn hidden_of_rest(alteration: Alteration) -> bool {
+    use Alteration as A;
+    match alteration {
+        A::RestReaderAtFour | A::RestPlace36 | A::StepPastEnd => true,
+        // What these test, a list of calls leaves at 0.
+        A::RestNextTested | A::ParticipantsTestedInAll => true,
+        // Behind the count stand slots of the store, and every queued mark
+        // is above 0. No epoch is observed before it is raised.
+        A::BehindTested | A::QueuedMarkTested | A::ObservedAheadSpoiled => true,
+        // Numbers that no call looks at.
+        A::CheckpointClearsPicked | A::BehindCleared | A::CheckpointReleases => true,
+        A::DeferClearsHeld => true,
+        // From a fresh store the first marks are above 0 and above the first
+        // epoch, and deferred slots are queued by rising marks.
+        A::FreshObservedZero | A::FreesFrontOnly | A::FreedByExchange => true,
+        A::QueuesAtFront => true,
+        _ => false,
+    }
 }

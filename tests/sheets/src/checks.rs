@@ -9,7 +9,9 @@ use crate::pieces::{some_ways, Cut, Way, LARGEST};
 use crate::program::Ended;
 use crate::seen::Seen;
 use crate::shapes::SHAPES;
-use crate::writer::{random_of, write, HUGE_LINE, MANY_LINES, NO_LINES, ORDINARY};
+use crate::writer::{
+    random_of, write, DEFERRING, HUGE_LINE, MANY_LINES, NO_LINES, ORDINARY, SIDE_BY_SIDE,
+};
 use second::card;
 use second::random::Random;
 use second::sheet::{lines, read};
@@ -85,6 +87,12 @@ fn a_run_that_saw_nothing_lacks_everything() {
     assert!(lacks("old claim: refused 31") && !lacks("new claim: refused 31"));
     assert!(lacks("new raise: shared") && !lacks("old raise: shared"));
     assert!(lacks("walk before a made store: refused 1"));
+    assert!(lacks("defer before a made store: refused 1"));
+    assert!(lacks("rest defer: refused 43") && lacks("rest pick: picked"));
+    assert!(lacks("rest enter: unread") && lacks("old pick: unread"));
+    assert!(!lacks("rest pick: unread") && !lacks("rest store: refused 6"));
+    assert!(lacks("refusal 44") && lacks("the reply picked"));
+    assert!(lacks("rest store: made with the largest sizes"));
     assert!(lacks("an unread line: -0") && lacks("a sheet by a file"));
     assert!(lacks("old store: refused 41") && lacks("a sheet beside a card: 33 lines"));
 }
@@ -107,11 +115,13 @@ fn what_was_seen_is_not_missing() {
         "old store: made with the smallest sizes",
         "new store: refused 2",
         "old enter: refused 10",
-        "a store of the other kind refused after one",
+        "a store of another kind refused after one",
         "a sheet without its last newline",
     ];
     for what in found {
         assert!(!missing.iter().any(|line| line == what), "{what}");
+        let nothing = Seen::default().missing();
+        assert!(nothing.iter().any(|line| line == what), "{what}");
     }
     assert_eq!(missing.len() + found.len(), Seen::default().missing().len());
     assert_eq!((seen.sheets, seen.lines), (1, 5));
@@ -124,6 +134,12 @@ fn sheets_come_from_their_seeds() {
         assert_ne!(write(5, number).text, write(6, number).text);
     }
     assert!(write(5, NO_LINES).text.is_empty());
+    let deferring = play(&write(5, DEFERRING).text);
+    for refusal in [&b"refused 43)"[..], b"refused 44)"] {
+        assert!(lines(&deferring).any(|line| line.ends_with(refusal)));
+    }
+    let side_by_side = play(&write(5, SIDE_BY_SIDE).text);
+    assert!(lines(&side_by_side).any(|line| line.ends_with(b"at 35)")));
     assert!(lines(&write(5, HUGE_LINE).text).any(|line| line.len() > 300_000));
     let many = write(5, MANY_LINES).text;
     assert!(lines(&many).count() > 65_536);

@@ -5,7 +5,9 @@ use crate::cards::{is_root, Card, Folder};
 use crate::pieces::{some_ways, Cut, Way, LARGEST};
 use crate::program::{run, Ended};
 use crate::seen::Seen;
-use crate::writer::{self, CARDS, HUGE_LINE, MANY_LINES, NO_LINES, ORDINARY};
+use crate::writer::{
+    self, CARDS, DEFERRING, HUGE_LINE, MANY_LINES, NO_LINES, ORDINARY, SIDE_BY_SIDE,
+};
 use second::examples;
 use second::random::Random;
 use second::sheet::{lines, play};
@@ -237,7 +239,7 @@ impl Comparison {
     }
 
     /// A sheet beside each shape of card, ordinary sheets with so many lines
-    /// in all, and the three others.
+    /// in all, and the five others.
     pub fn sheets(&mut self, least: u64) -> Result<Vec<Heard>, Box<Difference>> {
         let mut heard = self.cards()?;
         let (mut number, mut count) = (ORDINARY, 0);
@@ -247,7 +249,7 @@ impl Comparison {
             number += 1;
             heard.push(sheet);
         }
-        for number in [NO_LINES, HUGE_LINE, MANY_LINES] {
+        for number in [NO_LINES, HUGE_LINE, MANY_LINES, DEFERRING, SIDE_BY_SIDE] {
             heard.push(self.sheet(number)?);
         }
         Ok(heard)

@@ -5,7 +5,7 @@ use crate::cards::is_root;
 use crate::pieces::{Way, NAMES};
 use crate::shapes::SHAPES;
 use crate::writer::Written;
-use second::call::{Call, Reply, CALL_NAMES};
+use second::call::{calls, calls_lacked_by, calls_of, Call, Name, Reply};
 use second::rules::Rules;
 use second::sheet::{lines, read, Sheet};
 use second::store::{Kind, Pitch, KINDS};
@@ -13,33 +13,46 @@ use std::collections::BTreeMap;
 use std::fmt;
 
 /// Every word that the program can say of a line.
-const WORDS: [&str; 17] = [
+const WORDS: [&str; 18] = [
     "made", "at", "pitch", "left", "claimed", "written", "swapped", "synced", "raised", "shared",
-    "waiting", "spent", "quiet", "returned", "freed", "refused", "unread",
+    "waiting", "spent", "quiet", "returned", "freed", "picked", "refused", "unread",
 ];
 
 /// Every refusal that a sheet can meet. The program lends as many entries as
 /// are due, so that 5 stays out; 33 needs nearly 2^64 looks.
-const REFUSALS: [u64; 18] = [
-    1, 2, 3, 4, 6, 10, 11, 12, 13, 14, 20, 21, 30, 31, 32, 40, 41, 42,
+const REFUSALS: [u64; 20] = [
+    1, 2, 3, 4, 6, 10, 11, 12, 13, 14, 20, 21, 30, 31, 32, 40, 41, 42, 43, 44,
 ];
 
 /// Things that a run must show besides words, refusals, shapes and ways.
 const OTHERS: [&str; 7] = [
     "a store of the same kind made again",
-    "a store of the other kind made after one",
+    "a store of another kind made after one",
     "a store of the same kind refused after one",
-    "a store of the other kind refused after one",
+    "a store of another kind refused after one",
     "an unread line before a made store",
     "a sheet with its last newline",
     "a sheet without its last newline",
 ];
 
-/// Sizes that a run must have made stores of, of both kinds.
-const SIZES: [((u16, u16, u16), &str); 2] = [
-    ((1, 1, 2), "made with the smallest sizes"),
-    ((64, 16, 32), "made with the largest sizes"),
+/// Sizes that a run must have made stores of, of every kind.
+const SIZES: [&str; 2] = [
+    "made with the smallest sizes",
+    "made with the largest sizes",
 ];
+
+/// Which of them these are.
+fn sizes_name(kind: Kind, sizes: (u16, u16, u16)) -> Option<&'static str> {
+    let most_readers = match kind {
+        Kind::New | Kind::Old => 64,
+        Kind::Rest => 16,
+    };
+    match sizes {
+        (1, 1, 2) => Some(SIZES[0]),
+        (readers, 16, 32) if readers == most_readers => Some(SIZES[1]),
+        _ => None,
+    }
+}
 
 /// Counts of what was seen, each by its name.
 #[derive(Default)]
@@ -67,6 +80,9 @@ impl Seen {
             self.add(way_name(way.name()), 1);
         }
         self.add(card_name(written.card_name), 1);
+        for &(kind, name) in &written.lacked {
+            self.add(call_name(Some(kind), name, "unread"), 1);
+        }
     }
 
     /// A text and what the program printed for it, beside a card of these
@@ -132,11 +148,10 @@ impl Seen {
         else {
             return;
         };
-        let sizes = SIZES
-            .iter()
-            .find(|(sizes, _)| *sizes == (readers, publishers, slots));
-        if let (Some((_, name)), Reply::Made) = (sizes, reply) {
-            self.add(call_name(kind, "store", name), 1);
+        let sizes = (readers, publishers, slots);
+        let name = kind.and_then(|kind| sizes_name(kind, sizes));
+        if let (Some(name), Reply::Made) = (name, reply) {
+            self.add(call_name(kind, Name::Store, name), 1);
         }
     }
 
@@ -196,7 +211,7 @@ fn way_name(way: &str) -> String {
     format!("a sheet by {way}")
 }
 
-fn call_name(kind: Option<Kind>, call: &str, answer: &str) -> String {
+fn call_name(kind: Option<Kind>, call: Name, answer: &str) -> String {
     match kind {
         Some(kind) => format!("{kind} {call}: {answer}"),
         None => format!("{call} before a made store: {answer}"),
@@ -206,22 +221,24 @@ fn call_name(kind: Option<Kind>, call: &str, answer: &str) -> String {
 /// The reply's word, or the refusal with its number.
 fn answer_name(reply: Reply) -> String {
     let text = reply.to_string();
-    match reply {
-        Reply::Refused(_) => text,
-        _ => text.split(' ').next().unwrap_or_default().to_string(),
+    match reply.accepted() {
+        true => text.split(' ').next().unwrap_or_default().to_string(),
+        false => text,
     }
 }
 
 /// Each answer that a call can get on a sheet, by kind.
 fn needed_of_calls() -> Vec<String> {
     let mut needed = Vec::new();
-    for name in &CALL_NAMES[1..] {
+    for name in calls() {
         needed.push(call_name(None, name, "refused 1"));
     }
     for kind in KINDS {
-        let sizes = SIZES.iter().map(|(_, name)| name);
-        needed.extend(sizes.map(|name| call_name(Some(kind), "store", name)));
-        for name in CALL_NAMES {
+        let sizes = SIZES.iter();
+        needed.extend(sizes.map(|name| call_name(Some(kind), Name::Store, name)));
+        let lacked = calls_lacked_by(kind);
+        needed.extend(lacked.map(|name| call_name(Some(kind), name, "unread")));
+        for name in calls_of(kind).chain([Name::Store]) {
             let answers = answers(name, kind).split(", ");
             needed.extend(answers.map(|answer| call_name(Some(kind), name, answer)));
         }
@@ -231,25 +248,33 @@ fn needed_of_calls() -> Vec<String> {
 
 /// A made store is never spoiled on a sheet. Only one publisher at a time is
 /// busy in an old store, so that its RAISE is never shared.
-fn answers(call: &str, kind: Kind) -> &'static str {
-    match (call, kind) {
-        ("store", _) => {
+fn answers(name: Name, kind: Kind) -> &'static str {
+    match (name, kind) {
+        (Name::Store, Kind::New | Kind::Old) => {
             "refused 2, refused 3, refused 4, refused 6, refused 40, refused 41, refused 42, made"
         }
-        ("enter", _) => "refused 10, refused 20, at",
-        ("look", _) => "refused 10, refused 13, refused 20, pitch",
-        ("leave", _) => "refused 10, refused 20, left",
-        ("claim", Kind::New) => "refused 11, refused 12, refused 21, refused 30, claimed",
-        ("claim", Kind::Old) => {
+        (Name::Store, Kind::Rest) => {
+            "refused 2, refused 3, refused 4, refused 40, refused 41, refused 42, made"
+        }
+        (Name::Enter, _) => "refused 10, refused 20, at",
+        (Name::Look, _) => "refused 10, refused 13, refused 20, pitch",
+        (Name::Leave, _) => "refused 10, refused 20, left",
+        (Name::Claim, Kind::New | Kind::Rest) => {
+            "refused 11, refused 12, refused 21, refused 30, claimed"
+        }
+        (Name::Claim, Kind::Old) => {
             "refused 11, refused 12, refused 21, refused 31, refused 30, claimed"
         }
-        ("write", _) => "refused 11, refused 14, refused 21, written",
-        ("swap", _) => "refused 11, refused 21, swapped",
-        ("sync", _) => "refused 11, refused 21, refused 32, synced",
-        ("raise", Kind::New) => "refused 11, refused 21, raised, shared",
-        ("raise", Kind::Old) => "refused 11, refused 21, raised",
-        ("walk", Kind::New) => "refused 11, refused 21, waiting, spent, returned",
-        ("walk", Kind::Old) => "refused 11, refused 21, waiting, spent, quiet, returned",
-        _ => "refused 11, refused 21, freed",
+        (Name::Write, _) => "refused 11, refused 14, refused 21, written",
+        (Name::Swap, _) => "refused 11, refused 21, swapped",
+        (Name::Sync, _) => "refused 11, refused 21, refused 32, synced",
+        (Name::Raise, Kind::New | Kind::Rest) => "refused 11, refused 21, raised, shared",
+        (Name::Raise, Kind::Old) => "refused 11, refused 21, raised",
+        (Name::Walk, Kind::New | Kind::Rest) => "refused 11, refused 21, waiting, spent, returned",
+        (Name::Walk, Kind::Old) => "refused 11, refused 21, waiting, spent, quiet, returned",
+        (Name::Release, _) => "refused 11, refused 21, freed",
+        (Name::Pick, _) => "refused 10, refused 20, picked",
+        (Name::Checkpoint, _) => "refused 10, refused 20, at",
+        (Name::Defer, _) => "refused 11, refused 21, refused 43, refused 44, at",
     }
 }

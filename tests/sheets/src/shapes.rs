@@ -184,6 +184,7 @@ fn some_word(random: &mut Random) -> Vec<u8> {
 fn another_kind(_: &[u8], random: &mut Random) -> Vec<u8> {
     let new = Kind::New.number().to_string();
     let old = Kind::Old.number().to_string();
+    let rest = Kind::Rest.number().to_string();
     let kinds = [
         &b""[..],
         b"0",
@@ -191,8 +192,12 @@ fn another_kind(_: &[u8], random: &mut Random) -> Vec<u8> {
         b"2",
         new.as_bytes(),
         old.as_bytes(),
+        rest.as_bytes(),
         b"New",
         b"OLD",
+        b"Rest",
+        b"res",
+        b"rests",
         b"ne",
         b"newer",
         b"mid",
