@@ -189,7 +189,7 @@ EPOCH-IS-LAST = 43
 abbrev pub TOO-MANY-DEFERRED : ℕ
 TOO-MANY-DEFERRED = 44
 
--- The codes of accepted replies for C, in document 01's order of replies.
+-- The codes of accepted replies for C: those of document 01 in its order, then that of request 3.
 abbrev pub CODE-MADE : ℕ
 CODE-MADE = 100
 

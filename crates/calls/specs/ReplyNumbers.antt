@@ -16,7 +16,7 @@ abbrev pub pitchNumber : ℤ → ℕ
 pitchNumber (pos n) = n
 pitchNumber (negsuc n) = NUMBER-MAX - n
 
--- An accepted reply has 100 and up, in document 01's order of replies.
+-- An accepted reply has 100 and up: those of document 01 in its order, then that of request 3.
 abbrev pub walkNumbers : WalkReply → ReplyNumbers
 walkNumbers (Waiting awaited) = replyNumbers CODE-WAITING awaited 0
 walkNumbers Spent = replyNumbers CODE-SPENT 0 0

@@ -122,7 +122,7 @@ pub const EPOCH_IS_LAST: u64 = 43;
 
 pub const TOO_MANY_DEFERRED: u64 = 44;
 
-// The codes of accepted replies for C, in document 01's order of replies.
+// The codes of accepted replies for C: those of document 01 in its order, then that of request 3.
 pub const CODE_MADE: u64 = 100;
 
 pub const CODE_AT: u64 = 101;

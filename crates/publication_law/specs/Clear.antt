@@ -17,11 +17,11 @@ use Rattle.statement.specs.Machine.{State, Given}
 use Rattle.statement.specs.Companions.{GoodTable}
 use Rattle.publication_law.specs.Steps.{Versions, publisher, anotherBusy, inUse, claimTests, makingTests}
 
-pub record MakingClear (participants : Bool) (vs : Versions) (z : Given) (s : State) : Type 0 where
+pub record MakingClear (ofParticipants : Bool) (vs : Versions) (z : Given) (s : State) : Type 0 where
   pub long : length (s .words) ≡ WORDS
   pub readers-low : 1 ≤ z .readers
   pub readers-high : z .readers ≤ READERS-MAX
-  pub as-many : participants ≡ true → z .publishers ≡ z .readers
+  pub as-many : ofParticipants ≡ true → z .publishers ≡ z .readers
   pub publishers-low : 1 ≤ z .publishers
   pub publishers-high : z .publishers ≤ PUBLISHERS-MAX
   pub slots-low : SLOTS-MIN ≤ z .slots
@@ -32,18 +32,18 @@ pub record MakingClear (participants : Bool) (vs : Versions) (z : Given) (s : St
   pub table-in-range : anyOutOfRange (z .table) ≡ false
   pub table-steps : anySteep (z .table) ≡ false
 
-module _ (participants : Bool) (vs : Versions) (z : Given) (s : State) where
-  pub making-clear : AllClear (makingTests participants vs z s) → MakingClear participants vs z s
+module _ (ofParticipants : Bool) (vs : Versions) (z : Given) (s : State) where
+  pub making-clear : AllClear (makingTests ofParticipants vs z s) → MakingClear ofParticipants vs z s
   making-clear f =
       let rs = within 1 READERS-MAX (z .readers) (f .1 .0) in
-      let row3 = or-false (participants && not (eqb (z .publishers) (z .readers))) (outside 1 PUBLISHERS-MAX (z .publishers)) (f .1 .1 .0) in
+      let row3 = or-false (ofParticipants && not (eqb (z .publishers) (z .readers))) (outside 1 PUBLISHERS-MAX (z .publishers)) (f .1 .1 .0) in
       let ps = within 1 PUBLISHERS-MAX (z .publishers) (row3 .1) in
       let ss = within SLOTS-MIN SLOTS-MAX (z .slots) (f .1 .1 .1 .0) in
       record {
         long = eqb-true _ _ (not-false _ (f .0));
         readers-low = rs .0;
         readers-high = rs .1;
-        as-many = λ e. eqb-true _ _ (not-false _ (and-false participants (not (eqb (z .publishers) (z .readers))) (row3 .0) e));
+        as-many = λ e. eqb-true _ _ (not-false _ (and-false ofParticipants (not (eqb (z .publishers) (z .readers))) (row3 .0) e));
         publishers-low = ps .0;
         publishers-high = ps .1;
         slots-low = ss .0;
@@ -55,20 +55,20 @@ module _ (participants : Bool) (vs : Versions) (z : Given) (s : State) where
         table-steps = f .1 .1 .1 .1 .1 .1 .1 .1 .0;
       }
 
-  pub making-rows : MakingClear participants vs z s → AllClear (makingTests participants vs z s)
+  pub making-rows : MakingClear ofParticipants vs z s → AllClear (makingTests ofParticipants vs z s)
   making-rows f = (
     negated _ (eq-eqb _ _ (f .long)),
     (
       not-outside 1 READERS-MAX _ (f .readers-low) (f .readers-high),
       (
-        neither (participants && not (eqb (z .publishers) (z .readers))) (outside 1 PUBLISHERS-MAX (z .publishers)) (and-not participants (not (eqb (z .publishers) (z .readers))) (λ e. negated _ (eq-eqb _ _ (f .as-many e)))) (not-outside 1 PUBLISHERS-MAX _ (f .publishers-low) (f .publishers-high)),
+        neither (ofParticipants && not (eqb (z .publishers) (z .readers))) (outside 1 PUBLISHERS-MAX (z .publishers)) (and-not ofParticipants (not (eqb (z .publishers) (z .readers))) (λ e. negated _ (eq-eqb _ _ (f .as-many e)))) (not-outside 1 PUBLISHERS-MAX _ (f .publishers-low) (f .publishers-high)),
         (not-outside SLOTS-MIN SLOTS-MAX _ (f .slots-low) (f .slots-high), (negated _ (eq-eqb _ _ (f .entries-are)), (f .version-fits, (negated _ (eq-eqb _ _ (f .table-long)), (f .table-in-range, (f .table-steps, tt)))))),
       ),
     ),
   )
 
   -- Its table is a good one.
-  pub table-is-good : MakingClear participants vs z s → GoodTable (z .table)
+  pub table-is-good : MakingClear ofParticipants vs z s → GoodTable (z .table)
   table-is-good f = record {
     long = f .table-long;
     in-range = λ k l. none-below (λ k. outOfRange (entryOf (z .table) k)) _ k (f .table-in-range) (omega (arith, f .table-long));
@@ -76,8 +76,8 @@ module _ (participants : Bool) (vs : Versions) (z : Given) (s : State) where
   }
 
   -- The same from the number of its first row that applies: there is none.
-  pub making-unrefused : firstOf (makingTests participants vs z s) ≡ 0 → MakingClear participants vs z s
-  making-unrefused e = making-clear (clear (makingTests participants vs z s) refl e)
+  pub making-unrefused : firstOf (makingTests ofParticipants vs z s) ≡ 0 → MakingClear ofParticipants vs z s
+  making-unrefused e = making-clear (clear (makingTests ofParticipants vs z s) refl e)
 
 -- The last two rows do not apply to a good table.
 pub good-in-range : (table : List ℤ) → GoodTable table → anyOutOfRange table ≡ false

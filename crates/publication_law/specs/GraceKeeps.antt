@@ -190,10 +190,10 @@ module _ (K : DamageRules) (law : KindLaw K) (z : Given) (g : Ghost) (s : State)
         (walk-tallied (result .reply) _ ws)
 
 -- A fresh store.
-pub made-grace-invariant : (K : DamageRules) (participants : Bool) (x : Reader) (z : Given) (s : State) → MakingClear participants (K .versions) z s → x .place ≡ PLACE-OUT → x .picked ≡ 0
+pub made-grace-invariant : (K : DamageRules) (ofParticipants : Bool) (x : Reader) (z : Given) (s : State) → MakingClear ofParticipants (K .versions) z s → x .place ≡ PLACE-OUT → x .picked ≡ 0
     → K .readerDamaged (z .readers) (z .slots) x ≡ false → K .publisherDamaged (z .readers) (z .slots) noPublisher ≡ false → GraceInvariant K z (ghost₀ (z .readers) (z .table)) (made (K .number) x z s)
-made-grace-invariant K participants x z s f out none reader-ok publisher-ok = record {
-  every = every.made-invariant K participants x z s f out none reader-ok publisher-ok;
+made-grace-invariant K ofParticipants x z s f out none reader-ok publisher-ok = record {
+  every = every.made-invariant K ofParticipants x z s f out none reader-ok publisher-ok;
   grace = rw (
     readers-fresh (K .number) x z s (λ (x′ : Reader). x′ .place) out refl,
     readers-fresh (K .number) x z s (λ (x′ : Reader). x′ .picked) none refl,

@@ -180,7 +180,7 @@ module _ (number : ℕ) (x : Reader) (z : Given) (s : State) where
   publishers-fresh f = fun-ext (λ p. ap f (fresh-publisher number (z .readers) (z .publishers) (z .slots) (z .version) x p))
 
 -- .. and that it has the invariant.
-module _ (K : DamageRules) (participants : Bool) (x : Reader) (z : Given) (s : State) (f : MakingClear participants (K .versions) z s) where
+module _ (K : DamageRules) (ofParticipants : Bool) (x : Reader) (z : Given) (s : State) (f : MakingClear ofParticipants (K .versions) z s) where
   w : List ℕ
   w = freshWords (K .number) (z .readers) (z .publishers) (z .slots) (z .version) x
 

@@ -46,7 +46,7 @@ use Rattle.publication_law.specs.PhaseLaws.{phase-turn}
 use Rattle.publication_law.specs.GraceInvariant.{GraceInvariant}
 use Rattle.publication_law.specs.KindLaw.{KindLaw, place-bounded, undamaged-publisher, early-fits}
 use Rattle.publication_law.specs.Keeps.{claim-keeps, write-keeps, swap-keeps, slots-right, picks-right, table-right, placed, idle-told, former-told}
-use Rattle.publication_law.specs.Served.{SharedCalls, named-reader, named-publisher, reader-named, publisher-named, slot-named, look-turn, claim-turn, write-turn, swap-turn, look-shelf, claim-not-picked, look-accepted, claims-on, refused-busy, writes-on, swaps-on}
+use Rattle.publication_law.specs.Served.{SharedCalls, named-reader, named-publisher, reader-named, publisher-named, slot-named, publisher-placed, writer-placed, look-turn, claim-turn, write-turn, swap-turn, look-shelf, claim-not-picked, look-accepted, claims-on, refused-busy, writes-on, swaps-on}
 use Rattle.publication_law.specs.GraceKeeps.{early-keeps, release-keeps, released-in-order, idle-empty, moved-publisher-undamaged, made-grace-invariant}
 use Rattle.publication_law.specs.TableLaws.{ActFacts, ActLaws, lacked-refused, only-damaged}
 use Rattle.publication_law.specs.Calls.{step-undamaged, undamaged-facts}
@@ -63,15 +63,15 @@ pub record KindShows (R : SectionRules) (traits : GraceTraits) : Type 1 where
   -- what is said of the kind beside its rules
   pub first-is : traits .every .firstTable ≡ (λ z. z .table)
   pub lacks-is : (c : Call) → traits .every .lacks c ≡ withoutSections c
-  pub apart-is : traits .every .participants ≡ false
+  pub apart-is : traits .every .ofParticipants ≡ false
   pub none-retired : retires (R .damage .number) ≡ false
   pub exclusive-is : traits .every .exclusive ≡ R .exclusive
-  pub no-participants : traits .every .participants ≡ false
   pub successor-is : traits .successor ≡ R .damage .versions .markAt
   pub raises-in : (phase : Phase) → traits .every .raisesIn phase ≡ R .raisesAt (firstPlace phase)
   pub walks-in : (phase : Phase) → traits .every .walksIn phase ≡ R .walksAt (firstPlace phase)
   -- versions up to the last fit, and below it a SYNC is not refused
   pub last-fits : (ver : ℕ) → ver ≤ traits .every .last → R .damage .versions .tooLarge ver ≡ false
+  pub fits-to-last : (ver : ℕ) → R .damage .versions .tooLarge ver ≡ false → ver ≤ traits .every .last
   pub below-last : (ver : ℕ) → ver < traits .every .last → R .damage .versions .isLast ver ≡ false
   pub KindInvariant : Ghost → State → Type 0
   pub start-own : (z : Given) (s : State) → MakingClear false (R .damage .versions) z s → KindInvariant (ghost₀ (z .readers) (z .table)) (made (R .damage .number) (R .freshReader) z s)
@@ -373,6 +373,10 @@ module _ (R : SectionRules) (traits : GraceTraits) (L : KindShows R traits) wher
       lacked = λ c lacks. lacked-refused (tableBy R) s c (sym (L .lacks-is c) ∙ lacks);
       named = named-right;
       in-turn = turn-right;
+      reader-placed = λ r. sym (i .shared .every .phases .places r);
+      publisher-placed = λ p pn. publisher-placed (R .damage) z g s (i .shared .every) p
+          (place-bounded (L .kind-law) (readers (s .words)) (slots (s .words)) (publisher s p) (i .shared .every .no-damage .publishers-undamaged p (leb-false _ _ (named-publisher (R .damage) z g s (i .shared .every) p pn))));
+      writer-placed = writer-placed (R .damage) z g s (i .shared .every);
       looks = look-accepted (R .damage) z g s (i .shared .every) (R .exclusive) (machine (tableBy R)) shared-calls;
       claims = rw (L .exclusive-is) (claims-on (R .damage) z g s (i .shared .every) (R .exclusive) (machine (tableBy R)) shared-calls);
       busy = rw (L .exclusive-is) (refused-busy (R .damage) z g s (i .shared .every) (R .exclusive) (machine (tableBy R)) shared-calls);
@@ -422,7 +426,16 @@ module _ (R : SectionRules) (traits : GraceTraits) (L : KindShows R traits) wher
         publishers-given = head PUBLISHERS-AT (omega arith);
         slots-given = head SLOTS-AT (omega arith);
         version-given = head VERSION-AT (omega arith);
-        as-many = λ e. clash (sym e ∙ L .no-participants);
+        sizes-fit = record {
+          readers-low = ok .readers-low;
+          readers-high = ok .readers-high;
+          publishers-low = ok .publishers-low;
+          publishers-high = ok .publishers-high;
+          as-many = λ e. clash (sym e ∙ L .apart-is);
+          slots-low = ok .slots-low;
+          slots-high = ok .slots-high;
+          version-high = L .fits-to-last (z .version) (ok .version-fits);
+        };
         current-is = head CURRENT-AT (omega arith);
         releases-are = head RELEASES-AT (omega arith);
         indicators-are = fresh-indicator number (z .readers) (z .publishers) (z .slots) (z .version) x;
@@ -483,18 +496,18 @@ module _ (R : SectionRules) (traits : GraceTraits) (L : KindShows R traits) wher
   -- A making with every argument in its range is accepted.
   pub making-accepts-of : MakingAccepts (machine (tableBy R)) (traits .every)
   unfolding making
-  making-accepts-of z s long rs-low rs-high ps-low ps-high ss-low ss-high len low good as-many = rw (decide-accepts (makingTests false (R .damage .versions) z s) (outcome Made (made (R .damage .number) (R .freshReader) z s)) s
+  making-accepts-of z s long len fit good = rw (decide-accepts (makingTests false (R .damage .versions) z s) (outcome Made (made (R .damage .number) (R .freshReader) z s)) s
       (making-rows false (R .damage .versions) z s (record {
         long = long;
-        readers-low = rs-low;
-        readers-high = rs-high;
+        readers-low = fit .readers-low;
+        readers-high = fit .readers-high;
         as-many = λ e. absurd (clash (sym e));
-        publishers-low = ps-low;
-        publishers-high = ps-high;
-        slots-low = ss-low;
-        slots-high = ss-high;
+        publishers-low = fit .publishers-low;
+        publishers-high = fit .publishers-high;
+        slots-low = fit .slots-low;
+        slots-high = fit .slots-high;
         entries-are = len;
-        version-fits = L .last-fits _ low;
+        version-fits = L .last-fits _ (fit .version-high);
         table-long = good .long;
         table-in-range = good-in-range (z .table) good;
         table-steps = good-steps (z .table) good;

@@ -1,5 +1,5 @@
 -- What every kind serves of LOOK, CLAIM, WRITE and SWAP, from what every kind keeps: at a state where these calls are the shared ones. Assumes nothing.
-use Prim.Native.Nat.{ℕ, _+_, _<_}
+use Prim.Native.Nat.{ℕ, _+_, _<_, _≤_}
 use native.Mathlib.Omega.{arith}
 use mathlib.Core.Path.{_≡_, refl, sym, ap, _∙_}
 use mathlib.Core.Logic.{_≢_}
@@ -13,12 +13,13 @@ use Rattle.base.specs.RowLaws.{clash, and-not, negated, within, not-outside, no
 use Rattle.calls.specs.declared.Call.the-variants.{Look, Claim, Write, Swap}
 use Rattle.calls.specs.declared.Reply.the-variants.{Pitch, Claimed, Written, Swapped, Refused}
 use Rattle.calls.specs.FirstTable.{outOfRange}
-use Rattle.calls.specs.Numbers.{TABLE, PLACE-PICKED, PLACE-IDLE, BUSY}
+use Rattle.calls.specs.Numbers.{TABLE, PLACE-PICKED, PLACE-IDLE, BUSY, PLACE-RETURNED}
 use Rattle.calls.specs.Events.{accepted}
 use Rattle.calls.specs.Model.{entry}
 use Rattle.calls.specs.Told.{Has}
 use Rattle.calls.specs.Told.Role.{free}
-use Rattle.calls.specs.Tally.Phase.{idle, writing}
+use Rattle.calls.specs.Tally.{Phase, firstPlace}
+use Rattle.calls.specs.Tally.Phase.{idle, writing, swapped, synchronising, quiet, raised, returned}
 use Rattle.layout.specs.Layout.{readers, publishers, slots, current}
 use Rattle.statement.specs.Machine.{State, Outcome, Given, Machine, retires}
 use Rattle.statement.specs.KeptInvariant.{Ghost}
@@ -27,7 +28,7 @@ use Rattle.publication_law.specs.Clear.{claim-clear, claim-rows}
 use Rattle.publication_law.specs.Damage.{DamageRules}
 use Rattle.publication_law.specs.Decide.{decided, decide-accepts}
 use Rattle.publication_law.specs.Phases.{phaseAt}
-use Rattle.publication_law.specs.PhaseLaws.{phase-writing}
+use Rattle.publication_law.specs.PhaseLaws.{InPhase, phase-writing}
 use Rattle.publication_law.specs.Invariant.{Invariant}
 use Rattle.publication_law.specs.Keeps.{claim-unpicked, look-right, placed, busy-told, free-told}
 
@@ -58,6 +59,22 @@ module _ (K : DamageRules) (z : Given) (g : Ghost) (s : State) (i : Invariant K 
 
   pub slot-named : (x : ℕ) → leb (slots (s .words)) x ≡ false → x < z .slots
   slot-named x e = omega (arith, leb-false (slots (s .words)) x e, i .sized .slots-are)
+
+  -- The place of a publisher in the words is the one at which its phase begins, or tells how much it has written.
+  pub publisher-placed : (p : ℕ) → publisher s p .place ≤ PLACE-RETURNED → g .tally .phase p ≢ writing → publisher s p .place ≡ firstPlace (g .tally .phase p)
+  publisher-placed p high not-writing = go (g .tally .phase p) not-writing (placed K z g s i p (g .tally .phase p) refl)
+    where
+      go : (phase : Phase) → phase ≢ writing → InPhase (publisher s p .place) phase → publisher s p .place ≡ firstPlace phase
+      go idle ne e = e
+      go writing ne e = absurd (ne refl)
+      go swapped ne e = e
+      go synchronising ne e = e
+      go quiet ne e = e
+      go raised ne e = e
+      go returned ne e = omega arith
+
+  pub writer-placed : (p : ℕ) → g .tally .phase p ≡ writing → publisher s p .place ≡ length (g .model .draft p) + 1
+  writer-placed p e = let range = placed K z g s i p writing e in sym (i .core .publishers p .drafted (range .0) (range .1))
 
   -- A call to which no row applies is in its turn.
   pub look-turn : (r k : ℕ) → AllClear (lookTests s r k) → g .tally .place r ≡ PLACE-PICKED

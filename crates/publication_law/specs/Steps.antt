@@ -191,10 +191,10 @@ tableTests table =
 -- 2 readers, 3 publishers, 4 slots out of range; 5 entries' length; 6 first version above the last; then the first table.
 -- In a kind of participants publishers that are not as many as readers get 3 too.
 abbrev pub makingTests : Bool → Versions → Given → State → List Test
-makingTests participants vs z s =
+makingTests ofParticipants vs z s =
     (not (eqb (length (s .words)) WORDS) gives DAMAGED)
     ∷ (outside 1 READERS-MAX (z .readers) gives BAD-READERS)
-    ∷ (((participants && not (eqb (z .publishers) (z .readers))) || outside 1 PUBLISHERS-MAX (z .publishers)) gives BAD-PUBLISHERS)
+    ∷ (((ofParticipants && not (eqb (z .publishers) (z .readers))) || outside 1 PUBLISHERS-MAX (z .publishers)) gives BAD-PUBLISHERS)
     ∷ (outside SLOTS-MIN SLOTS-MAX (z .slots) gives BAD-SLOTS)
     ∷ (not (eqb (length (s .entries)) (z .slots * TABLE)) gives BAD-ENTRIES)
     ∷ (vs .tooLarge (z .version) gives BAD-VERSION)

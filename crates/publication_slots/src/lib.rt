@@ -1,4 +1,4 @@
-// CLAIM, SWAP and RELEASE of words that are not damaged, which the kinds share: the calls that move a slot.
+// CLAIM, SWAP and RELEASE of words that are not damaged: the calls that move a slot. Every kind has the first two, new and old the third.
 // A kind tests for damage first, and asks nothing of its own callers.
 // The contracts cite publication_law.
 ghost use mathlib.Core.Path.{_≡_};

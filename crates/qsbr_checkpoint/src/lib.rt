@@ -110,7 +110,7 @@ fn free_due(words: &mut [u64], p: usize, n: u64, least: u64) -> u64
     kept
 }
 
-// After the last read: what is due is freed, and r is outside again.
+// After the last read: what is due is freed, and r is outside again. Most checkpoints have nothing deferred.
 fn end_checkpoint(words: &mut [u64], r: usize, count: u64, least: u64)
     requires { ⌜ (length (now words) ≡ WORDS) × (r < PUBLISHERS-MAX) × (count ≤ DEFERRED-MAX) ⌝ }
     ensures { λ _. ⌜ now (words .exit) ≡ freed (now (words .entry)) r count least ⌝ }

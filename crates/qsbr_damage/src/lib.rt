@@ -127,7 +127,7 @@ fn participant_fails(words: &[u64], p: usize, n: u64, slots: u64) -> bool
     retirement_fails(words, p, n, slots)
 }
 
-// Whether the head damages a store with these words and so many entries. There must be as many readers as publishers, so that their number needs no test of its own.
+// Whether the head damages a store with these words and so many entries. There must be as many readers as publishers, so the number of readers needs no range of its own.
 pub fn head_is_damaged(words: &[u64], entries: usize) -> bool
     ensures { λ b. ⌜ ((es : List ℤ) → length es ≡ entries → b ≡ headFails (state (now (words .entry)) es)) ⌝ }
 {

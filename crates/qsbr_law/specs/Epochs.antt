@@ -17,7 +17,7 @@ use Rattle.layout.specs.declared.Retirement.{Retirement}
 use Rattle.layout.specs.declared.Retired.{Retired}
 use Rattle.layout.specs.Records.{_place≔_, _first≔_, _second≔_, _published≔_, _picked≔_, _atPlace_, _walk≔_, _mark≔_, _step≔_, _count≔_}
 use Rattle.qsbr_law.specs.Steps.{lesser, leastOf}
-use Rattle.qsbr_law.specs.KindInvariant.{Inside, Raised, Epochs}
+use Rattle.qsbr_law.specs.KindInvariant.{InsideCheckpoint, Deferring, Epochs}
 
 -- At a fresh store: nobody is inside a checkpoint, at 35, or has a pick or a retired slot.
 pub fresh-epochs : (v : ℕ) (xs : ℕ → Reader) (ys : ℕ → Publisher) (ts : ℕ → Retirement) (ds : ℕ → ℕ → Retired) → ((r : ℕ) → (xs r .place ≡ 0) × (xs r .published ≤ v)) → ((p : ℕ) → (ys p .place ≡ 0) × (ys p .walk .waits ≤ ys p .walk .looks))
@@ -45,8 +45,8 @@ module _ (v : ℕ) (S : ℕ → ℕ → Bool) (xs : ℕ → Reader) (ys : ℕ �
   count-kept r t e = at-or r (rw (same r) e) (λ j d. rw d refl)
 
   -- A participant's reader, picks and step anew.
-  reader-epochs : (r : ℕ) (x : Reader) (picks : ℕ → Bool) (t : Retirement) → t .count ≡ ts r .count → xs r .published ≤ x .published → x .published ≤ v → (1 ≤ t .step → Inside v x picks)
-      → (ys r .place ≡ PLACE-DEFERRING → Raised v x (ys r) picks) → ((q : ℕ) → q + 2 < t .step → x .second ≤ xs q .published)
+  reader-epochs : (r : ℕ) (x : Reader) (picks : ℕ → Bool) (t : Retirement) → t .count ≡ ts r .count → xs r .published ≤ x .published → x .published ≤ v → (1 ≤ t .step → InsideCheckpoint v x picks)
+      → (ys r .place ≡ PLACE-DEFERRING → Deferring v x (ys r) picks) → ((q : ℕ) → q + 2 < t .step → x .second ≤ xs q .published)
       → ((p i : ℕ) → i < ts p .count → picks (ds p i .slot) ≡ true → x .published < ds p i .mark)
       → ((p : ℕ) → ys p .place ≡ PLACE-DEFERRING → picks (ys p .held) ≡ true → x .published < ys p .walk .mark)
       → (x .place ≡ PLACE-PICKED → picks (x .picked) ≡ true)

@@ -3,14 +3,14 @@ use Prim.Native.Nat.{ℕ, zero, suc, _+_, _-_, _<_, _≤_, min}
 use native.Mathlib.Omega.{arith}
 use native.Mathlib.Numerals.{add-one}
 use mathlib.Core.Path.{_≡_, refl, sym, ap, _∙_}
-use mathlib.Core.Logic.{_≢_}
+use mathlib.Core.Logic.{_≢_, _⊎_, inl, inr}
 use mathlib.Core.Bool.{Bool, true, false, not, _||_}
 use mathlib.Core.List.{List, [], _∷_, _++_}
 use lib.ListN.{length}
 use lib.Dec.{leb, ltb, eqb}
 use borrow.Author.Tests.{eqb-true, eqb-false, eq-eqb, ne-eqb, leb-false, ltb-true, ltb-false, not-false}
 use Rattle.base.specs.Base.{choose, upd}
-use Rattle.base.specs.RowLaws.{clash, or-false, choose-split, AllClear}
+use Rattle.base.specs.RowLaws.{clash, or-false, or-either, choose-split}
 use Rattle.calls.specs.declared.Call.the-variants.{Pick, Checkpoint, Defer}
 use Rattle.calls.specs.declared.Reply.{Reply}
 use Rattle.calls.specs.declared.Reply.the-variants.{At, Picked}
@@ -44,16 +44,18 @@ pub record Leaves (p : ℕ) (a : Reply) (x : Reader) (y : Publisher) (t : Retire
   pub retired-are : retiredAt (o .after .words) p ≡ ds
   pub epoch-is : version (o .after .words) ≡ epoch
 
--- PICK: the current slot, at place 5.
-abbrev pub PickFacts : State → ℕ → Outcome → Type 0
-PickFacts s r o = Leaves r (Picked (current (s .words))) (reader s r place≔ PLACE-PICKED picked≔ current (s .words)) (publisher s r) (retirement s r) (retiredAt (s .words) r) (version (s .words)) o
+-- PICK, outside a checkpoint and not at 35: the current slot, at place 5.
+pub record PickFacts (s : State) (r : ℕ) (o : Outcome) : Type 0 where
+  pub outside : retirement s r .step ≡ 0
+  pub apart : publisher s r .place ≢ PLACE-DEFERRING
+  pub leaves : Leaves r (Picked (current (s .words))) (reader s r place≔ PLACE-PICKED picked≔ current (s .words)) (publisher s r) (retirement s r) (retiredAt (s .words) r) (version (s .words)) o
 
 -- The least after a read: the first read starts it, each later one may lower it.
 pub record IsLeast (s : State) (r n : ℕ) : Type 0 where
   pub starts : retirement s r .step ≡ 2 → n ≡ reader s 0 .published
   pub lowers : 2 < retirement s r .step → n ≡ min (reader s r .second) (reader s (retirement s r .step - 2) .published)
 
--- The retired slots of p in their order, n of them from i on; and those of a list that wait for a mark above the least.
+-- The retired slots of p in their order, n of them from i on; and those of a list that still wait: their mark is above the least.
 unfoldable pub retiredFrom : List ℕ → ℕ → ℕ → ℕ → List Retired
 retiredFrom w p i zero = []
 retiredFrom w p i (suc n) = retiredAt w p i ∷ retiredFrom w p (i + 1) n
@@ -67,8 +69,9 @@ pub record Freed (s : State) (r least count : ℕ) (o : Outcome) : Type 0 where
   pub stay : retiredFrom (o .after .words) r 0 count ≡ waiting least (retiredFrom (s .words) r 0 (retirement s r .count))
   pub behind : (i : ℕ) → count ≤ i → retiredAt (o .after .words) r i ≡ retiredAt (s .words) r i
 
--- CHECKPOINT: step 1 drops the pick and loads the epoch, step 2 observes it, each later one reads; the last one frees, and the participant is outside again.
+-- CHECKPOINT, not at 35: step 1 drops the pick and loads the epoch, step 2 observes it, each later one reads; the last one frees, and the participant is outside again.
 pub record CheckpointFacts (s : State) (r : ℕ) (o : Outcome) : Type 0 where
+  pub apart : publisher s r .place ≢ PLACE-DEFERRING
   pub loads : retirement s r .step ≡ 0 → Leaves r (At 1) (reader s r place≔ PLACE-OUT first≔ version (s .words)) (publisher s r) (retirement s r step≔ 1) (retiredAt (s .words) r) (version (s .words)) o
   pub observes : retirement s r .step ≡ 1 → Leaves r (At 2) (reader s r published≔ (reader s r .first)) (publisher s r) (retirement s r step≔ 2) (retiredAt (s .words) r) (version (s .words)) o
   pub reads : 2 ≤ retirement s r .step → retirement s r .step ≢ readers (s .words) + 1 → (least : ℕ) × IsLeast s r least
@@ -76,8 +79,10 @@ pub record CheckpointFacts (s : State) (r : ℕ) (o : Outcome) : Type 0 where
   pub ends : 2 ≤ retirement s r .step → retirement s r .step ≡ readers (s .words) + 1 → (least : ℕ) × IsLeast s r least × (count : ℕ) × Freed s r least count o
       × Leaves r (At (retirement s r .step + 1)) (reader s r second≔ least) (publisher s r) (retirement s r step≔ 0 count≔ count) (retiredAt (o .after .words) r) (version (s .words)) o
 
--- DEFER: at 34 it drops the pick and raises the epoch, which is its mark; at 35 it observes the mark, and the slot held is the last retired one.
+-- DEFER, outside a checkpoint: at 34 it drops the pick and raises the epoch, which is its mark; at 35 it observes the mark, and the slot held is the last retired one.
 pub record DeferFacts (s : State) (p : ℕ) (o : Outcome) : Type 0 where
+  pub outside : retirement s p .step ≡ 0
+  pub turn : (publisher s p .place ≡ PLACE-SWAPPED) ⊎ (publisher s p .place ≡ PLACE-DEFERRING)
   pub raises : publisher s p .place ≡ PLACE-SWAPPED → Leaves p (At PLACE-DEFERRING) (reader s p place≔ PLACE-OUT) (publisher s p atPlace PLACE-DEFERRING walk≔ (publisher s p .walk mark≔ (version (s .words) + 1)))
       (retirement s p) (retiredAt (s .words) p) (version (s .words) + 1) o
   pub queues : publisher s p .place ≡ PLACE-DEFERRING → Leaves p (At PLACE-IDLE) (reader s p published≔ (publisher s p .walk .mark)) (publisher s p atPlace PLACE-IDLE) (retirement s p count≔ retirement s p .count + 1)
@@ -198,8 +203,9 @@ module _ (s : State) (r : ℕ) (long : length (s .words) ≡ WORDS) (low : r < P
           behind = λ k high. after k ∙ (stay-behind r (leastRead s r) (retirement s r .count) 0 0 w (omega arith) (omega arith) low w-long k high ∙ kept k);
         }
 
-    checkpoint-facts : CheckpointFacts s r (checkpoint s r)
-    checkpoint-facts = record {
+    checkpoint-facts : publisher s r .place ≢ PLACE-DEFERRING → CheckpointFacts s r (checkpoint s r)
+    checkpoint-facts not-deferring = record {
+      apart = not-deferring;
       loads = λ e. rw (eq-eqb (retirement s r .step) 0 e) load-leaves;
       observes = λ e. rw (ne-eqb (retirement s r .step) 0 (λ d. omega arith), eq-eqb (retirement s r .step) 1 e) observe-leaves;
       reads = λ two ne. (leastRead s r, least-is s r two, rw (ne-eqb (retirement s r .step) 0 (λ d. omega arith), ne-eqb (retirement s r .step) 1 (λ d. omega arith), ne-eqb (retirement s r .step) (readers (s .words) + 1) ne) read-leaves);
@@ -213,8 +219,10 @@ module _ (s : State) (r : ℕ) (long : length (s .words) ≡ WORDS) (low : r < P
       );
     }
 
-  defer-facts : (publisher s r .place ≡ PLACE-DEFERRING → retirement s r .count < DEFERRED-MAX) → DeferFacts s r (defer s r)
-  defer-facts room = record {
+  defer-facts : (publisher s r .place ≡ PLACE-DEFERRING → retirement s r .count < DEFERRED-MAX) → retirement s r .step ≡ 0 → (publisher s r .place ≡ PLACE-SWAPPED) ⊎ (publisher s r .place ≡ PLACE-DEFERRING) → DeferFacts s r (defer s r)
+  defer-facts room out in-turn = record {
+    outside = out;
+    turn = in-turn;
     raises = λ e. rw (eq-eqb (publisher s r .place) PLACE-SWAPPED e) (leaves-by s _ r _ _ _ _ _ _ (raise-moves true s r long low));
     queues = λ e. rw (ne-eqb (publisher s r .place) PLACE-SWAPPED (λ d. omega arith)) (leaves-by s _ r _ _ _ _ _ _ (queue-moves true s r long low (room e)));
   }
@@ -224,7 +232,11 @@ pub rest-pick-facts : (s : State) (r : ℕ) → accepted (step rules s (Pick r) 
 unfolding step
 rest-pick-facts s r = decided (λ (o : Outcome). accepted (o .reply) ≡ true → PickFacts s r o) (rows rules s (Pick r)) (act s (Pick r)) s refl
     (λ f ok. let no-damage = undamaged-facts rules s (f .0) in
-    leaves-by s _ r _ _ _ _ _ _ (pick-moves true s r (no-damage .head .long) (publisher-below damageRules s no-damage r (omega (arith, leb-false (readers (s .words)) r (f .1 .0), as-many-of s (f .0))))))
+    let turn = or-false (not (eqb (retirement s r .step) 0)) (eqb (publisher s r .place) PLACE-DEFERRING) (f .1 .1 .0) in record {
+      outside = eqb-true _ _ (not-false _ (turn .0));
+      apart = eqb-false _ _ (turn .1);
+      leaves = leaves-by s _ r _ _ _ _ _ _ (pick-moves true s r (no-damage .head .long) (publisher-below damageRules s no-damage r (omega (arith, leb-false (readers (s .words)) r (f .1 .0), as-many-of s (f .0)))));
+    })
     (λ ok. clash (sym ok))
 
 pub rest-checkpoint-facts : (s : State) (r : ℕ) → accepted (step rules s (Checkpoint r) .reply) ≡ true → CheckpointFacts s r (step rules s (Checkpoint r))
@@ -232,13 +244,19 @@ unfolding step
 rest-checkpoint-facts s r = decided (λ (o : Outcome). accepted (o .reply) ≡ true → CheckpointFacts s r o) (rows rules s (Checkpoint r)) (act s (Checkpoint r)) s refl
     (λ f ok. let no-damage = undamaged-facts rules s (f .0) in
     let lt : r < publishers (s .words) = omega (arith, leb-false (readers (s .words)) r (f .1 .0), as-many-of s (f .0)) in
-    checkpoint-facts s r (no-damage .head .long) (publisher-below damageRules s no-damage r lt) (omega (arith, fits-of s (f .0) r lt .count-high)))
+    checkpoint-facts s r (no-damage .head .long) (publisher-below damageRules s no-damage r lt) (omega (arith, fits-of s (f .0) r lt .count-high)) (eqb-false _ _ (f .1 .1 .0)))
     (λ ok. clash (sym ok))
+
+either-place : {a b : ℕ} → (eqb a PLACE-SWAPPED ≡ true) ⊎ (eqb b PLACE-DEFERRING ≡ true) → (a ≡ PLACE-SWAPPED) ⊎ (b ≡ PLACE-DEFERRING)
+either-place (inl e) = inl (eqb-true _ _ e)
+either-place (inr e) = inr (eqb-true _ _ e)
 
 pub rest-defer-facts : (s : State) (p : ℕ) → accepted (step rules s (Defer p) .reply) ≡ true → DeferFacts s p (step rules s (Defer p))
 unfolding step
 rest-defer-facts s p = decided (λ (o : Outcome). accepted (o .reply) ≡ true → DeferFacts s p o) (rows rules s (Defer p)) (act s (Defer p)) s refl
     (λ f ok. let no-damage = undamaged-facts rules s (f .0) in
     let lt : p < publishers (s .words) = leb-false (publishers (s .words)) p (f .1 .0) in
-    defer-facts s p (no-damage .head .long) (publisher-below damageRules s no-damage p lt) (fits-of s (f .0) p lt .room))
+    let turn = or-false (not (eqb (publisher s p .place) PLACE-SWAPPED || eqb (publisher s p .place) PLACE-DEFERRING)) (not (eqb (retirement s p .step) 0)) (f .1 .1 .0) in
+    defer-facts s p (no-damage .head .long) (publisher-below damageRules s no-damage p lt) (fits-of s (f .0) p lt .room) (eqb-true _ _ (not-false _ (turn .1)))
+    (either-place (or-either _ _ (not-false (eqb (publisher s p .place) PLACE-SWAPPED || eqb (publisher s p .place) PLACE-DEFERRING) (turn .0)))))
     (λ ok. clash (sym ok))

@@ -21,13 +21,13 @@ use Rattle.publication_law.specs.Invariant.{formersOf, Invariant}
 use Rattle.qsbr_law.specs.Steps.{damageRules}
 
 -- A participant inside a checkpoint has no pick; what it loaded is an epoch that was there, and not below what it has observed.
-pub record Inside (v : ℕ) (x : Reader) (picks : ℕ → Bool) : Type 0 where
+pub record InsideCheckpoint (v : ℕ) (x : Reader) (picks : ℕ → Bool) : Type 0 where
   pub loaded-low : x .first ≤ v
   pub loaded-high : x .published ≤ x .first
   pub dropped : (slot : ℕ) → picks slot ≢ true
 
 -- A participant at 35 has no pick; its mark is an epoch that was there, and not below what it has observed.
-pub record Raised (v : ℕ) (x : Reader) (y : Publisher) (picks : ℕ → Bool) : Type 0 where
+pub record Deferring (v : ℕ) (x : Reader) (y : Publisher) (picks : ℕ → Bool) : Type 0 where
   pub mark-low : y .walk .mark ≤ v
   pub mark-high : x .published ≤ y .walk .mark
   pub dropped : (slot : ℕ) → picks slot ≢ true
@@ -35,8 +35,8 @@ pub record Raised (v : ℕ) (x : Reader) (y : Publisher) (picks : ℕ → Bool) 
 pub record Epochs (v : ℕ) (picks : ℕ → ℕ → Bool) (xs : ℕ → Reader) (ys : ℕ → Publisher) (ts : ℕ → Retirement) (ds : ℕ → ℕ → Retired) : Type 0 where
   -- nobody has observed an epoch that was not there
   pub observed-low : (r : ℕ) → xs r .published ≤ v
-  pub inside : (r : ℕ) → 1 ≤ ts r .step → Inside v (xs r) (picks r)
-  pub raised : (p : ℕ) → ys p .place ≡ PLACE-DEFERRING → Raised v (xs p) (ys p) (picks p)
+  pub inside : (r : ℕ) → 1 ≤ ts r .step → InsideCheckpoint v (xs r) (picks r)
+  pub raised : (p : ℕ) → ys p .place ≡ PLACE-DEFERRING → Deferring v (xs p) (ys p) (picks p)
   -- a checkpoint at step k has read participants 0 to k - 3, and the least that it has is at most what each of these has observed by now
   pub reads : (r q : ℕ) → q + 2 < ts r .step → xs r .second ≤ xs q .published
   -- the mark of a retired slot is an epoch that was there

@@ -46,14 +46,14 @@ use Rattle.publication_law.specs.DamageLaws.{publisher-below, undamaged-to}
 use Rattle.publication_law.specs.Core.{CurrentOrFormer}
 use Rattle.publication_law.specs.Core.CurrentOrFormer.{is-current, is-former}
 use Rattle.publication_law.specs.Invariant.{formersOf}
-use Rattle.publication_law.specs.KindLaw.{undamaged-publisher, early-fits}
+use Rattle.publication_law.specs.KindLaw.{undamaged-publisher, place-bounded, early-fits}
 use Rattle.publication_law.specs.Table.{damaged, rows, step, making, machine}
 use Rattle.publication_law.specs.Calls.{step-undamaged, undamaged-facts, undamaged-further}
 use Rattle.publication_law.specs.Decide.{decided, decide-accepts}
 use Rattle.publication_law.specs.Frames.{same-framed, claim-framed, write-framed, swap-framed}
 use Rattle.publication_law.specs.TableLaws.{ActFacts, ActLaws, lacked-refused, only-damaged, refused-leaves-of-acts, frame-of-table, representable-of-table, representable-making-of-table}
 use Rattle.publication_law.specs.Keeps.{slots-right, picks-right, table-right, placed, idle-told, unused-told, made-invariant}
-use Rattle.publication_law.specs.Served.{SharedCalls, named-reader, named-publisher, named-slot, reader-named, publisher-named, slot-named, look-turn, claim-turn, write-turn, swap-turn, look-shelf, claim-not-picked, look-accepted, claims-on, refused-busy, writes-on, swaps-on}
+use Rattle.publication_law.specs.Served.{SharedCalls, named-reader, named-publisher, named-slot, reader-named, publisher-named, slot-named, publisher-placed, writer-placed, look-turn, claim-turn, write-turn, swap-turn, look-shelf, claim-not-picked, look-accepted, claims-on, refused-busy, writes-on, swaps-on}
 use Rattle.publication_law.specs.PhaseLaws.{InPhase}
 use Rattle.publication_law.specs.Phases.{phaseAt}
 use Rattle.publication_law.specs.Promises.{EveryPromises}
@@ -260,6 +260,10 @@ module _ (z : Given) (g : Ghost) (s : State) (i : RestInvariant z g s) where
     lacked = λ c lacking. lacked-refused rules s c lacking;
     named = named-right;
     in-turn = turn-right;
+    reader-placed = λ r. sym (i .shared .phases .places r);
+    publisher-placed = λ p pn. publisher-placed damageRules z g s (i .shared) p
+        (place-bounded kind-law (readers (s .words)) (slots (s .words)) (publisher s p) (i .shared .no-damage .publishers-undamaged p (leb-false _ _ (named-publisher damageRules z g s (i .shared) p pn))));
+    writer-placed = writer-placed damageRules z g s (i .shared);
     looks = look-accepted damageRules z g s (i .shared) false Qsbr shared-calls;
     claims = claims-on damageRules z g s (i .shared) false Qsbr shared-calls;
     busy = λ exclusive. absurd (clash (sym exclusive));
@@ -370,7 +374,16 @@ module _ (z : Given) (s : State) (ok : MakingClear true versions z s) where
         publishers-given = head PUBLISHERS-AT (omega arith);
         slots-given = head SLOTS-AT (omega arith);
         version-given = head VERSION-AT (omega arith);
-        as-many = λ _. ok .as-many refl;
+        sizes-fit = record {
+          readers-low = ok .readers-low;
+          readers-high = ok .readers-high;
+          publishers-low = ok .publishers-low;
+          publishers-high = ok .publishers-high;
+          as-many = λ _. ok .as-many refl;
+          slots-low = ok .slots-low;
+          slots-high = ok .slots-high;
+          version-high = ltb-false LAST (z .version) (ok .version-fits);
+        };
         current-is = head CURRENT-AT (omega arith);
         releases-are = head RELEASES-AT (omega arith);
         indicators-are = fresh-indicator KIND-REST (z .readers) (z .publishers) (z .slots) (z .version) (blankReader (z .version));
@@ -427,18 +440,18 @@ writes-in-range s p v = decided (λ (o : Outcome). accepted (o .reply) ≡ true 
 
 making-accepts : MakingAccepts Qsbr traits
 unfolding making
-making-accepts z s long rs-low rs-high ps-low ps-high ss-low ss-high len low good as-many = rw (decide-accepts (makingTests true versions z s) (outcome Made (made KIND-REST (blankReader (z .version)) z s)) s
+making-accepts z s long len fit good = rw (decide-accepts (makingTests true versions z s) (outcome Made (made KIND-REST (blankReader (z .version)) z s)) s
     (making-rows true versions z s (record {
       long = long;
-      readers-low = rs-low;
-      readers-high = rs-high;
-      as-many = as-many;
-      publishers-low = ps-low;
-      publishers-high = ps-high;
-      slots-low = ss-low;
-      slots-high = ss-high;
+      readers-low = fit .readers-low;
+      readers-high = fit .readers-high;
+      as-many = λ _. fit .as-many refl;
+      publishers-low = fit .publishers-low;
+      publishers-high = fit .publishers-high;
+      slots-low = fit .slots-low;
+      slots-high = fit .slots-high;
       entries-are = len;
-      version-fits = le-ltb LAST (z .version) low;
+      version-fits = le-ltb LAST (z .version) (fit .version-high);
       table-long = good .long;
       table-in-range = good-in-range (z .table) good;
       table-steps = good-steps (z .table) good;

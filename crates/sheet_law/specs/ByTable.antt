@@ -72,15 +72,15 @@ refuses : (rows : List Test) (o : Outcome) (s : State) (n : ℕ) → firstOf row
 refuses rows o s n e ne = rw (e, ne-eqb n 0 ne) refl
 
 -- The rows of a making without a first table: the number does not depend on what there is in place of one.
-module _ (participants : Bool) (vs : Versions) (rs ps ss version : ℕ) (s : State) where
+module _ (ofParticipants : Bool) (vs : Versions) (rs ps ss version : ℕ) (s : State) where
   abbrev rowsWith : List ℤ → List Test
-  rowsWith l = makingTests participants vs (given rs ps ss version l) s
+  rowsWith l = makingTests ofParticipants vs (given rs ps ss version l) s
 
   number-same : (l : List ℤ) → asFirstTable l ≡ none → firstOf (rowsWith l) ≡ firstOf (rowsWith [])
   number-same l e = rw (not-32 l e) refl
 
   number-some : firstOf (rowsWith []) ≢ 0
-  number-some e = let long : 0 ≡ TABLE = making-unrefused participants vs (given rs ps ss version []) s e .table-long in omega arith
+  number-some e = let long : 0 ≡ TABLE = making-unrefused ofParticipants vs (given rs ps ss version []) s e .table-long in omega arith
 
   refused-without : (o : Outcome) (l : List ℤ) → asFirstTable l ≡ none → decide (rowsWith l) o s ≡ outcome (Refused (firstOf (rowsWith []))) s
   refused-without o l e = refuses (rowsWith l) o s (firstOf (rowsWith [])) (number-same l e) number-some
@@ -89,7 +89,7 @@ module _ (participants : Bool) (vs : Versions) (rs ps ss version : ℕ) (s : Sta
   number-early =
       choose-split Early (not (eqb (length (s .words)) WORDS)) (λ e. inl (omega arith)) (λ e.
       choose-split Early (outside 1 READERS-MAX rs) (λ e. inl (omega arith)) (λ e.
-      choose-split Early ((participants && not (eqb ps rs)) || outside 1 PUBLISHERS-MAX ps) (λ e. inl (omega arith)) (λ e.
+      choose-split Early ((ofParticipants && not (eqb ps rs)) || outside 1 PUBLISHERS-MAX ps) (λ e. inl (omega arith)) (λ e.
       choose-split Early (outside SLOTS-MIN SLOTS-MAX ss) (λ e. inl (omega arith)) (λ e.
       choose-split Early (not (eqb (length (s .entries)) (ss * TABLE))) (λ e. inl (omega arith)) (λ e.
       choose-split Early (vs .tooLarge version) (λ e. inl (omega arith)) (λ e. inr refl))))))

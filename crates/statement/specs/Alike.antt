@@ -86,6 +86,9 @@ module _ (M N : Machine) where
       lacked = λ c lacks. rw (e c) (known .lacked c lacks);
       named = λ c. rw (e c) (known .named c);
       in-turn = λ c. rw (e c) (known .in-turn c);
+      reader-placed = known .reader-placed;
+      publisher-placed = known .publisher-placed;
+      writer-placed = known .writer-placed;
       looks = λ r k. rw (e (Look r k)) (known .looks r k);
       claims = λ p slot. rw (e (Claim p slot)) (known .claims p slot);
       busy = λ exclusive p slot. rw (e (Claim p slot)) (known .busy exclusive p slot);

@@ -19,7 +19,7 @@ use Rattle.calls.specs.Events.Event.{_⇒_}
 use Rattle.calls.specs.Model.{Model, modelOf}
 use Rattle.calls.specs.Told.{Told, toldBy, holds, Has}
 use Rattle.calls.specs.Told.Role.{free}
-use Rattle.calls.specs.Tally.{Phase, Tally, tallyOf}
+use Rattle.calls.specs.Tally.{Phase, firstPlace, Tally, tallyOf}
 use Rattle.calls.specs.Tally.Phase.{idle, writing, swapped, synchronising, raised, returned}
 use Rattle.layout.specs.Layout.{WORDS, readers, publishers, slots, current, version, releases, indicator, noPublisher, noRetirement, noRetired, blankReader, readerAt, publisherAt, retirementAt, retiredAt, entryAt}
 use Rattle.statement.specs.Machine.{State, outcome, Given, Machine, Fresh, events, afterAll}
@@ -35,7 +35,7 @@ pub record Traits : Type 0 where
   -- whether a claim needs that every other publisher is idle
   pub exclusive : Bool
   -- whether reader and publisher of one number are one participant, so that there are as many of one as of the other
-  pub participants : Bool
+  pub ofParticipants : Bool
   -- what each reader of a fresh store has published
   pub freshPublished : Given → ℕ
   -- whether readers publish versions, so that a LEAVE publishes too; a kind that does not counts readers in its indicators
@@ -60,12 +60,22 @@ pub record GoodTable (table : List ℤ) : Type 0 where
   pub in-range : (k : ℕ) → k < TABLE → outOfRange (entryOf table k) ≡ false
   pub steps-bounded : (k : ℕ) → k + 1 < TABLE → steep (entryOf table k) (entryOf table (k + 1)) ≡ false
 
--- A making with every argument in its range, lent words and entries of the right lengths and a good table, and in a kind of participants as many readers as publishers, is accepted.
-abbrev pub MakingAccepts : Machine → Traits → Type 0
-MakingAccepts M traits = (z : Given) (s : State) → length (s .words) ≡ WORDS → 1 ≤ z .readers → z .readers ≤ READERS-MAX → 1 ≤ z .publishers → z .publishers ≤ PUBLISHERS-MAX
-    → SLOTS-MIN ≤ z .slots → z .slots ≤ SLOTS-MAX → length (s .entries) ≡ z .slots * TABLE → z .version ≤ traits .last → GoodTable (z .table) → (traits .participants ≡ true → z .publishers ≡ z .readers) → M .making z s .reply ≡ Made
+-- Arguments of making that are in range: the sizes, in a kind of participants as many publishers as readers, and the version.
+pub record MakingFits (traits : Traits) (z : Given) : Type 0 where
+  pub readers-low : 1 ≤ z .readers
+  pub readers-high : z .readers ≤ READERS-MAX
+  pub publishers-low : 1 ≤ z .publishers
+  pub publishers-high : z .publishers ≤ PUBLISHERS-MAX
+  pub as-many : traits .ofParticipants ≡ true → z .publishers ≡ z .readers
+  pub slots-low : SLOTS-MIN ≤ z .slots
+  pub slots-high : z .slots ≤ SLOTS-MAX
+  pub version-high : z .version ≤ traits .last
 
--- A fresh store, to the letter: entry k of every slot is entry k of the lent table, which is a good one; in a kind of participants as many publishers as readers; slot 0 current, readers and publishers at place 0, published versions as the kind's fresh readers have them, the version and the sizes as given
+-- A making with every argument in its range, lent words and entries of the right lengths and a good table is accepted.
+abbrev pub MakingAccepts : Machine → Traits → Type 0
+MakingAccepts M traits = (z : Given) (s : State) → length (s .words) ≡ WORDS → length (s .entries) ≡ z .slots * TABLE → MakingFits traits z → GoodTable (z .table) → M .making z s .reply ≡ Made
+
+-- A fresh store, to the letter: entry k of every slot is entry k of the lent table, which is a good one; sizes and version as given, and in range; slot 0 current, readers and publishers at place 0, published versions as the kind's fresh readers have them,
 -- and every other number 0.
 pub record IsFresh (traits : Traits) (z : Given) (s : State) : Type 0 where
   pub long : length (s .words) ≡ WORDS
@@ -73,7 +83,7 @@ pub record IsFresh (traits : Traits) (z : Given) (s : State) : Type 0 where
   pub publishers-given : publishers (s .words) ≡ z .publishers
   pub slots-given : slots (s .words) ≡ z .slots
   pub version-given : version (s .words) ≡ z .version
-  pub as-many : traits .participants ≡ true → z .publishers ≡ z .readers
+  pub sizes-fit : MakingFits traits z
   pub current-is : current (s .words) ≡ 0
   pub releases-are : releases (s .words) ≡ 0
   pub indicators-are : (i : ℕ) → indicator (s .words) i ≡ 0
@@ -141,6 +151,10 @@ pub record StateCompanions (M : Machine) (traits : Traits) (z : Given) (h : Mode
   pub named : (c : Call) → accepted (M .step s c .reply) ≡ true → Named z c
   -- order: a call is accepted in its turn alone
   pub in-turn : (c : Call) → accepted (M .step s c .reply) ≡ true → InTurn traits h t u c
+  -- the places in the words are those told: a reader's, and a publisher's by its phase; while it writes it is one further than it has written
+  pub reader-placed : (r : ℕ) → readerAt (s .words) r .place ≡ u .place r
+  pub publisher-placed : (p : ℕ) → p < z .publishers → u .phase p ≢ writing → publisherAt (s .words) p .place ≡ firstPlace (u .phase p)
+  pub writer-placed : (p : ℕ) → u .phase p ≡ writing → publisherAt (s .words) p .place ≡ length (h .draft p) + 1
   -- LOOK is accepted after the pick
   pub looks : (r k : ℕ) → r < z .readers → k < TABLE → u .place r ≡ PLACE-PICKED → accepted (M .step s (Look r k) .reply) ≡ true
   -- an idle publisher's CLAIM of a slot told free, both in range, is accepted (exclusive: if every other one is idle too, else 31)

@@ -110,7 +110,7 @@ pub record CheckpointStays (reader reader′ : Reader) : Type 0 where
   pub picked : reader′ .picked ≡ reader .picked
   pub one : PlaceAndOne reader reader′
 
--- DEFER p: of reader p the place and the observed epoch may move, of publisher p the place and the mark, of its retirement the count, and the first place behind its retired slots.
+-- DEFER p: of reader p the place and the observed epoch may move, of publisher p the place and the mark, of its retirement the count, and the first pair behind its retired slots.
 pub record DeferStays (p : ℕ) (w w′ : List ℕ) : Type 0 where
   pub first : readerAt w′ p .first ≡ readerAt w p .first
   pub second : readerAt w′ p .second ≡ readerAt w p .second
@@ -124,7 +124,7 @@ pub record DeferStays (p : ℕ) (w w′ : List ℕ) : Type 0 where
 
 -- What stays of the record that a call names, in a kind that publishes readers' versions or does not: of LOOK all; CLAIM may move place and held,
 -- WRITE, RAISE and RELEASE the place, SWAP place and held, SYNC place and walk, WALK place, next, looks and waits,
--- ENTER the place and at most one more, LEAVE the place and, where it publishes, the published version.
+-- ENTER the place and at most one more, LEAVE the place and, where it publishes, the published version; PICK, CHECKPOINT and DEFER as above.
 abbrev pub NamedStays : Bool → Call → List ℕ → List ℕ → Type 0
 NamedStays publishes (Enter r) w w′ = PlaceAndOne (readerAt w r) (readerAt w′ r)
 NamedStays publishes (Look r k) w w′ = readerAt w′ r ≡ readerAt w r
@@ -161,8 +161,8 @@ pub record Writes (s : State) (p : ℕ) (v : ℤ) (o : Outcome) : Type 0 where
   pub others : (j : ℕ) → j ≢ nextEntry s p → getD (o .after .entries) j (pos 0) ≡ getD (s .entries) j (pos 0)
   pub long : length (o .after .entries) ≡ length (s .entries)
 
--- For every state: a call moves the numbers that its step names of the record of the reader or publisher named, perhaps one number of the head, which its step names too,
--- and nothing else; a WALK that record alone. Only WRITE moves the entries, and one of them.
+-- For every state: a call moves the numbers that its step names of the record of the reader or publisher named (CHECKPOINT and DEFER of each record of the participant),
+-- perhaps one number of the head, which its step names too, and nothing else; a WALK that record alone. Only WRITE moves the entries, and one of them.
 pub record Frame (publishes : State → Bool) (M : Machine) : Type 0 where
   pub words : (s : State) (c : Call) → Framed (publishes s) c (s .words) (M .step s c .after .words)
   pub entries : (s : State) (c : Call) → ((p : ℕ) (v : ℤ) → c ≢ Write p v) → M .step s c .after .entries ≡ s .entries

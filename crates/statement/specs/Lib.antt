@@ -5,10 +5,10 @@ pub mod Companions
 pub mod Looks
 pub mod Frame
 pub mod FreeSlot
+pub mod Quiescent
 -- What gives them: an invariant that each step keeps; another machine that is alike.
 pub mod KeptInvariant
 pub mod Alike
-pub mod Quiescent
 -- Examples that name no kind, and what refutes a store.
 pub mod Examples
 pub mod Precedence

@@ -10,7 +10,7 @@ use Rattle.calls.specs.declared.Call.{Call}
 use Rattle.calls.specs.declared.Call.the-variants.{Look, Claim, Pick, Checkpoint, Defer}
 use Rattle.calls.specs.declared.Reply.the-variants.{At, Claimed, Picked, Refused}
 use Rattle.calls.specs.Numbers.{TABLE, DEFERRED-MAX, PLACE-PICKED, PLACE-IDLE, PLACE-DEFERRING, READER-TURN, PUBLISHER-TURN, SLOT-IN-USE, EPOCH-IS-LAST, TOO-MANY-DEFERRED}
-use Rattle.calls.specs.Events.{Event, accepted}
+use Rattle.calls.specs.Events.{Event}
 use Rattle.calls.specs.Events.Event.{_⇒_}
 use Rattle.calls.specs.Deferral.{deferredBy}
 use Rattle.calls.specs.Told.{Told, toldBy, holds, Has}
