@@ -11,7 +11,7 @@ ghost use Rattle.calls.specs.Numbers.{PUBLISHERS-MAX, DEFERRED-MAX};
 ghost use Rattle.layout.specs.Layout.{WORDS, readerAt, retiredAt};
 ghost use Rattle.statement.specs.Machine.{state};
 ghost use Rattle.qsbr_law.specs.Steps.{readerRows};
-ghost use Rattle.qsbr_law.specs.Calls.{publisherFails, retirementFails, participantFails, headFails};
+ghost use Rattle.qsbr_law.specs.Calls.{publisherFails, retirementFails, participantFails, headFails, participantsFail};
 use calls::DEFERRED_MAX;
 use calls::KIND_REST;
 use calls::PLACE_DEFERRING;
@@ -127,6 +127,19 @@ fn participant_fails(words: &[u64], p: usize, n: u64, slots: u64) -> bool
     retirement_fails(words, p, n, slots)
 }
 
+// Whether one of the first n participants damages a store of so many slots.
+fn first_participants_damaged(words: &[u64], n: u64, slots: u64) -> bool
+    requires { ⌜ (length (now words) ≡ WORDS) × (n ≤ PUBLISHERS-MAX) ⌝ }
+    ensures { λ b. ⌜ b ≡ anyBelow (participantFails (now (words .entry)) n slots) n ⌝ }
+{
+    for p in 0..n {
+        if participant_fails(words, p as usize, n, slots) {
+            return true;
+        }
+    }
+    false
+}
+
 // Whether the head damages a store with these words and so many entries. There must be as many readers as publishers, so the number of readers needs no range of its own.
 pub fn head_is_damaged(words: &[u64], entries: usize) -> bool
     ensures { λ b. ⌜ ((es : List ℤ) → length es ≡ entries → b ≡ headFails (state (now (words .entry)) es)) ⌝ }
@@ -154,15 +167,15 @@ pub fn head_is_damaged(words: &[u64], entries: usize) -> bool
     current_of(words) >= slots
 }
 
-// Whether one of the first n participants damages a store of so many slots.
+// Whether the participants damage a store of n of them and of so many slots.
 pub fn participants_are_damaged(words: &[u64], n: u64, slots: u64) -> bool
-    requires { ⌜ (length (now words) ≡ WORDS) × (n ≤ PUBLISHERS-MAX) ⌝ }
-    ensures { λ b. ⌜ b ≡ anyBelow (participantFails (now (words .entry)) n slots) n ⌝ }
+    ensures { λ b. ⌜ b ≡ participantsFail (now (words .entry)) n slots ⌝ }
 {
-    for p in 0..n {
-        if participant_fails(words, p as usize, n, slots) {
-            return true;
-        }
+    if words.len() != WORDS {
+        return true;
     }
-    false
+    if (n < 1) | (n > PUBLISHERS_MAX as u64) {
+        return true;
+    }
+    first_participants_damaged(words, n, slots)
 }

@@ -111,8 +111,19 @@ module _ (w : List ℕ) (n ss p : ℕ) where
 abbrev pub headFails : State → Bool
 headFails s = anyTrue (headRows damageRules s) || not (eqb (readers (s .words)) (publishers (s .words)))
 
-abbrev pub participantsFail : State → Bool
-participantsFail s = anyBelow (participantFails (s .words) (publishers (s .words)) (slots (s .words))) (publishers (s .words))
+-- The numbers of participants and slots are handed to the pass, which asks nothing of them.
+abbrev pub participantsFail : List ℕ → ℕ → ℕ → Bool
+participantsFail w n ss = not (eqb (length w) WORDS) || outside 1 PUBLISHERS-MAX n || anyBelow (participantFails w n ss) n
+
+module _ (w : List ℕ) (n ss : ℕ) where
+  pub wrong-length : length w ≢ WORDS → participantsFail w n ss ≡ true
+  wrong-length ne = rw (ne-eqb _ _ ne) refl
+
+  pub wrong-number : outside 1 PUBLISHERS-MAX n ≡ true → participantsFail w n ss ≡ true
+  wrong-number out = or-left _ _ (or-right (not (eqb (length w) WORDS)) _ out)
+
+  pub participants-decide : length w ≡ WORDS → outside 1 PUBLISHERS-MAX n ≡ false → participantsFail w n ss ≡ anyBelow (participantFails w n ss) n
+  participants-decide long few = rw (eq-eqb _ _ long, few) refl
 
 -- The head, test by test: from the number of publishers that of the readers follows, and no version of 64 bits is above the last.
 module _ (s : State) where
@@ -152,10 +163,10 @@ module _ (s : State) (head-ok : headFails s ≡ false) where
   same-number : readers (s .words) ≡ publishers (s .words)
   same-number = eqb-true _ _ (not-false _ (head-parts .1))
 
-  module _ (ok : participantsFail s ≡ false) where
+  module _ (ok : participantsFail (s .words) (publishers (s .words)) (slots (s .words)) ≡ false) where
     own-rows : (p : ℕ) → p < publishers (s .words)
         → (damageRules .readerDamaged (readers (s .words)) (slots (s .words)) (reader s p) || publisherFails (s .words) (publishers (s .words)) (slots (s .words)) p ≡ false) × (retirementFails (s .words) (publishers (s .words)) (slots (s .words)) p ≡ false)
-    own-rows p l = or-false _ _ (none-below (participantFails (s .words) (publishers (s .words)) (slots (s .words))) (publishers (s .words)) p ok l)
+    own-rows p l = or-false _ _ (none-below (participantFails (s .words) (publishers (s .words)) (slots (s .words))) (publishers (s .words)) p (or-false (not (eqb (length (s .words)) WORDS) || outside 1 PUBLISHERS-MAX (publishers (s .words))) _ ok .1) l)
 
     reader-clear : (p : ℕ) → p < publishers (s .words) → damageRules .readerDamaged (readers (s .words)) (slots (s .words)) (reader s p) ≡ false
     reader-clear p l = or-false _ _ (own-rows p l .0) .0
@@ -220,12 +231,15 @@ module _ (s : State) where
   pub scan-head : headFails s ≡ true → damaged rules s ≡ true
   scan-head e = ⊎-elim (damaged-head rules s) (λ unequal. damaged-further rules s (or-left _ _ unequal)) (or-either (anyTrue (headRows damageRules s)) _ e)
 
-  pub scan-participants : participantsFail s ≡ true → damaged rules s ≡ true
+  pub scan-participants : participantsFail (s .words) (publishers (s .words)) (slots (s .words)) ≡ true → damaged rules s ≡ true
   scan-participants e = go (damaged rules s) refl
     where
       go : (d : Bool) → damaged rules s ≡ d → damaged rules s ≡ true
       go true d = d
-      go false d = absurd (not-both (participantsFail s) e (no-below _ _ (participant-stands s d)))
+      go false d =
+          let head = undamaged-facts rules s d .head in
+          absurd (not-both (participantsFail (s .words) (publishers (s .words)) (slots (s .words))) e
+          (neither _ _ (neither _ _ (negated _ (eq-eqb _ _ (head .long))) (not-outside 1 PUBLISHERS-MAX _ (head .publishers-low) (head .publishers-high))) (no-below _ _ (participant-stands s d))))
 
 -- PICK, outside a checkpoint and not at 35.
 pub pick-is : (s : State) → damaged rules s ≡ false → (w′ : List ℕ) (r slot : ℕ) (x : Reader) → r < readers (s .words) → retirement s r .step ≡ 0 → publisher s r .place ≢ PLACE-DEFERRING → x ≡ reader s r → slot ≡ current (s .words)

@@ -39,31 +39,6 @@ pub enum Step {
     EachCall,
 }
 
-/// The steps of the first two forms.
-const STEPS_BEFORE: [Step; 21] = [
-    Step::Make,
-    Step::Call(Name::Enter),
-    Step::Call(Name::Look),
-    Step::Call(Name::Leave),
-    Step::Call(Name::Claim),
-    Step::Call(Name::Write),
-    Step::Call(Name::Swap),
-    Step::Call(Name::Sync),
-    Step::Call(Name::Raise),
-    Step::Call(Name::Walk),
-    Step::Call(Name::Release),
-    Step::Times,
-    Step::PutWord,
-    Step::PutReader,
-    Step::PutPublisher,
-    Step::CountIndicators,
-    Step::LendWords,
-    Step::LendEntries,
-    Step::ReaderInTurn,
-    Step::PublisherInTurn,
-    Step::EachCall,
-];
-
 const STEPS: [Step; 25] = [
     Step::Make,
     Step::Call(Name::Enter),
@@ -91,6 +66,27 @@ const STEPS: [Step; 25] = [
     Step::PublisherInTurn,
     Step::EachCall,
 ];
+
+/// The steps of the first two forms: all but those of rest.
+const STEPS_BEFORE: [Step; 21] = steps_before();
+
+const fn steps_before() -> [Step; 21] {
+    let mut steps = [Step::Make; 21];
+    let (mut from, mut to) = (0, 0);
+    while from < STEPS.len() {
+        let of_rest = matches!(
+            STEPS[from],
+            Step::Call(Name::Pick | Name::Checkpoint | Name::Defer) | Step::PutParticipant
+        );
+        if !of_rest {
+            steps[to] = STEPS[from];
+            to += 1;
+        }
+        from += 1;
+    }
+    assert!(to == steps.len());
+    steps
+}
 
 /// No store that is lent has more words than this. In the first two forms
 /// none has more than 900.
@@ -135,22 +131,22 @@ impl Form {
         thousandths as Pitch + PITCH_LOW
     }
 
+    fn steps(self) -> &'static [Step] {
+        match self {
+            Form::Hundredths | Form::Thousandths => &STEPS_BEFORE,
+            Form::ThreeKinds => &STEPS,
+        }
+    }
+
     /// The step that a byte asks for.
     pub fn step(self, byte: u8) -> Step {
-        let steps = match self {
-            Form::Hundredths | Form::Thousandths => &STEPS_BEFORE[..],
-            Form::ThreeKinds => &STEPS,
-        };
+        let steps = self.steps();
         steps[usize::from(byte) % steps.len()]
     }
 
     /// The calls that steps ask for.
     pub fn calls(self) -> impl Iterator<Item = Name> {
-        let steps = match self {
-            Form::Hundredths | Form::Thousandths => &STEPS_BEFORE[..],
-            Form::ThreeKinds => &STEPS,
-        };
-        steps.iter().filter_map(|step| match step {
+        self.steps().iter().filter_map(|step| match step {
             Step::Call(name) => Some(*name),
             _ => None,
         })
@@ -374,9 +370,9 @@ mod tests {
         assert_eq!((form.word(712), form.word(713)), (712, 0));
         assert_eq!((form.any_length(425), form.any_length(1500)), (425, 1500));
         assert_eq!((form.likely_length(0), form.likely_length(3)), (713, 425));
-        for step in STEPS_BEFORE {
-            assert!(STEPS.contains(&step), "{step:?}");
-        }
+        assert_eq!(form.step(21), Step::LendEntries);
+        assert_eq!(Thousandths.step(20), Step::EachCall);
+        assert_eq!(Thousandths.step(11), Step::Times);
         assert_eq!(pitch(form, &[0]), pitch(Thousandths, &[0]));
         assert_eq!(form.moved(Pitch::MAX, 1), Pitch::MIN);
     }

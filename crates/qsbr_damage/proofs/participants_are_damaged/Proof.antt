@@ -1,57 +1,32 @@
--- `participants_are_damaged` meets its contract: the loop has found no damaged participant before p. Assumes nothing.
+-- `participants_are_damaged` meets its contract: words of another length and a number of participants out of range are damaged, else the pass decides. Assumes nothing.
 use borrow.Author.Needs.{needs}
-use native.Mathlib.Omega.{arith}
-use Prim.Native.Nat.{_-_, _≤_}
-use mathlib.Core.Path.{_≡_, sym, _∙_}
-use mathlib.Core.Bool.{false}
-use Rattle.base.specs.Rows.{anyBelow}
-use Rattle.base.specs.RowLaws.{some-below, none-first, none-more}
-use Rattle.qsbr_law.specs.Calls.{participantFails}
+use mathlib.Core.Path.{sym, _∙_}
+use Rattle.calls.specs.Numbers.{PUBLISHERS-MAX}
+use Rattle.base.specs.RowLaws.{within}
+use Rattle.qsbr_law.specs.Calls.{wrong-length, wrong-number, participants-decide}
 use Rattle.qsbr_damage.proofs.participants_are_damaged.Statement.{statement}
 use Rattle.qsbr_damage.proofs.participants_are_damaged.Tie as tie
 use Rattle.qsbr_damage.proofs.participants_are_damaged.Reads as reads
 use Rattle.qsbr_damage.proofs.participants_are_damaged.Lts as lts
-use Rattle.qsbr_damage.proofs.participant_fails.Reads as participant-fails-reads
+use Rattle.qsbr_damage.proofs.first_participants_damaged.Reads as first-participants-damaged-reads
 
-abbrev Inv-loop : tie.InvT-loop
-Inv-loop words n slots p₀ p = (p ≤ n) × (anyBelow (participantFails words n slots) p ≡ false)
+-- true: the number of words
+returns : tie.Need-returns
+returns c = let a = c .before .before .args in sym (wrong-length (a .words .now) (a .n) (a .slots) (c .if1 .taken))
 
-abbrev μ-loop : tie.MeasureT-loop
-μ-loop words n slots p₀ p = n - p
+cast-if2 : tie.Need-cast-if2
+cast-if2 c = search needs
 
-loop-holds : tie.Need-loop-holds Inv-loop μ-loop
-loop-holds c = (search needs, none-first _)
+-- true: the number of participants
+returns-2 : tie.Need-returns-2
+returns-2 c = let a = c .before .before .before .args in sym (wrong-number (a .words .now) (a .n) (a .slots) (c .if2 .taken))
 
-participant-fails-requires : tie.Need-participant-fails-requires Inv-loop μ-loop
-participant-fails-requires c κs = search needs
+first-participants-damaged-requires : tie.Need-first-participants-damaged-requires
+first-participants-damaged-requires c κs = (c .before .if1 .left, within 1 PUBLISHERS-MAX _ (c .if2 .left) .1)
 
--- true: participant p is damaged
-returns : tie.Need-returns Inv-loop μ-loop
-returns c = sym (some-below _ _ _ (c .before .before .loop-test .taken) (sym (c .before .participant-fails .ensures) ∙ c .if1 .taken))
-
-add-p : tie.Need-add-p Inv-loop μ-loop
-add-p c = search needs
-
-loop-less : tie.Need-loop-less Inv-loop μ-loop
-loop-less c = search needs
-
-loop-again : tie.Need-loop-again Inv-loop μ-loop
-loop-again c = (search needs, none-more _ _ (c .before .before .before .loop .inv .1) (sym (c .before .participant-fails .ensures) ∙ c .if1 .left))
-
--- false: none is
-returns-2 : tie.Need-returns-2 Inv-loop μ-loop
-returns-2 c = let e : c .before .loop .p ≡ c .before .before .before .args .n = omega arith in sym (rw e at (c .before .loop .inv .1))
+-- whether one of them damages the store
+returns-3 : tie.Need-returns-3
+returns-3 c = let a = c .before .before .before .before .args in c .first-participants-damaged .ensures ∙ sym (participants-decide (a .words .now) (a .n) (a .slots) (c .before .before .if1 .left) (c .before .if2 .left))
 
 pub participants-are-damaged-spec : {M : Type 1} → statement M
-participants-are-damaged-spec =
-    tie.close
-    (tie.spec
-    Inv-loop
-    μ-loop
-    loop-holds
-    participant-fails-requires
-    returns
-    add-p
-    loop-less
-    loop-again
-    returns-2)
+participants-are-damaged-spec = tie.close (tie.spec returns cast-if2 returns-2 first-participants-damaged-requires returns-3)
