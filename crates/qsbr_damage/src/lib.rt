@@ -8,10 +8,10 @@ ghost use lib.ListN.{length};
 ghost use lib.Dec.{leb};
 ghost use Rattle.base.specs.Rows.{anyTrue, anyBelow};
 ghost use Rattle.calls.specs.Numbers.{PUBLISHERS-MAX, DEFERRED-MAX};
-ghost use Rattle.layout.specs.Layout.{WORDS, readerAt, retiredAt};
+ghost use Rattle.layout.specs.Layout.{WORDS, readerAt, publisherAt, retiredAt};
 ghost use Rattle.statement.specs.Machine.{state};
-ghost use Rattle.qsbr_law.specs.Steps.{readerRows};
-ghost use Rattle.qsbr_law.specs.Calls.{publisherFails, retirementFails, participantFails, headFails, participantsFail};
+ghost use Rattle.qsbr_law.specs.Steps.{damageRules, readerRows};
+ghost use Rattle.qsbr_law.specs.Calls.{retirementFails, participantFails, headFails, participantsFail};
 use calls::DEFERRED_MAX;
 use calls::KIND_REST;
 use calls::PLACE_DEFERRING;
@@ -51,10 +51,10 @@ fn reader_damaged(words: &[u64], r: usize, slots: u64) -> bool
     x.picked >= slots
 }
 
-// Whether publisher p is damaged, or at 35 with eight slots retired.
-fn publisher_fails(words: &[u64], p: usize, slots: u64) -> bool
+// Whether publisher p is damaged.
+fn publisher_damaged(words: &[u64], p: usize, slots: u64) -> bool
     requires { ⌜ (length (now words) ≡ WORDS) × (p < PUBLISHERS-MAX) ⌝ }
-    ensures { λ b. ⌜ ((n : ℕ) → b ≡ publisherFails (now (words .entry)) n slots p) ⌝ }
+    ensures { λ b. ⌜ ((n : ℕ) → b ≡ damageRules .publisherDamaged n slots (publisherAt (now (words .entry)) p)) ⌝ }
 {
     let place = publisher_place(words, p);
     if place == PLACE_IDLE {
@@ -74,10 +74,6 @@ fn publisher_fails(words: &[u64], p: usize, slots: u64) -> bool
     if walk.mark == 0 {
         return true;
     }
-    let t = retirement_at(words, p);
-    if t.count == DEFERRED_MAX {
-        return true;
-    }
     walk.waits > walk.looks
 }
 
@@ -95,7 +91,7 @@ fn first_retired_damaged(words: &[u64], p: usize, n: u64, slots: u64) -> bool
     false
 }
 
-// Whether the step, the count or a retired slot of p damages a store of n participants.
+// Whether the step, the count or a retired slot of p damages a store of n participants. At 35 there must be room for one more.
 fn retirement_fails(words: &[u64], p: usize, n: u64, slots: u64) -> bool
     requires { ⌜ (length (now words) ≡ WORDS) × (p < PUBLISHERS-MAX) × (n ≤ PUBLISHERS-MAX) ⌝ }
     ensures { λ b. ⌜ b ≡ retirementFails (now (words .entry)) n slots p ⌝ }
@@ -110,6 +106,10 @@ fn retirement_fails(words: &[u64], p: usize, n: u64, slots: u64) -> bool
     if t.count > DEFERRED_MAX {
         return true;
     }
+    let place = publisher_place(words, p);
+    if (place == PLACE_DEFERRING) & (t.count == DEFERRED_MAX) {
+        return true;
+    }
     first_retired_damaged(words, p, t.count, slots)
 }
 
@@ -121,7 +121,7 @@ fn participant_fails(words: &[u64], p: usize, n: u64, slots: u64) -> bool
     if reader_damaged(words, p, slots) {
         return true;
     }
-    if publisher_fails(words, p, slots) {
+    if publisher_damaged(words, p, slots) {
         return true;
     }
     retirement_fails(words, p, n, slots)

@@ -59,52 +59,40 @@ module _ (ss : ℕ) (x : Reader) where
   pub pick-decides : x .place ≡ PLACE-PICKED → anyTrue (readerRows ss x) ≡ leb ss (x .picked)
   pick-decides e = rw e (or-none (leb ss (x .picked)))
 
--- The code tests the participants in one pass: of each its reader, its publisher, its step, its count and its retired slots. Eight at 35 it tests with the publisher.
+-- The code tests the participants in one pass: of each its reader, its publisher, its step, its count and its retired slots.
 abbrev pub eightDeferring : List ℕ → ℕ → Bool
 eightDeferring w p = eqb (publisherAt w p .place) PLACE-DEFERRING && eqb (retirementAt w p .count) DEFERRED-MAX
 
-abbrev pub publisherFails : List ℕ → ℕ → ℕ → ℕ → Bool
-publisherFails w n ss p = damageRules .publisherDamaged n ss (publisherAt w p) || eightDeferring w p
-
 abbrev pub retirementFails : List ℕ → ℕ → ℕ → ℕ → Bool
-retirementFails w n ss p = ltb (n + 1) (retirementAt w p .step) || ltb DEFERRED-MAX (retirementAt w p .count) || anyBelow (λ i. leb ss (retiredAt w p i .slot)) (retirementAt w p .count)
+retirementFails w n ss p = ltb (n + 1) (retirementAt w p .step) || ltb DEFERRED-MAX (retirementAt w p .count) || eightDeferring w p || anyBelow (λ i. leb ss (retiredAt w p i .slot)) (retirementAt w p .count)
 
 abbrev pub participantFails : List ℕ → ℕ → ℕ → ℕ → Bool
-participantFails w n ss p = damageRules .readerDamaged n ss (readerAt w p) || publisherFails w n ss p || retirementFails w n ss p
+participantFails w n ss p = damageRules .readerDamaged n ss (readerAt w p) || damageRules .publisherDamaged n ss (publisherAt w p) || retirementFails w n ss p
 
 module _ (w : List ℕ) (n ss p : ℕ) where
-  -- Where it is not at 35, or fewer than eight are retired, the publisher's own rows decide.
-  pub elsewhere : publisherAt w p .place ≢ PLACE-DEFERRING → publisherFails w n ss p ≡ damageRules .publisherDamaged n ss (publisherAt w p)
-  elsewhere ne = rw (ne-eqb (publisherAt w p .place) 35 ne) (or-none _)
-
-  pub room-decides : retirementAt w p .count ≢ DEFERRED-MAX → publisherFails w n ss p ≡ damageRules .publisherDamaged n ss (publisherAt w p)
-  room-decides ne = rw (ne-eqb (retirementAt w p .count) 8 ne) (ap (λ (b : Bool). damageRules .publisherDamaged n ss (publisherAt w p) || b) (and-not (eqb (publisherAt w p .place) 35) false (λ _. refl)) ∙ or-none _)
-
-  pub publisher-fails : damageRules .publisherDamaged n ss (publisherAt w p) ≡ true → publisherFails w n ss p ≡ true
-  publisher-fails e = or-left _ _ e
-
-  pub eight-fails : publisherAt w p .place ≡ PLACE-DEFERRING → retirementAt w p .count ≡ DEFERRED-MAX → publisherFails w n ss p ≡ true
-  eight-fails at e = or-right (damageRules .publisherDamaged n ss (publisherAt w p)) _ (rw (at, e) refl)
-
   pub step-high : n + 1 < retirementAt w p .step → retirementFails w n ss p ≡ true
   step-high l = rw (lt-ltb (n + 1) (retirementAt w p .step) l) refl
 
   pub none-retired : retirementAt w p .step ≤ n + 1 → retirementAt w p .count ≡ 0 → retirementFails w n ss p ≡ false
-  none-retired low none = rw (le-ltb (n + 1) (retirementAt w p .step) low, none) (none-first _)
+  none-retired low none =
+      neither _ _ (neither _ _ (neither _ _ (le-ltb (n + 1) (retirementAt w p .step) low) (rw none refl)) (and-not (eqb (publisherAt w p .place) 35) _ (λ _. rw none refl))) (rw none (none-first _))
 
   pub count-high : DEFERRED-MAX < retirementAt w p .count → retirementFails w n ss p ≡ true
-  count-high l = or-left _ _ (or-right (ltb (n + 1) (retirementAt w p .step)) _ (lt-ltb 8 (retirementAt w p .count) l))
+  count-high l = or-left _ _ (or-left _ _ (or-right (ltb (n + 1) (retirementAt w p .step)) _ (lt-ltb 8 (retirementAt w p .count) l)))
 
-  pub slots-decide : retirementAt w p .step ≤ n + 1 → retirementAt w p .count ≤ DEFERRED-MAX → retirementFails w n ss p ≡ anyBelow (λ i. leb ss (retiredAt w p i .slot)) (retirementAt w p .count)
-  slots-decide low few = rw (le-ltb (n + 1) (retirementAt w p .step) low, le-ltb 8 (retirementAt w p .count) few) refl
+  pub eight-fails : eightDeferring w p ≡ true → retirementFails w n ss p ≡ true
+  eight-fails e = or-left _ _ (or-right (ltb (n + 1) (retirementAt w p .step) || ltb 8 (retirementAt w p .count)) _ e)
+
+  pub slots-decide : retirementAt w p .step ≤ n + 1 → retirementAt w p .count ≤ DEFERRED-MAX → eightDeferring w p ≡ false → retirementFails w n ss p ≡ anyBelow (λ i. leb ss (retiredAt w p i .slot)) (retirementAt w p .count)
+  slots-decide low few room = rw (le-ltb (n + 1) (retirementAt w p .step) low, le-ltb 8 (retirementAt w p .count) few, room) refl
 
   pub by-reader : damageRules .readerDamaged n ss (readerAt w p) ≡ true → participantFails w n ss p ≡ true
   by-reader e = rw e refl
 
-  pub by-publisher : publisherFails w n ss p ≡ true → participantFails w n ss p ≡ true
+  pub by-publisher : damageRules .publisherDamaged n ss (publisherAt w p) ≡ true → participantFails w n ss p ≡ true
   by-publisher e = or-left _ (retirementFails w n ss p) (or-right (damageRules .readerDamaged n ss (readerAt w p)) _ e)
 
-  pub by-retirement : damageRules .readerDamaged n ss (readerAt w p) ≡ false → publisherFails w n ss p ≡ false → participantFails w n ss p ≡ retirementFails w n ss p
+  pub by-retirement : damageRules .readerDamaged n ss (readerAt w p) ≡ false → damageRules .publisherDamaged n ss (publisherAt w p) ≡ false → participantFails w n ss p ≡ retirementFails w n ss p
   by-retirement e f = rw (e, f) refl
 
 -- As many readers as publishers there must be: this the code tests with the head.
@@ -165,26 +153,27 @@ module _ (s : State) (head-ok : headFails s ≡ false) where
 
   module _ (ok : participantsFail (s .words) (publishers (s .words)) (slots (s .words)) ≡ false) where
     own-rows : (p : ℕ) → p < publishers (s .words)
-        → (damageRules .readerDamaged (readers (s .words)) (slots (s .words)) (reader s p) || publisherFails (s .words) (publishers (s .words)) (slots (s .words)) p ≡ false) × (retirementFails (s .words) (publishers (s .words)) (slots (s .words)) p ≡ false)
+        → (damageRules .readerDamaged (readers (s .words)) (slots (s .words)) (reader s p) || damageRules .publisherDamaged (readers (s .words)) (slots (s .words)) (publisher s p) ≡ false) × (retirementFails (s .words) (publishers (s .words)) (slots (s .words)) p ≡ false)
     own-rows p l = or-false _ _ (none-below (participantFails (s .words) (publishers (s .words)) (slots (s .words))) (publishers (s .words)) p (or-false (not (eqb (length (s .words)) WORDS) || outside 1 PUBLISHERS-MAX (publishers (s .words))) _ ok .1) l)
 
     reader-clear : (p : ℕ) → p < publishers (s .words) → damageRules .readerDamaged (readers (s .words)) (slots (s .words)) (reader s p) ≡ false
     reader-clear p l = or-false _ _ (own-rows p l .0) .0
 
-    publisher-clear : (p : ℕ) → p < publishers (s .words) → (damageRules .publisherDamaged (readers (s .words)) (slots (s .words)) (publisher s p) ≡ false) × (eightDeferring (s .words) p ≡ false)
-    publisher-clear p l = or-false _ _ (or-false (damageRules .readerDamaged (readers (s .words)) (slots (s .words)) (reader s p)) _ (own-rows p l .0) .1)
+    publisher-clear : (p : ℕ) → p < publishers (s .words) → damageRules .publisherDamaged (readers (s .words)) (slots (s .words)) (publisher s p) ≡ false
+    publisher-clear p l = or-false (damageRules .readerDamaged (readers (s .words)) (slots (s .words)) (reader s p)) _ (own-rows p l .0) .1
 
     retirement-clear : (p : ℕ) → p < publishers (s .words) → anyTrue (retirementRows s p) ≡ false
     retirement-clear p l =
         let f = or-false _ _ (own-rows p l .1) in
         let g = or-false _ _ (f .0) in
-        none-true (retirementRows s p) (rw same-number (g .0), (g .1, (publisher-clear p l .1, (f .1, tt))))
+        let h = or-false _ _ (g .0) in
+        none-true (retirementRows s p) (rw same-number (h .0), (h .1, (g .1, (f .1, tt))))
 
     pub scan-undamaged : damaged rules s ≡ false
     scan-undamaged = undamaged rules s (head-parts .0)
         (neither _ _ (neither _ _ (negated _ (eq-eqb _ _ (head-fits .long))) (not-outside 1 READERS-MAX _ (head-fits .readers-low) (head-fits .readers-high))) (no-below _ _ (λ r l. reader-clear r (rw same-number at l))))
         (neither _ _ (head-parts .1) (no-below _ _ retirement-clear))
-        (neither _ _ (neither _ _ (negated _ (eq-eqb _ _ (head-fits .long))) (not-outside 1 PUBLISHERS-MAX _ (head-fits .publishers-low) (head-fits .publishers-high))) (no-below _ _ (λ p l. publisher-clear p l .0)))
+        (neither _ _ (neither _ _ (negated _ (eq-eqb _ _ (head-fits .long))) (not-outside 1 PUBLISHERS-MAX _ (head-fits .publishers-low) (head-fits .publishers-high))) (no-below _ _ publisher-clear))
 
 -- What an undamaged store gives of a participant: it has words, and its retirement fits.
 pub record ParticipantFits (s : State) (p : ℕ) : Type 0 where
@@ -222,9 +211,11 @@ module _ (s : State) (no-damage : damaged rules s ≡ false) where
       let facts = undamaged-facts rules s no-damage in
       let f = publisher-fits p named .fits in
       neither _ _
-      (neither _ _ (facts .readers-undamaged p (rw as-many named))
-      (neither _ _ (facts .publishers-undamaged p named) (and-not (eqb (publisher s p .place) PLACE-DEFERRING) _ (λ e. let room = f .room (eqb-true (publisher s p .place) 35 e) in ne-eqb (retirement s p .count) 8 (λ eq. omega arith)))))
-      (neither _ _ (neither _ _ (le-ltb _ _ (rw as-many at (f .step-high))) (le-ltb _ _ (f .count-high))) (no-below _ _ (λ i l. lt-leb _ _ (f .slots-below i l))))
+      (neither _ _ (facts .readers-undamaged p (rw as-many named)) (facts .publishers-undamaged p named))
+      (neither _ _
+      (neither _ _ (neither _ _ (le-ltb _ _ (rw as-many at (f .step-high))) (le-ltb _ _ (f .count-high)))
+      (and-not (eqb (publisher s p .place) PLACE-DEFERRING) _ (λ e. let room = f .room (eqb-true (publisher s p .place) 35 e) in ne-eqb (retirement s p .count) 8 (λ eq. omega arith))))
+      (no-below _ _ (λ i l. lt-leb _ _ (f .slots-below i l))))
 
 -- What the code finds is damaged.
 module _ (s : State) where
