@@ -2,33 +2,29 @@
 use Prim.Native.Nat.{ℕ, _+_, _<_, _≤_}
 use native.Mathlib.Omega.{arith}
 use mathlib.Core.Path.{_≡_, refl, sym, _∙_, subst}
-use mathlib.Core.Logic.{_≢_, _⊎_, inl, inr}
-use mathlib.Core.Bool.{Bool, true, false, not, _||_}
-use mathlib.Core.List.{List, [], _∷_}
+use mathlib.Core.Bool.{Bool, true, false}
+use mathlib.Core.List.{List}
 use lib.Dec.{leb, ltb, eqb}
-use borrow.Author.Tests.{eqb-true, eqb-false, leb-true, leb-false, ltb-false, not-true}
-use Rattle.base.specs.Rows.{firstOf, anyBelow}
-use Rattle.base.specs.Rows.Test.{_gives_}
-use Rattle.base.specs.RowLaws.{and-true, or-false, any-below}
+use borrow.Author.Tests.{eqb-true, leb-true, leb-false, ltb-false}
+use Rattle.base.specs.RowLaws.{or-false}
 use Rattle.calls.specs.declared.Call.{Call}
-use Rattle.calls.specs.declared.Call.the-variants.{Claim, Walk}
-use Rattle.calls.specs.declared.Reply.the-variants.{Walked, Refused}
+use Rattle.calls.specs.declared.Call.the-variants.{Walk}
+use Rattle.calls.specs.declared.Reply.the-variants.{Walked}
 use Rattle.calls.specs.declared.WalkReply.{WalkReply}
 use Rattle.calls.specs.declared.WalkReply.the-variants.{Waiting, Spent, Quiet, Returned}
-use Rattle.calls.specs.Numbers.{PLACE-PUBLISHED, PLACE-IDLE, PLACE-RAISED, NO-SUCH-PUBLISHER, NO-SUCH-SLOT, PUBLISHER-TURN, BUSY, SLOT-IN-USE}
+use Rattle.calls.specs.Numbers.{PLACE-PUBLISHED, PLACE-RAISED}
 use Rattle.calls.specs.Events.{accepted}
 use Rattle.calls.specs.Tally.{tallyOf}
 use Rattle.layout.specs.declared.WalkResult.{WalkResult}
-use Rattle.layout.specs.Layout.{readers, publishers, slots, current, readerAt}
-use Rattle.statement.specs.Machine.{State, Given, Fresh, events, afterAll, holdsSlot}
+use Rattle.layout.specs.Layout.{readers, publishers, slots, readerAt}
+use Rattle.statement.specs.Machine.{State, Given, Fresh, events, afterAll}
 use Rattle.statement.specs.Demand3.{Demand3}
 use Rattle.statement.specs.KeptInvariant.{Ghost, ghost₀, all-tally}
 use Rattle.statement.specs.FreeSlot.{FindsFreeSlot}
-use Rattle.publication_law.specs.Steps.{reader, publisher, inUse}
-use Rattle.publication_law.specs.Table.{damaged, rows, step}
+use Rattle.publication_law.specs.Steps.{reader, publisher}
+use Rattle.publication_law.specs.Table.{step}
 use Rattle.publication_law.specs.DamageLaws.{Undamaged}
 use Rattle.publication_law.specs.KindLaw.{undamaged-publisher}
-use Rattle.publication_law.specs.Decide.{decide-why}
 use Rattle.publication_law.specs.KindShows.{WholeInvariant}
 use Rattle.publication_law.specs.DetectorInvariant.{invariantOf}
 use Rattle.publication_law.specs.Promises.{Promises, promises-of, WalkFacts, walk-facts}
@@ -61,42 +57,6 @@ new-walk-facts s p b = walk-facts fixed s p b (WalkLooks s p b (looksOf s (publi
       looks-are = looks-facts (s .words) (readers (s .words)) (publisher s p .walk .mark) (publisher s p .walk .waits) b (publisher s p .walk .next) (publisher s p .walk .looks) low;
       spent-exactly = λ l all. spent-if (s .words) (readers (s .words)) (publisher s p .walk .mark) (publisher s p .walk .waits) b (publisher s p .walk .next) (publisher s p .walk .looks) l all;
     })
-
--- A slot in use is current, or a publisher at a place other than 0 holds it.
-abbrev pub InUse : State → ℕ → Type 0
-InUse s slot = (current (s .words) ≡ slot) ⊎ ((q : ℕ) × (q < publishers (s .words)) × (publisher s q .place ≢ PLACE-IDLE) × (publisher s q .held ≡ slot))
-
--- A claim on an undamaged new store is refused only for a wrong name, a wrong turn or a slot in use: each number only on its condition.
-pub data ClaimRefusal (s : State) (p slot : ℕ) : ℕ → Type 0 where
-  no-publisher : publishers (s .words) ≤ p → ClaimRefusal s p slot 11
-  no-slot : slots (s .words) ≤ slot → ClaimRefusal s p slot 12
-  wrong-turn : publisher s p .place ≢ PLACE-IDLE → ClaimRefusal s p slot 21
-  in-use : InUse s slot → ClaimRefusal s p slot 30
-
-in-use-why : (s : State) (slot : ℕ) → inUse false s slot ≡ true → InUse s slot
-in-use-why s slot e = go (eqb (current (s .words)) slot) refl e
-  where
-    go : (test : Bool) → eqb (current (s .words)) slot ≡ test → (test || anyBelow (λ q. holdsSlot false s q slot) (publishers (s .words))) ≡ true → InUse s slot
-    go true d e = inl (eqb-true _ _ d)
-    go false d e =
-        let found = any-below (λ q. holdsSlot false s q slot) (publishers (s .words)) e in
-        let parts = and-true (not (eqb (publisher s (found .0) .place) PLACE-IDLE)) (eqb (publisher s (found .0) .held) slot) (found .2) in
-        inr (found .0, found .1, eqb-false _ _ (not-true _ (parts .0)), eqb-true _ _ (parts .1))
-
-module _ (s : State) (p slot n : ℕ) (ne : n ≢ 0) where
-  claim-first : (unnamed no-slot-so late used : Bool) → leb (publishers (s .words)) p ≡ unnamed → leb (slots (s .words)) slot ≡ no-slot-so → not (eqb (publisher s p .place) PLACE-IDLE) ≡ late → inUse false s slot ≡ used
-      → firstOf ((unnamed gives NO-SUCH-PUBLISHER) ∷ (no-slot-so gives NO-SUCH-SLOT) ∷ (late gives PUBLISHER-TURN) ∷ (false gives BUSY) ∷ (used gives SLOT-IN-USE) ∷ []) ≡ n → ClaimRefusal s p slot n
-  claim-first true no-slot-so late used ea eb ec ed e = subst (ClaimRefusal s p slot) e (no-publisher (leb-true _ _ ea))
-  claim-first false true late used ea eb ec ed e = subst (ClaimRefusal s p slot) e (no-slot (leb-true _ _ eb))
-  claim-first false false true used ea eb ec ed e = subst (ClaimRefusal s p slot) e (wrong-turn (eqb-false _ _ (not-true _ ec)))
-  claim-first false false false true ea eb ec ed e = subst (ClaimRefusal s p slot) e (in-use (in-use-why s slot ed))
-  claim-first false false false false ea eb ec ed e = absurd (ne (sym e))
-
-pub new-claim-refusals : (s : State) (p slot n : ℕ) → damaged rules s ≡ false → step rules s (Claim p slot) .reply ≡ Refused n → ClaimRefusal s p slot n
-unfolding step
-new-claim-refusals s p slot n no-damage e =
-    let why = decide-why (rows rules s (Claim p slot)) (rules .act s (Claim p slot)) s n refl e in
-    claim-first s p slot n (why .1) (leb (publishers (s .words)) p) (leb (slots (s .words)) slot) (not (eqb (publisher s p .place) PLACE-IDLE)) (inUse false s slot) refl refl refl refl (rw no-damage at (why .0))
 
 -- A WALK waits only for a reader that has published a version and not left since: never for one that never entered.
 waiting-below : (w : List ℕ) (n mark start b nx lk wt r : ℕ) (a : WalkReply) → Ends w n mark start b nx lk wt a → a ≡ Waiting r → (r ≡ lookedAt n nx) × (nx < n) × (readerAt w r .published < mark)

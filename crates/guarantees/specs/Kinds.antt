@@ -9,7 +9,7 @@ use mathlib.Core.List.{List}
 use lib.IntN.{ℤ, pos}
 use lib.ListN.{getD, replicate}
 use Rattle.calls.specs.declared.Call.{Call}
-use Rattle.calls.specs.declared.Call.the-variants.{Enter, Leave, Claim, Sync, Raise, Walk, Release, Pick, Checkpoint, Defer}
+use Rattle.calls.specs.declared.Call.the-variants.{Enter, Look, Leave, Claim, Write, Swap, Sync, Raise, Walk, Release, Pick, Checkpoint, Defer}
 use Rattle.calls.specs.declared.Reply.the-variants.{Walked, Refused}
 use Rattle.calls.specs.declared.WalkReply.the-variants.{Waiting, Spent}
 use Rattle.calls.specs.ReplyNumbersLaws.{PitchFitsWord, Representable}
@@ -17,7 +17,7 @@ use Rattle.calls.specs.Numbers.{FORMAT, DAMAGED, PLACE-PUBLISHED}
 use Rattle.calls.specs.Events.{accepted}
 use Rattle.calls.specs.Tally.{tallyOf}
 use Rattle.layout.specs.Layout.{WORDS, kindWord, indicator}
-use Rattle.statement.specs.Machine.{State, state, Given, outcome, Fresh, events, afterAll}
+use Rattle.statement.specs.Machine.{State, state, Given, outcome, Fresh, events, afterAll, retires}
 use Rattle.statement.specs.Demand3.{Demand3}
 use Rattle.statement.specs.Frame.{Frame}
 use Rattle.statement.specs.Looks.{LooksInRange, FirstTableUntilSwap}
@@ -30,6 +30,7 @@ use Rattle.publication_law.specs.Steps.{publisher}
 use Rattle.publication_law.specs.Table.{damaged}
 use Rattle.publication_law.specs.TableLaws.{lacked-refused}
 use Rattle.publication_law.specs.Calls.{undamaged-facts}
+use Rattle.publication_law.specs.SharedFacts.{LookReplies, ClaimFacts, WriteFacts, SwapFacts, ReleaseFacts, ClaimRefusal}
 use Rattle.publication_law.specs.Promises.{SyncFacts, RaiseFacts, WalkFacts}
 use Rattle.grace_version_law.specs.Steps as new-store
 use Rattle.grace_version_law.specs.Promises as new-promises
@@ -43,7 +44,7 @@ use Rattle.qsbr_law.specs.Surely as rest-surely
 use Rattle.qsbr_law.specs.Facts as rest-facts
 use Rattle.kinds_law.specs.Kinds.{Kind, tableOf, kindNumber, kindOfNumber, anyStep, anyMaking, store}
 use Rattle.kinds_law.specs.Kinds.Kind.{new, old, rest}
-use Rattle.kinds_law.specs.Calls.{step-named, step-unknown, making-unknown, any-making-leaves}
+use Rattle.kinds_law.specs.Calls.{number-is, step-named, step-unknown, making-unknown, any-making-leaves}
 use Rattle.guarantees.specs.ByKind.{storeOf, traits, kind-promises, kind-demand3, GraceKind, graceTraits, grace-promises, alike, by-number, publishesOf, chosen-leaves, chosen-frame, chosen-representable, chosen-representable-making}
 
 -- Demand 3: after every list of calls from every accepted making, of whatever kind, looks, returns, slots and picks are as document 01 tells them.
@@ -154,9 +155,9 @@ representable-making n = chosen-representable-making (kindOfNumber n)
 pub zero-store-damaged : (kind : Kind) (entries : List ℤ) → damaged (tableOf kind) (state (replicate WORDS 0) entries) ≡ true
 zero-store-damaged kind entries = zero-damaged (tableOf kind) entries
 
--- The new store may not refuse another publisher as busy: a claim on an undamaged one, whether or not a list of calls leads to it, is refused only for a wrong name, a wrong turn or a slot in use.
-pub claim-refusals : (s : State) (p slot n : ℕ) → damaged (tableOf new) s ≡ false → anyStep s (Claim p slot) .reply ≡ Refused n → new-promises.ClaimRefusal s p slot n
-claim-refusals s p slot n no-damage e = new-promises.new-claim-refusals s p slot n no-damage (rw (step-named new s (Claim p slot) (undamaged-facts (tableOf new) s no-damage .head .kind-is)) at e)
+-- A kind with several publishers may not refuse one as busy: a CLAIM on an undamaged store, whether or not a list of calls leads to it, is refused only for a wrong name, a wrong turn or a slot in use.
+pub claim-refusals : (kind : Kind) → traits kind .exclusive ≡ false → (s : State) (p slot n : ℕ) → damaged (tableOf kind) s ≡ false → anyStep s (Claim p slot) .reply ≡ Refused n → ClaimRefusal (retires (kindNumber kind)) s p slot n
+claim-refusals kind several s p slot n sound e = rw (← number-is kind) (kind-promises kind .shared-facts .claim-refusals several s p slot n sound (rw (step-named kind s (Claim p slot) (undamaged-facts (tableOf kind) s sound .head .kind-is ∙ number-is kind)) at e))
 
 -- With more slots than publishers, an idle publisher of the new store always finds a free slot, and its claim of that slot is accepted.
 pub finds-free-slot : FindsFreeSlot (store (kindNumber new))
@@ -184,12 +185,28 @@ enter-facts-old s r is = rw (step-named old s (Enter r) is) (old-readers.old-ent
 pub leave-facts-old : (s : State) (r : ℕ) → kindWord (s .words) ≡ kindNumber old → accepted (anyStep s (Leave r) .reply) ≡ true → old-readers.LeaveFacts s r (anyStep s (Leave r))
 leave-facts-old s r is = rw (step-named old s (Leave r) is) (old-readers.old-leave-facts s r)
 
--- What an accepted SYNC and an accepted RAISE reply and store, on words of each kind.
+-- What an accepted LOOK, CLAIM, WRITE and SWAP reply and store, on words of each kind.
+pub look-facts : (kind : Kind) (s : State) (r k : ℕ) → kindWord (s .words) ≡ kindNumber kind → accepted (anyStep s (Look r k) .reply) ≡ true → LookReplies s r k (anyStep s (Look r k))
+look-facts kind s r k is = rw (step-named kind s (Look r k) is) (kind-promises kind .shared-facts .look-facts s r k)
+
+pub claim-facts : (kind : Kind) (s : State) (p slot : ℕ) → kindWord (s .words) ≡ kindNumber kind → accepted (anyStep s (Claim p slot) .reply) ≡ true → ClaimFacts s p slot (anyStep s (Claim p slot))
+claim-facts kind s p slot is = rw (step-named kind s (Claim p slot) is) (kind-promises kind .shared-facts .claim-facts s p slot)
+
+pub write-facts : (kind : Kind) (s : State) (p : ℕ) (v : ℤ) → kindWord (s .words) ≡ kindNumber kind → accepted (anyStep s (Write p v) .reply) ≡ true → WriteFacts s p (anyStep s (Write p v))
+write-facts kind s p v is = rw (step-named kind s (Write p v) is) (kind-promises kind .shared-facts .write-facts s p v)
+
+pub swap-facts : (kind : Kind) (s : State) (p : ℕ) → kindWord (s .words) ≡ kindNumber kind → accepted (anyStep s (Swap p) .reply) ≡ true → SwapFacts s p (anyStep s (Swap p))
+swap-facts kind s p is = rw (step-named kind s (Swap p) is) (kind-promises kind .shared-facts .swap-facts s p)
+
+-- What an accepted SYNC, RAISE and RELEASE reply and store, on words of each kind that has them.
 pub sync-facts : (kind : Kind) (grace : GraceKind kind) (s : State) (p : ℕ) → kindWord (s .words) ≡ kindNumber kind → accepted (anyStep s (Sync p) .reply) ≡ true → SyncFacts (graceTraits kind grace .successor) s p (anyStep s (Sync p))
 sync-facts kind grace s p is = rw (step-named kind s (Sync p) is) (grace-promises kind grace .sync-facts s p)
 
 pub raise-facts : (kind : Kind) (grace : GraceKind kind) (s : State) (p : ℕ) → kindWord (s .words) ≡ kindNumber kind → accepted (anyStep s (Raise p) .reply) ≡ true → RaiseFacts (graceTraits kind grace .successor) s p (anyStep s (Raise p))
 raise-facts kind grace s p is = rw (step-named kind s (Raise p) is) (grace-promises kind grace .raise-facts s p)
+
+pub release-facts : (kind : Kind) (grace : GraceKind kind) (s : State) (p : ℕ) → kindWord (s .words) ≡ kindNumber kind → accepted (anyStep s (Release p) .reply) ≡ true → ReleaseFacts s p (anyStep s (Release p))
+release-facts kind grace s p is = rw (step-named kind s (Release p) is) (grace-promises kind grace .release-facts s p)
 
 -- What an accepted PICK, CHECKPOINT and DEFER reply and leave of the participant and of the epoch, on words of rest.
 pub pick-facts : (s : State) (r : ℕ) → kindWord (s .words) ≡ kindNumber rest → accepted (anyStep s (Pick r) .reply) ≡ true → rest-facts.PickFacts s r (anyStep s (Pick r))

@@ -18,7 +18,7 @@ use Rattle.layout.specs.declared.Retirement.{Retirement}
 use Rattle.layout.specs.declared.Retired.{Retired}
 use Rattle.calls.specs.Numbers.{READERS-MAX, PUBLISHERS-MAX, DEFERRED-MAX}
 use Rattle.layout.specs.Records.{_place≔_, _first≔_, _second≔_, _published≔_, _picked≔_, _atPlace_, _held≔_, _walk≔_, _mark≔_, _next≔_, _looks≔_, _waits≔_, _step≔_, _count≔_}
-use Rattle.layout.specs.Layout.{Region, recordAt, withRecord, INDICATORS-AT, INDICATORS, indicator, withIndicator, KIND-AT, READERS-AT, PUBLISHERS-AT, SLOTS-AT, VERSION-AT, HEAD, READER-WORDS, FIRST-PUBLISHER, FIRST-RETIREMENT, WORDS, readerWords, publisherWords, retirementWords, blankReader, noReader, noPublisher, noRetirement, noRetired, putWords, readerRegion, publisherRegion, retirementRegion, retiredRegion, readerAt, publisherAt, retirementAt, retiredAt, withReader, withPublisher, withRetirement, withRetired, withReaders, freshWords}
+use Rattle.layout.specs.Layout.{recordAt, withRecord, INDICATORS-AT, INDICATORS, indicator, withIndicator, KIND-AT, READERS-AT, PUBLISHERS-AT, SLOTS-AT, VERSION-AT, HEAD, READER-WORDS, FIRST-PUBLISHER, FIRST-RETIREMENT, WORDS, readerWords, publisherWords, retirementWords, blankReader, noReader, noPublisher, noRetirement, noRetired, putWords, readerRegion, publisherRegion, retirementRegion, retiredRegion, readerAt, publisherAt, retirementAt, retiredAt, withReader, withPublisher, withRetirement, withRetired, withReaders, freshWords}
 use Rattle.layout.specs.Regions.{Exact, length-record, record-leaves, region-by, region-zero, region-set, record-put, record-back, regions-apart}
 
 -- Readers and publishers are read from their words, each from its own.

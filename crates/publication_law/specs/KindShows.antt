@@ -109,6 +109,15 @@ pub record KindShows (R : SectionRules) (traits : GraceTraits) : Type 1 where
   pub return-shown : (z : Given) (g : Ghost) (s : State) → WholeInvariant (R .damage) KindInvariant z g s → (p b looks waits : ℕ) → p < publishers (s .words) → R .walksAt (publisher s p .place) ≡ true
       → R .looks s p b .reply ≡ Returned looks waits → Back traits z g p looks waits
 
+-- LOOK, CLAIM, WRITE and SWAP of an undamaged store are the shared ones.
+pub shared-calls-of : (R : SectionRules) (s : State) → damaged (tableBy R) s ≡ false → SharedCalls (R .exclusive) (retires (R .damage .number)) (machine (tableBy R)) s
+shared-calls-of R s sound = record {
+  looks = λ r k. sym (step-undamaged (tableBy R) s (Look r k) sound);
+  claims = λ p slot. sym (step-undamaged (tableBy R) s (Claim p slot) sound);
+  writes = λ p v. sym (step-undamaged (tableBy R) s (Write p v) sound);
+  swaps = λ p. sym (step-undamaged (tableBy R) s (Swap p) sound);
+}
+
 module _ (R : SectionRules) (traits : GraceTraits) (L : KindShows R traits) where
   -- What each call's rows and act show of themselves.
   numbers-above-1 : (s : State) (c : Call) → allAbove DAMAGED (tableBy R .tests s c) ≡ true
@@ -281,12 +290,7 @@ module _ (R : SectionRules) (traits : GraceTraits) (L : KindShows R traits) wher
 
     -- What every kind serves.
     shared-calls : SharedCalls (R .exclusive) (retires (R .damage .number)) (machine (tableBy R)) s
-    shared-calls = record {
-      looks = λ r k. sym (step-undamaged (tableBy R) s (Look r k) undamaged-now);
-      claims = λ p slot. sym (step-undamaged (tableBy R) s (Claim p slot) undamaged-now);
-      writes = λ p v. sym (step-undamaged (tableBy R) s (Write p v) undamaged-now);
-      swaps = λ p. sym (step-undamaged (tableBy R) s (Swap p) undamaged-now);
-    }
+    shared-calls = shared-calls-of R s undamaged-now
 
     syncs-on : (p : ℕ) → p < z .publishers → g .tally .phase p ≡ swapped → version (s .words) < traits .every .last → accepted (step (tableBy R) s (Sync p) .reply) ≡ true
     syncs-on p pn ph low = rw (accepts (Sync p) refl (named-publisher (R .damage) z g s (i .shared .every) p pn, (negated _ (eq-eqb (publisher s p .place) 34 (placed (R .damage) z g s (i .shared .every) p swapped ph)), (L .below-last (version (s .words)) low, tt)))) refl

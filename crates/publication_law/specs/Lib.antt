@@ -34,6 +34,7 @@ pub mod Calls
 pub mod Looks
 pub mod Frames
 pub mod TableLaws
+pub mod SharedFacts
 -- What a kind must show, and what is promised of every kind that does.
 pub mod Detector
 pub mod KindShows

@@ -11,15 +11,15 @@ use lib.Dec.{leb, eqb}
 use borrow.Author.Tests.{eqb-true, eqb-false, leb-true, leb-false, not-false}
 use Rattle.base.specs.RowLaws.{clash, not-both, choose-split}
 use Rattle.calls.specs.declared.Call.{Call}
-use Rattle.calls.specs.declared.Call.the-variants.{Write, Sync, Raise, Walk}
+use Rattle.calls.specs.declared.Call.the-variants.{Write, Sync, Raise, Walk, Release}
 use Rattle.calls.specs.declared.Reply.the-variants.{Synced, Raised, Shared, Walked}
 use Rattle.calls.specs.declared.WalkReply.the-variants.{Spent}
-use Rattle.calls.specs.Numbers.{PLACE-SYNCHRONISING, PLACE-RAISED}
+use Rattle.calls.specs.Numbers.{PLACE-IDLE, PLACE-SYNCHRONISING, PLACE-RAISED}
 use Rattle.calls.specs.ReplyNumbersLaws.{PitchFitsWord, Representable}
 use Rattle.calls.specs.FirstTable.{outOfRange}
 use Rattle.calls.specs.Events.{accepted}
 use Rattle.layout.specs.declared.WalkResult.{WalkResult}
-use Rattle.layout.specs.Layout.{VERSION-AT, publishers, version}
+use Rattle.layout.specs.Layout.{VERSION-AT, RELEASES-AT, publishers, version}
 use Rattle.layout.specs.Records.{_atPlace_, _walk≔_, _mark≔_, _next≔_, _looks≔_, _waits≔_}
 use Rattle.statement.specs.Machine.{State, Outcome, Given, Fresh, afterAll}
 use Rattle.statement.specs.Demand3.{Demand3}
@@ -36,7 +36,8 @@ use Rattle.publication_law.specs.Moves.{publisher-moves, publisher-moves
 use Rattle.publication_law.specs.Frames.{walk-record}
 use Rattle.publication_law.specs.Decide.{decided}
 use Rattle.publication_law.specs.TableLaws.{refused-leaves-of-acts, frame-of-table, representable-of-table, representable-making-of-table}
-use Rattle.publication_law.specs.KindShows.{KindShows, demand3-of, companions-of, never-damaged-of, act-laws-of, making-accepts-of, makes-fresh-of, walk-zero-of}
+use Rattle.publication_law.specs.SharedFacts.{ReleaseFacts, SharedFacts, shared-facts-of}
+use Rattle.publication_law.specs.KindShows.{KindShows, shared-calls-of, demand3-of, companions-of, never-damaged-of, act-laws-of, making-accepts-of, makes-fresh-of, walk-zero-of}
 
 -- SYNC: the reply is the mark that it stores, the version's successor; next, looks and waits are 0.
 pub record SyncFacts (successor : ℕ → ℕ) (s : State) (p : ℕ) (o : Outcome) : Type 0 where
@@ -66,14 +67,17 @@ pub record EveryPromises (T : Table) (traits : Traits) : Type 0 where
   -- every reply of a store whose entries are pitches of 64 bits has three numbers for C that no other representable reply has
   pub representable : (s : State) (c : Call) → ((j : ℕ) → PitchFitsWord (getD (s .entries) j (pos 0))) → Representable (step T s c .reply)
   pub representable-making : (z : Given) (s : State) → Representable (making T z s .reply)
+  -- what an accepted LOOK, CLAIM, WRITE and SWAP reply and store, and why a CLAIM is refused, for every state
+  pub shared-facts : SharedFacts (traits .exclusive) T
 
 -- .. and of a kind with sections, SYNC and WALK besides.
 pub record Promises (T : Table) (traits : GraceTraits) : Type 0 where
   pub every : EveryPromises T (traits .every)
   pub companions : GraceCompanions (machine T) traits
-  -- what an accepted SYNC and an accepted RAISE reply and store, for every state
+  -- what an accepted SYNC, RAISE and RELEASE reply and store, for every state
   pub sync-facts : (s : State) (p : ℕ) → accepted (step T s (Sync p) .reply) ≡ true → SyncFacts (traits .successor) s p (step T s (Sync p))
   pub raise-facts : (s : State) (p : ℕ) → accepted (step T s (Raise p) .reply) ≡ true → RaiseFacts (traits .successor) s p (step T s (Raise p))
+  pub release-facts : (s : State) (p : ℕ) → accepted (step T s (Release p) .reply) ≡ true → ReleaseFacts s p (step T s (Release p))
   -- a WALK with no looks that replies spent leaves the whole state as it was
   pub walk-zero : (s : State) (p : ℕ) → step T s (Walk p 0) .reply ≡ Walked Spent → step T s (Walk p 0) .after ≡ s
 
@@ -82,6 +86,13 @@ module _ (R : SectionRules) (traits : GraceTraits) (L : KindShows R traits) wher
   unfolding step
   sync-facts-of s p = decided (λ (o : Outcome). accepted (o .reply) ≡ true → SyncFacts (traits .successor) s p o) (rows (tableBy R) s (Sync p)) (tableBy R .act s (Sync p)) s refl
       (λ f _. rw (L .successor-is) (record { reply-is = refl; record-is = publisher-written (publisher-moves (undamaged-facts (tableBy R) s (f .0)) p _ (leb-false _ _ (f .1 .0))) }))
+      (λ ok. clash (sym ok))
+
+  release-facts-of : (s : State) (p : ℕ) → accepted (step (tableBy R) s (Release p) .reply) ≡ true → ReleaseFacts s p (step (tableBy R) s (Release p))
+  unfolding step
+  release-facts-of s p = decided (λ (o : Outcome). accepted (o .reply) ≡ true → ReleaseFacts s p o) (rows (tableBy R) s (Release p)) (tableBy R .act s (Release p)) s refl
+      (λ f _. let m = publisher-moves-head (undamaged-facts (tableBy R) s (f .0)) p (publisher s p atPlace PLACE-IDLE) (leb-false _ _ (f .1 .0)) RELEASES-AT _ (omega arith) (omega arith) in
+      record { turn = eqb-true _ _ (not-false _ (f .1 .1 .0)); reply-is = refl; releases-are = m .releases-is; record-is = publisher-written m })
       (λ ok. clash (sym ok))
 
   own-table : Demand3 (machine (tableBy R)) (λ z. z .table)
@@ -139,10 +150,12 @@ promises-of R traits L = record {
     makes-fresh = makes-fresh-of R traits L;
     representable = representable-of-table (λ s. traits .every .publishes) (tableBy R) (act-laws-of R traits L);
     representable-making = representable-making-of-table (λ s. traits .every .publishes) (tableBy R) (act-laws-of R traits L);
+    shared-facts = rw (L .exclusive-is) (shared-facts-of (R .exclusive) (tableBy R) (shared-calls-of R));
   };
   companions = companions-of R traits L;
   sync-facts = sync-facts-of R traits L;
   raise-facts = raise-facts-of R traits L;
+  release-facts = release-facts-of R traits L;
   walk-zero = walk-zero-of R traits L;
 }
 

@@ -1,25 +1,24 @@
 -- The order of the rest store's refusals, by computation: the examples that name no kind where it has their calls, and its own. Assumes nothing.
 -- Where a call or making but the last gets a number, the next row applies to it too; the one after it differs in one thing, and gets the number of the next.
 use Prim.Native.Nat.{ℕ}
-use mathlib.Core.Path.{_≡_, refl}
-use mathlib.Core.Bool.{false}
+use mathlib.Core.Path.{refl}
 use mathlib.Core.List.{List, [], _∷_, _++_}
 use lib.IntN.{pos}
 use lib.ListN.{replicate}
 use Rattle.base.specs.Rows.{anyBelow}
 use Rattle.calls.specs.declared.Call.the-variants.{Enter, Leave, Claim, Swap, Sync, Raise, Walk, Release, Pick, Checkpoint, Defer}
-use Rattle.calls.specs.declared.Reply.the-variants.{Made, At, Claimed, Swapped, Refused, Picked}
+use Rattle.calls.specs.declared.Reply.the-variants.{Made, At, Claimed, Swapped, Refused}
 use Rattle.calls.specs.FirstTable.{tables}
 use Rattle.layout.specs.declared.Publisher.{Publisher}
 use Rattle.layout.specs.declared.Retirement.{Retirement}
 use Rattle.layout.specs.Layout.{readerAt, publisherAt, retirementAt, retiredAt, withReader, withPublisher, withRetirement, withRetired, withReaders, freshWords, noPublisher, noRetirement, noWalk}
 use Rattle.layout.specs.Records.{_atPlace_, _held≔_, _walk≔_, _mark≔_, _step≔_, _count≔_}
 use Rattle.statement.specs.Machine.{State, state}
-use Rattle.statement.specs.Examples.{Example, AllHold, publication, claimAndWrite, givenFeathered}
+use Rattle.statement.specs.Examples.{Example, AllHold, claimAndWrite, givenFeathered}
 use Rattle.statement.specs.Examples.Example.{shows, makes, each}
 use Rattle.statement.specs.Precedence.{freshOf, withPublisherAs, withCurrentAs, small, makingRows, tableEnds, lookRows, writeRows}
 use Rattle.publication_law.specs.Table.{damaged, step, making}
-use Rattle.qsbr_law.specs.Steps.{rules, Qsbr, staying}
+use Rattle.qsbr_law.specs.Steps.{Qsbr, staying}
 use Rattle.qsbr_examples.specs.Examples.{deferral}
 
 -- Words and entries lent to a making, all 0.

@@ -2,10 +2,8 @@
 -- The first three free a slot that participant 1 has picked and not dropped; the last frees none, which breaks what is told of slots and that a slot is surely freed.
 use Prim.Native.Nat.{ℕ, _+_}
 use native.Mathlib.Omega.{arith}
-use mathlib.Core.Path.{_≡_, refl, sym}
-use mathlib.Core.Bool.{true, false}
+use mathlib.Core.Path.{_≡_, refl}
 use mathlib.Core.List.{List, [], _∷_, _++_}
-use mathlib.Core.Option.{some}
 use lib.IntN.{pos}
 use lib.Dec.{eqb}
 use Rattle.base.specs.Base.{choose}
@@ -17,11 +15,10 @@ use Rattle.calls.specs.declared.Reply.the-variants.{At, Claimed, Refused}
 use Rattle.calls.specs.Numbers.{PLACE-IDLE, PLACE-SWAPPED}
 use Rattle.calls.specs.Events.{Event}
 use Rattle.calls.specs.Events.Event.{_⇒_}
-use Rattle.calls.specs.Told.{toldBy}
 use Rattle.calls.specs.FirstTable.{tables}
 use Rattle.layout.specs.Layout.{readers, readerAt, publisherAt, retirementAt, retiredAt, withReader, withPublisher, withRetirement, withRetired, withReaders, freshWords}
 use Rattle.layout.specs.Records.{_second≔_, _published≔_, _atPlace_, _step≔_, _count≔_}
-use Rattle.statement.specs.Machine.{State, state, Outcome, outcome, Given, Machine, Fresh, events}
+use Rattle.statement.specs.Machine.{State, state, Outcome, outcome, Given, Machine, events}
 use Rattle.statement.specs.Demand3.{Demand3}
 use Rattle.statement.specs.Quiescent.{NotBegun, FreesSurely}
 use Rattle.statement.specs.Examples.{lentFor, givenFeathered}

@@ -2,21 +2,21 @@
 -- v is the epoch; S are the slots picked and not dropped since; xs, ys, ts and ds are the readers, publishers, retirements and retired slots; x, y, t and e are new ones of one participant.
 use Prim.Native.Nat.{ℕ, _+_, _-_, _<_, _≤_}
 use native.Mathlib.Omega.{arith}
-use mathlib.Core.Path.{_≡_, refl, sym, ap, _∙_}
+use mathlib.Core.Path.{_≡_, refl, sym}
 use mathlib.Core.Logic.{_≢_}
 use mathlib.Core.Bool.{Bool, true, false, not, _&&_, _||_}
 use lib.Dec.{leb, ltb, eqb}
-use borrow.Author.Tests.{eqb-true, eqb-false, eq-eqb, ne-eqb, leb-true, leb-false, le-leb, not-false, ltb-true, ltb-false}
+use borrow.Author.Tests.{eqb-true, eqb-false, ne-eqb, leb-true, leb-false, le-leb, not-false, ltb-true, ltb-false}
 use Rattle.base.specs.Base.{choose, upd}
 use Rattle.base.specs.Rows.{anyBelow, countBelow}
-use Rattle.base.specs.RowLaws.{clash, same, at-or, negated, not-both, and-true, and-not, none-below, no-below, some-below, any-more, neither, by-test, choose-split, count-none, count-more, count-like}
+use Rattle.base.specs.RowLaws.{clash, same, at-or, negated, and-not, none-below, no-below, by-test, choose-split, count-none, count-more, count-like}
 use Rattle.calls.specs.Numbers.{PLACE-OUT, PLACE-PICKED, PLACE-IDLE, PLACE-SWAPPED, PLACE-DEFERRING}
 use Rattle.layout.specs.declared.Reader.{Reader}
 use Rattle.layout.specs.declared.Publisher.{Publisher}
 use Rattle.layout.specs.declared.Retirement.{Retirement}
 use Rattle.layout.specs.declared.Retired.{Retired}
 use Rattle.layout.specs.Records.{_place≔_, _first≔_, _second≔_, _published≔_, _picked≔_, _atPlace_, _walk≔_, _mark≔_, _step≔_, _count≔_}
-use Rattle.qsbr_law.specs.Steps.{lesser, leastOf}
+use Rattle.qsbr_law.specs.Steps.{leastOf}
 use Rattle.qsbr_law.specs.KindInvariant.{InsideCheckpoint, Deferring, Epochs}
 
 -- At a fresh store: nobody is inside a checkpoint, at 35, or has a pick or a retired slot.

@@ -20,7 +20,7 @@ use Rattle.layout.specs.declared.Reader.{Reader}
 use Rattle.layout.specs.declared.Publisher.{Publisher}
 use Rattle.layout.specs.declared.Retirement.{Retirement}
 use Rattle.layout.specs.declared.Retired.{Retired}
-use Rattle.layout.specs.Layout.{WORDS, readers, publishers, current, version, readerAt, publisherAt, retirementAt, retiredAt, withReader, withRetired}
+use Rattle.layout.specs.Layout.{WORDS, readers, publishers, current, version, retiredAt, withReader, withRetired}
 use Rattle.layout.specs.Laws.{length-reader, length-retired, retired-reader}
 use Rattle.layout.specs.Records.{_place≔_, _first≔_, _second≔_, _published≔_, _picked≔_, _atPlace_, _walk≔_, _mark≔_, _step≔_, _count≔_}
 use Rattle.statement.specs.Machine.{State, state, Outcome, outcome}
@@ -29,7 +29,7 @@ use Rattle.publication_law.specs.DamageLaws.{publisher-below}
 use Rattle.publication_law.specs.Table.{rows, step}
 use Rattle.publication_law.specs.Calls.{undamaged-facts}
 use Rattle.publication_law.specs.Decide.{decided}
-use Rattle.qsbr_law.specs.Steps.{damageRules, retirement, pick, stepTo, load, observe, leastOf, leastRead, read, Stay, staying, afterFreeing, readLast, checkpoint, raiseEpoch, queue, defer, act, rules}
+use Rattle.qsbr_law.specs.Steps.{damageRules, retirement, load, observe, leastRead, read, Stay, staying, afterFreeing, readLast, checkpoint, defer, act, rules}
 use Rattle.qsbr_law.specs.Freeing.{put-same, put-other}
 use Rattle.qsbr_law.specs.Moves.{Moves}
 use Rattle.qsbr_law.specs.Frames.{reader-is, publisher-is, retirement-is, retired-is, pick-moves, step-moves, last-moves, raise-moves, queue-moves}

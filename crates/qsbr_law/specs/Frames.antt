@@ -8,7 +8,7 @@ use mathlib.Core.List.{List}
 use mathlib.Core.Option.{some}
 use lib.ListN.{getD, length}
 use lib.Dec.{eqb}
-use borrow.Author.Tests.{eqb-true, eqb-false, eq-eqb}
+use borrow.Author.Tests.{eqb-true, eqb-false}
 use Rattle.base.specs.Base.{choose, upd}
 use Rattle.base.specs.RowLaws.{clash, same, choose-split, upd-other}
 use Rattle.calls.specs.declared.Call.{Call}
@@ -19,12 +19,12 @@ use Rattle.layout.specs.declared.Publisher.{Publisher}
 use Rattle.layout.specs.declared.Retirement.{Retirement}
 use Rattle.layout.specs.declared.Retired.{Retired}
 use Rattle.layout.specs.Layout.{HEAD, VERSION-AT, WORDS, readers, current, version, readerAt, publisherAt, retirementAt, retiredAt}
-use Rattle.layout.specs.Records.{_place≔_, _first≔_, _second≔_, _published≔_, _picked≔_, _atPlace_, _walk≔_, _mark≔_, _step≔_, _count≔_}
+use Rattle.layout.specs.Records.{_place≔_, _second≔_, _published≔_, _picked≔_, _atPlace_, _walk≔_, _mark≔_, _step≔_, _count≔_}
 use Rattle.statement.specs.Machine.{State, Outcome}
 use Rattle.statement.specs.Frame.{readerNamed, publisherNamed, retirementNamed, headNamed, NamedStays, Framed}
 use Rattle.publication_law.specs.Steps.{reader, publisher}
 use Rattle.publication_law.specs.Frames.{place-and-one}
-use Rattle.qsbr_law.specs.Steps.{retirement, pick, stepTo, load, observe, leastRead, read, afterFreeing, readLast, checkpoint, raiseEpoch, queue, defer}
+use Rattle.qsbr_law.specs.Steps.{retirement, pick, stepTo, leastRead, afterFreeing, readLast, checkpoint, raiseEpoch, queue, defer}
 use Rattle.qsbr_law.specs.Moves.{Moves, reader-moves, and-publisher, and-version, and-retirement, and-retired, and-freed}
 
 module _ (publishes : Bool) (c : Call) (w w′ : List ℕ) (p : ℕ) (x : Reader) (y : Publisher) (t : Retirement) (d : ℕ → Retired) (ver : ℕ) (m : Moves w w′ p x y t d ver) where

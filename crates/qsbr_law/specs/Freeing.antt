@@ -2,20 +2,17 @@
 use Prim.Native.Nat.{ℕ, zero, suc, _+_, _-_, _<_, _≤_}
 use native.Mathlib.Omega.{arith}
 use native.Mathlib.Numerals.{add-one}
-use mathlib.Core.Path.{_≡_, refl, sym, ap, _∙_, fun-ext}
+use mathlib.Core.Path.{_≡_, refl, sym, ap, _∙_}
 use mathlib.Core.Logic.{_≢_}
 use mathlib.Core.Bool.{Bool, true, false, _&&_, _||_}
 use mathlib.Core.List.{List}
 use lib.ListN.{getD, length}
 use lib.Dec.{leb, ltb, eqb}
-use borrow.Author.Tests.{eqb-true, eqb-false, ne-eqb, leb-true, leb-false, le-leb, lt-leb, lt-ltb, le-ltb}
-use Rattle.base.specs.Base.{choose, upd}
+use borrow.Author.Tests.{ne-eqb, leb-true, leb-false, le-leb, lt-leb, lt-ltb, le-ltb}
+use Rattle.base.specs.Base.{choose}
 use Rattle.base.specs.Rows.{anyBelow, countBelow}
 use Rattle.base.specs.RowLaws.{same, or-none, none-first, any-more, choose-split, count-more, count-like}
 use Rattle.calls.specs.Numbers.{PUBLISHERS-MAX, DEFERRED-MAX}
-use Rattle.layout.specs.declared.Reader.{Reader}
-use Rattle.layout.specs.declared.Publisher.{Publisher}
-use Rattle.layout.specs.declared.Retirement.{Retirement}
 use Rattle.layout.specs.declared.Retired.{Retired}
 use Rattle.layout.specs.Layout.{HEAD, WORDS, readerAt, publisherAt, retirementAt, retiredAt, withRetired}
 use Rattle.layout.specs.Laws.{length-retired, head-retired, reader-retired, publisher-retired, retirement-retired, retired-put}

@@ -1,11 +1,11 @@
 -- A step of the rest store writes what is of one participant, and perhaps the epoch: what the words then hold, by the laws of the layout. Assumes nothing.
-use Prim.Native.Nat.{ℕ, _+_, _<_, _≤_}
+use Prim.Native.Nat.{ℕ, _<_, _≤_}
 use native.Mathlib.Omega.{arith}
 use mathlib.Core.Path.{_≡_, refl, sym, ap, _∙_, fun-ext}
 use mathlib.Core.Logic.{_≢_}
 use mathlib.Core.Bool.{Bool, true, false}
 use mathlib.Core.List.{List}
-use lib.ListN.{getD, set, length, length-set}
+use lib.ListN.{getD, length, length-set}
 use lib.Seq.{getD-set-same, getD-set-other}
 use lib.Dec.{eqb}
 use borrow.Author.Tests.{eqb-true}
@@ -19,8 +19,8 @@ use Rattle.layout.specs.declared.Retired.{Retired}
 use Rattle.layout.specs.Layout.{HEAD, VERSION-AT, WORDS, version, readerAt, publisherAt, retirementAt, retiredAt, withVersion, withReader, withPublisher, withRetirement, withRetired}
 use Rattle.layout.specs.Laws.{length-reader, length-publisher, length-retirement, length-retired, head-reader, head-publisher, head-retirement, head-retired, reader-head, publisher-head, retirement-head, retired-head, reader-publisher, publisher-reader, retirement-reader, retired-reader, retirement-publisher, retired-publisher, reader-retirement, publisher-retirement, reader-retired, publisher-retired, retired-retirement, retirement-retired, reader-put, publisher-put, retirement-put, retired-put}
 use Rattle.publication_law.specs.Moves.{upd-same}
-use Rattle.qsbr_law.specs.Steps.{Stay, staying}
-use Rattle.qsbr_law.specs.Freeing.{Frees, frees}
+use Rattle.qsbr_law.specs.Steps.{staying}
+use Rattle.qsbr_law.specs.Freeing.{frees}
 
 -- w′ is w with reader, publisher, retirement and retired slots of participant p replaced, and this version.
 pub record Moves (w w′ : List ℕ) (p : ℕ) (x : Reader) (y : Publisher) (t : Retirement) (d : ℕ → Retired) (ver : ℕ) : Type 0 where

@@ -3,22 +3,22 @@ use Prim.Native.Nat.{ℕ, _+_, _<_, _≤_}
 use native.Mathlib.Omega.{arith}
 use mathlib.Core.Path.{_≡_, refl, sym, ap, _∙_, subst}
 use mathlib.Core.Logic.{_≢_, _⊎_, inl, inr}
-use mathlib.Core.Bool.{Bool, true, false, not, _&&_, _||_}
-use mathlib.Core.List.{List, [], _∷_}
+use mathlib.Core.Bool.{Bool, true, false, not, _||_}
+use mathlib.Core.List.{List}
 use mathlib.Core.Option.{Option, none, some}
 use lib.IntN.{ℤ, pos}
-use lib.ListN.{getD, length-set}
+use lib.ListN.{length-set}
 use lib.Seq.{getD-set-same, getD-set-other}
-use lib.Dec.{leb, ltb, eqb}
-use borrow.Author.Tests.{eqb-true, eqb-false, eq-eqb, ne-eqb, leb-false, lt-leb, ltb-false, lt-ltb, le-ltb, not-true, not-false}
-use Rattle.base.specs.Base.{choose, is}
+use lib.Dec.{ltb, eqb}
+use borrow.Author.Tests.{eqb-true, eqb-false, eq-eqb, ne-eqb, leb-false, ltb-false, lt-ltb, le-ltb, not-false}
+use Rattle.base.specs.Base.{is}
 use Rattle.base.specs.Rows.{firstOf}
-use Rattle.base.specs.RowLaws.{clash, not-both, or-false, or-right, neither, negated, within, none-below, choose-split, AllClear, allAbove, all-above, by-test, count-each, count-like}
+use Rattle.base.specs.RowLaws.{clash, not-both, or-false, or-right, neither, within, none-below, choose-split, AllClear, allAbove, all-above, by-test, count-each, count-like}
 use Rattle.calls.specs.declared.Call.{Call}
 use Rattle.calls.specs.declared.Call.the-variants.{Enter, Look, Leave, Claim, Write, Swap, Sync, Raise, Walk, Release, Pick, Checkpoint, Defer}
 use Rattle.calls.specs.declared.Reply.{Reply}
-use Rattle.calls.specs.declared.Reply.the-variants.{Made, At, Picked, Refused}
-use Rattle.calls.specs.Numbers.{READERS-MAX, TABLE, DEFERRED-MAX, KIND-REST, PLACE-PICKED, PLACE-CLAIMED, PLACE-IDLE, PLACE-SWAPPED, PLACE-SYNCHRONISING, PLACE-DEFERRING, DAMAGED, READER-TURN, PUBLISHER-TURN, SLOT-IN-USE, EPOCH-IS-LAST, TOO-MANY-DEFERRED}
+use Rattle.calls.specs.declared.Reply.the-variants.{Made, At, Refused}
+use Rattle.calls.specs.Numbers.{READERS-MAX, TABLE, DEFERRED-MAX, KIND-REST, PLACE-SWAPPED, PLACE-DEFERRING, DAMAGED, READER-TURN, PUBLISHER-TURN, SLOT-IN-USE, EPOCH-IS-LAST, TOO-MANY-DEFERRED}
 use Rattle.calls.specs.ReplyNumbersLaws.{Representable}
 use Rattle.calls.specs.FirstTable.{outOfRange}
 use Rattle.calls.specs.Events.{accepted}
@@ -29,35 +29,34 @@ use Rattle.calls.specs.Told.Role.{free}
 use Rattle.calls.specs.Tally.{Phase}
 use Rattle.calls.specs.Tally.Phase.{idle, swapped, synchronising}
 use Rattle.layout.specs.declared.Reader.{Reader}
-use Rattle.layout.specs.declared.Publisher.{Publisher}
-use Rattle.layout.specs.Layout.{READERS-AT, PUBLISHERS-AT, SLOTS-AT, CURRENT-AT, VERSION-AT, RELEASES-AT, readers, publishers, slots, current, version, readerAt, publisherAt, retirementAt, retiredAt, blankReader, noReader, noPublisher}
+use Rattle.layout.specs.Layout.{READERS-AT, PUBLISHERS-AT, SLOTS-AT, CURRENT-AT, VERSION-AT, RELEASES-AT, readers, publishers, slots, current, version, retirementAt, retiredAt, blankReader, noPublisher}
 use Rattle.layout.specs.Laws.{fresh-head, fresh-long, fresh-indicator, fresh-reader, fresh-publisher, fresh-retirement, fresh-retired}
-use Rattle.statement.specs.Machine.{State, state, Outcome, outcome, Given, Fresh, events, afterAll, retires}
+use Rattle.statement.specs.Machine.{State, Outcome, outcome, Given, Fresh, events, afterAll}
 use Rattle.statement.specs.Demand3.{Demand3}
 use Rattle.statement.specs.Frame.{nextEntry, Writes}
 use Rattle.statement.specs.Looks.{WritesInRange, looks-in-range, first-table-until-swap}
-use Rattle.statement.specs.Companions.{IsFresh, MakesFresh, MakingAccepts, Named, InTurn, StateCompanions, Companions}
+use Rattle.statement.specs.Companions.{IsFresh, MakesFresh, MakingAccepts, Named, InTurn, StateCompanions}
 use Rattle.statement.specs.Quiescent.{QuiescentStateCompanions, QuiescentCompanions}
 use Rattle.statement.specs.KeptInvariant.{Ghost, ghost₀, afterEvent, afterEvents, KeptInvariant, kept-after, all-told, all-tally, returns-never, demand3, companions}
 use Rattle.publication_tables.specs.FillLaws.{tables-long, tables-entry}
 use Rattle.publication_law.specs.Steps.{reader, publisher, inUse, makingTests, made}
 use Rattle.publication_law.specs.Clear.{MakingClear, making-clear, making-rows, table-is-good, good-in-range, good-steps, claim-clear}
-use Rattle.publication_law.specs.DamageLaws.{publisher-below, undamaged-to}
+use Rattle.publication_law.specs.DamageLaws.{publisher-below}
 use Rattle.publication_law.specs.Core.{CurrentOrFormer}
 use Rattle.publication_law.specs.Core.CurrentOrFormer.{is-current, is-former}
 use Rattle.publication_law.specs.Invariant.{formersOf}
 use Rattle.publication_law.specs.KindLaw.{undamaged-publisher, place-bounded, early-fits}
-use Rattle.publication_law.specs.Table.{damaged, rows, step, making, machine}
+use Rattle.publication_law.specs.Table.{damaged, rows, step, making}
 use Rattle.publication_law.specs.Calls.{step-undamaged, undamaged-facts, undamaged-further}
 use Rattle.publication_law.specs.Decide.{decided, decide-accepts}
 use Rattle.publication_law.specs.Frames.{same-framed, claim-framed, write-framed, swap-framed}
 use Rattle.publication_law.specs.TableLaws.{ActFacts, ActLaws, lacked-refused, only-damaged, refused-leaves-of-acts, frame-of-table, representable-of-table, representable-making-of-table}
 use Rattle.publication_law.specs.Keeps.{slots-right, picks-right, table-right, placed, idle-told, unused-told, made-invariant}
-use Rattle.publication_law.specs.Served.{SharedCalls, named-reader, named-publisher, named-slot, reader-named, publisher-named, slot-named, publisher-placed, writer-placed, look-turn, claim-turn, write-turn, swap-turn, look-shelf, claim-not-picked, look-accepted, claims-on, refused-busy, writes-on, swaps-on}
-use Rattle.publication_law.specs.PhaseLaws.{InPhase}
+use Rattle.publication_law.specs.Served.{SharedCalls, named-reader, named-publisher, named-slot, reader-named, publisher-named, slot-named, publisher-placed, writer-placed, look-turn, claim-turn, write-turn, swap-turn, look-shelf, claim-not-picked, look-accepted, claims-on, writes-on, swaps-on}
 use Rattle.publication_law.specs.Phases.{phaseAt}
+use Rattle.publication_law.specs.SharedFacts.{shared-facts-of}
 use Rattle.publication_law.specs.Promises.{EveryPromises}
-use Rattle.qsbr_law.specs.Steps.{LAST, versions, damageRules, retirementRows, further, retirement, load, observe, read, readLast, checkpoint, defer, lacks, tests, act, freshReader, rules, Qsbr}
+use Rattle.qsbr_law.specs.Steps.{LAST, versions, damageRules, retirement, load, observe, read, readLast, checkpoint, lacks, tests, act, rules, Qsbr}
 use Rattle.qsbr_law.specs.Traits.{traits}
 use Rattle.qsbr_law.specs.KindInvariant.{MarkedAs, RetirementFits, RestInvariant}
 use Rattle.qsbr_law.specs.Epochs.{fresh-epochs}
@@ -153,6 +152,15 @@ act-laws = record { numbers-above-1 = λ s c _. numbers-above-1 s c; making-numb
 pub all-numbers : (s : State) (c : Call) → allAbove 0 (rows rules s c) ≡ true
 all-numbers s c = all-above DAMAGED 0 (omega arith) (tests s c) (numbers-above-1 s c)
 
+-- LOOK, CLAIM, WRITE and SWAP of an undamaged store are the shared ones.
+shared-calls-of : (s : State) → damaged rules s ≡ false → SharedCalls false true Qsbr s
+shared-calls-of s sound = record {
+  looks = λ r k. sym (step-undamaged rules s (Look r k) sound);
+  claims = λ p slot. sym (step-undamaged rules s (Claim p slot) sound);
+  writes = λ p v. sym (step-undamaged rules s (Write p v) sound);
+  swaps = λ p. sym (step-undamaged rules s (Swap p) sound);
+}
+
 module _ (z : Given) (g : Ghost) (s : State) (i : RestInvariant z g s) where
   After : Call → Outcome → Type 0
   After c o = RestInvariant z (afterEvent g (c ⇒ o .reply)) (o .after)
@@ -183,12 +191,7 @@ module _ (z : Given) (g : Ghost) (s : State) (i : RestInvariant z g s) where
   accepts c has f = decide-accepts (rows rules s c) (act s c) s (neither (lacks c) (damaged rules s) has (undamaged-now z g s i), f)
 
   shared-calls : SharedCalls false true Qsbr s
-  shared-calls = record {
-    looks = λ r k. sym (step-undamaged rules s (Look r k) (undamaged-now z g s i));
-    claims = λ p slot. sym (step-undamaged rules s (Claim p slot) (undamaged-now z g s i));
-    writes = λ p v. sym (step-undamaged rules s (Write p v) (undamaged-now z g s i));
-    swaps = λ p. sym (step-undamaged rules s (Swap p) (undamaged-now z g s i));
-  }
+  shared-calls = shared-calls-of s (undamaged-now z g s i)
 
   -- Told and stored: a participant's step, and whether it is at 35 or at 34.
   not-deferring : (p : ℕ) → eqb (publisher s p .place) PLACE-DEFERRING ≡ false → g .tally .phase p ≢ synchronising
@@ -473,6 +476,7 @@ rest-promises = record {
   makes-fresh = makes-fresh;
   representable = representable-of-table (λ s. true) rules act-laws;
   representable-making = representable-making-of-table (λ s. true) rules act-laws;
+  shared-facts = shared-facts-of false rules shared-calls-of;
 }
 
 -- PICK, CHECKPOINT and DEFER are served after every list from fresh.

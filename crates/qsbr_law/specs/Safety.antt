@@ -1,28 +1,27 @@
 -- What only the rest store can show: each of its calls keeps its invariant. Assumes nothing.
-use Prim.Native.Nat.{ℕ, _+_, _-_, _<_, _≤_}
+use Prim.Native.Nat.{ℕ, _+_, _<_, _≤_}
 use native.Mathlib.Omega.{arith}
-use mathlib.Core.Path.{_≡_, refl, sym, ap, _∙_, subst, fun-ext}
+use mathlib.Core.Path.{_≡_, refl, sym, ap, _∙_, fun-ext}
 use mathlib.Core.Logic.{_≢_, _⊎_, inl, inr}
 use mathlib.Core.Bool.{Bool, true, false, not, _&&_, _||_}
 use mathlib.Core.List.{List}
 use mathlib.Core.Option.{Option, none, some}
 use lib.IntN.{ℤ}
-use lib.ListN.{length}
 use lib.Dec.{leb, ltb, eqb}
-use borrow.Author.Tests.{eqb-true, eqb-false, eq-eqb, ne-eqb, leb-true, leb-false, le-leb, lt-leb, ltb-false, le-ltb, lt-ltb, not-true, not-false}
+use borrow.Author.Tests.{eqb-true, eqb-false, eq-eqb, ne-eqb, leb-true, leb-false, le-leb, lt-leb, ltb-false, le-ltb, lt-ltb, not-false}
 use Rattle.base.specs.Base.{choose, upd, is}
 use Rattle.base.specs.Rows.{anyTrue, anyBelow, countBelow}
-use Rattle.base.specs.RowLaws.{clash, not-both, by-test, and-true, and-false, and-not, or-false, or-left, or-right, or-either, or-none, neither, negated, within, all-false, none-true, none-below, no-below, some-below, any-below, any-more, none-first, choose-split, same, at-or, AllClear}
+use Rattle.base.specs.RowLaws.{clash, not-both, by-test, and-true, and-false, and-not, or-false, or-left, or-right, or-either, or-none, neither, negated, within, all-false, none-true, none-below, no-below, some-below, any-below, any-more, choose-split, same, at-or, AllClear}
 use Rattle.calls.specs.declared.Call.the-variants.{Claim, Write, Swap, Pick, Checkpoint, Defer}
 use Rattle.calls.specs.declared.Reply.the-variants.{At, Claimed, Written, Swapped, Picked}
-use Rattle.calls.specs.Numbers.{NUMBER-MAX, PUBLISHERS-MAX, DEFERRED-MAX, KIND-REST, PLACE-OUT, PLACE-PICKED, PLACE-IDLE, PLACE-CLAIMED, PLACE-WRITTEN, PLACE-SWAPPED, PLACE-DEFERRING}
-use Rattle.calls.specs.Deferral.{Deferral, isLastStep, leastAfter, reached, freedBy, afterStep, afterRaise, isMarked}
+use Rattle.calls.specs.Numbers.{PUBLISHERS-MAX, DEFERRED-MAX, PLACE-OUT, PLACE-PICKED, PLACE-IDLE, PLACE-CLAIMED, PLACE-WRITTEN, PLACE-SWAPPED, PLACE-DEFERRING}
+use Rattle.calls.specs.Deferral.{isLastStep, leastAfter, reached, freedBy, afterStep, afterRaise, isMarked}
 use Rattle.calls.specs.Tally.Phase.{idle, synchronising}
 use Rattle.layout.specs.declared.Reader.{Reader}
 use Rattle.layout.specs.declared.Publisher.{Publisher}
 use Rattle.layout.specs.declared.Retirement.{Retirement}
 use Rattle.layout.specs.declared.Retired.{Retired}
-use Rattle.layout.specs.Layout.{HEAD, READERS-AT, PUBLISHERS-AT, SLOTS-AT, CURRENT-AT, VERSION-AT, readers, publishers, slots, current, version, readerAt, publisherAt, retirementAt, retiredAt, withReader, slotEntry}
+use Rattle.layout.specs.Layout.{READERS-AT, PUBLISHERS-AT, SLOTS-AT, CURRENT-AT, readers, publishers, slots, current, version, readerAt, publisherAt, retirementAt, retiredAt, withReader, slotEntry}
 use Rattle.layout.specs.Laws.{length-reader, retired-reader}
 use Rattle.layout.specs.Records.{_place≔_, _first≔_, _second≔_, _published≔_, _picked≔_, _atPlace_, _held≔_, _walk≔_, _mark≔_, _step≔_, _count≔_}
 use Rattle.statement.specs.Machine.{State, state, Outcome, Given, retiredSlot}
@@ -44,7 +43,7 @@ use Rattle.publication_law.specs.Invariant.{formers, formersOf, Invariant}
 use Rattle.publication_law.specs.InvariantLaws.{formers-kept, head-undamaged, sized}
 use Rattle.publication_law.specs.Keeps.{claim-keeps, write-keeps, swap-keeps}
 use Rattle.publication_law.specs.Table.{damaged}
-use Rattle.qsbr_law.specs.Steps.{LAST, versions, readerRows, damageRules, retirementRows, further, pickTests, pick, checkpointTests, stepTo, load, observe, leastOf, leastRead, read, staying, afterFreeing, readLast, checkpoint, deferTests, raiseEpoch, queue, defer, rules}
+use Rattle.qsbr_law.specs.Steps.{LAST, readerRows, damageRules, retirementRows, further, pickTests, pick, checkpointTests, stepTo, load, observe, leastRead, read, afterFreeing, readLast, checkpoint, deferTests, raiseEpoch, queue, defer, rules}
 use Rattle.qsbr_law.specs.Freeing.{any-stays, count-stays, frees}
 use Rattle.qsbr_law.specs.KindInvariant.{Epochs, ToldEpochs, RetirementFits, Since, RestInvariant}
 use Rattle.qsbr_law.specs.Epochs.{pick-epochs, load-epochs, observe-epochs, least-low, read-epochs, last-epochs, raise-epochs, queue-epochs, early-epochs}

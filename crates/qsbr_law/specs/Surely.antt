@@ -3,33 +3,31 @@
 use Prim.Native.Nat.{ℕ, _+_, _-_, _<_, _≤_, min}
 use native.Mathlib.Omega.{arith}
 use mathlib.Core.Path.{_≡_, refl, sym, ap, _∙_, subst}
-use mathlib.Core.Logic.{_≢_, _⊎_, inl, inr}
+use mathlib.Core.Logic.{_≢_}
 use mathlib.Core.Bool.{Bool, true, false, not, _&&_, _||_}
 use mathlib.Core.List.{List, [], _∷_, _++_}
-use mathlib.Core.Option.{Option, none, some}
+use mathlib.Core.Option.{Option, some}
 use lib.Dec.{leb, eqb}
 use borrow.Author.Tests.{eqb-true, eqb-false, eq-eqb, ne-eqb, leb-true, leb-false, le-leb, not-false}
-use Rattle.base.specs.Base.{choose, upd, is}
+use Rattle.base.specs.Base.{choose, is}
 use Rattle.base.specs.Rows.{anyBelow}
-use Rattle.base.specs.RowLaws.{clash, not-both, by-test, or-false, or-left, or-right, neither, same, at-or, and-true, any-below, some-below, choose-split, upd-other, AllClear}
+use Rattle.base.specs.RowLaws.{clash, by-test, or-false, or-left, or-right, neither, same, at-or, and-true, any-below, choose-split, AllClear}
 use Rattle.calls.specs.declared.Call.{Call}
 use Rattle.calls.specs.declared.Call.the-variants.{Enter, Look, Leave, Claim, Write, Swap, Sync, Raise, Walk, Release, Pick, Checkpoint, Defer}
 use Rattle.calls.specs.declared.Reply.{Reply}
-use Rattle.calls.specs.declared.Reply.the-variants.{At, Claimed, Refused}
+use Rattle.calls.specs.declared.Reply.the-variants.{At}
 use Rattle.calls.specs.Numbers.{PLACE-CLAIMED, PLACE-WRITTEN, PLACE-SWAPPED, PLACE-DEFERRING}
 use Rattle.calls.specs.Events.{Event, accepted}
 use Rattle.calls.specs.Events.Event.{_⇒_}
-use Rattle.calls.specs.Deferral.{Deferral, isLastStep, leastAfter, reached, freedBy, afterStep, afterQueue, isMarked}
-use Rattle.calls.specs.Told.{Told, toldBy, holds, Role, Has}
+use Rattle.calls.specs.Deferral.{Deferral, isLastStep, leastAfter, freedBy, afterStep, afterQueue}
+use Rattle.calls.specs.Told.{holds, Role, Has}
 use Rattle.calls.specs.Told.Role.{current, heldBy, free}
-use Rattle.calls.specs.Tally.{tallyOf}
-use Rattle.calls.specs.Tally.Phase.{idle}
 use Rattle.layout.specs.Layout.{readers, publishers, slots, retirementAt, retiredAt}
-use Rattle.statement.specs.Machine.{State, Outcome, Given, Fresh, events, afterAll, retiredSlot}
+use Rattle.statement.specs.Machine.{State, Outcome, Given, events, afterAll, retiredSlot}
 use Rattle.statement.specs.Quiescent.{ObservedNeverFalls, NotBegun, SurelyFreed, FreesSurely}
 use Rattle.statement.specs.KeptInvariant.{Ghost, ghost₀, ghostStep, afterEvent, afterEvents, all-told, all-tally}
 use Rattle.publication_law.specs.Steps.{publisher}
-use Rattle.publication_law.specs.Table.{damaged, rows, step}
+use Rattle.publication_law.specs.Table.{rows, step}
 use Rattle.publication_law.specs.Decide.{decided}
 use Rattle.publication_law.specs.Core.Hold.{by-swap}
 use Rattle.publication_law.specs.Keeps.{slots-right}

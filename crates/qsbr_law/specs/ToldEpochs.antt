@@ -7,12 +7,12 @@ use mathlib.Core.Path.{_≡_, refl, sym, ap, _∙_, subst}
 use mathlib.Core.Bool.{Bool, true, false, not, _&&_, _||_}
 use mathlib.Core.Option.{Option, none, some}
 use lib.Dec.{leb, ltb, eqb}
-use borrow.Author.Tests.{eqb-true, eqb-false, eq-eqb, ne-eqb, leb-true, leb-false, le-leb, lt-leb, lt-ltb, le-ltb, ltb-true, ltb-false, not-false}
+use borrow.Author.Tests.{eqb-true, eqb-false, eq-eqb, ne-eqb, leb-true, leb-false, le-leb, lt-ltb, le-ltb, ltb-true, ltb-false, not-false}
 use Rattle.base.specs.Base.{choose, upd}
 use Rattle.base.specs.Rows.{anyBelow}
-use Rattle.base.specs.RowLaws.{clash, same, at-or, negated, and-not, none-below, no-below, some-below, none-first, any-more, any-below, or-none}
+use Rattle.base.specs.RowLaws.{clash, same, at-or, negated, and-not, none-below, no-below, some-below, none-first, any-more, or-none}
 use Rattle.calls.specs.Numbers.{PLACE-OUT, PLACE-IDLE, PLACE-SWAPPED, PLACE-DEFERRING}
-use Rattle.calls.specs.Deferral.{Deferral, deferral₀, afterPickOf, isLastStep, leastAfter, reached, freedBy, afterStep, afterRaise, markedBy, afterQueue, isMarked}
+use Rattle.calls.specs.Deferral.{Deferral, deferral₀, afterPickOf, isLastStep, leastAfter, reached, afterStep, afterRaise, markedBy, afterQueue, isMarked}
 use Rattle.layout.specs.declared.Reader.{Reader}
 use Rattle.layout.specs.declared.Publisher.{Publisher}
 use Rattle.layout.specs.declared.Retirement.{Retirement}

@@ -19,7 +19,6 @@ use Rattle.sheet_law.specs.declared.Number.{Number}
 use Rattle.sheet_law.specs.declared.Number.the-variants.{Decimal, NoNumber}
 use Rattle.sheet_law.specs.declared.Angle.{Angle}
 use Rattle.sheet_law.specs.declared.Angle.the-variants.{SignedDecimal, NoAngle}
-use Rattle.sheet_law.specs.declared.Keyword.{Keyword}
 use Rattle.sheet_law.specs.declared.Keyword.the-variants.{Unknown}
 use Rattle.sheet_law.specs.declared.Command.{Command}
 use Rattle.sheet_law.specs.declared.Command.the-variants.{Make, Run}

@@ -1,9 +1,8 @@
 -- `put_entry` meets its contract: an entry is put exactly if there is room. Assumes nothing.
 use borrow.Author.Needs.{needs}
 use native.Mathlib.Omega.{arith}
-use mathlib.Core.Path.{refl, ap}
+use mathlib.Core.Path.{refl}
 use mir.ValLaws.{toZ-ofZ}
-use lib.ListN.{set}
 use Rattle.card.proofs.put_entry.Statement.{statement}
 use Rattle.card.proofs.put_entry.Tie as tie
 use Rattle.card.proofs.put_entry.Reads as reads

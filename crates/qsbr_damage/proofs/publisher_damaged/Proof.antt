@@ -1,7 +1,7 @@
 -- `publisher_damaged` meets its contract: by the place; above 0 each case is a law about the publisher rows. A mark is a word, so it is not above the last. Assumes nothing.
 use borrow.Author.Needs.{needs}
 use native.Mathlib.Omega.{arith}
-use mathlib.Core.Path.{_≡_, sym, _∙_}
+use mathlib.Core.Path.{_≡_, sym}
 use Prim.Native.Nat.{_≤_}
 use Rattle.calls.specs.Numbers.{NUMBER-MAX, PLACE-DEFERRING}
 use Rattle.layout.specs.Layout.{publisherAt}

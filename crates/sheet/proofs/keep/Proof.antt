@@ -1,6 +1,4 @@
 use borrow.Author.Needs.{needs}
-use native.Mathlib.Omega.{arith}
-use lib.ListN.{length, getD, set, length-set}
 use mathlib.Core.Path.{sym}
 use Rattle.sheet.proofs.Turns.{joined-full, joined-set}
 use Rattle.sheet.proofs.keep.Statement.{statement}

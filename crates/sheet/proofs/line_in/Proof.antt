@@ -4,7 +4,6 @@ use native.Mathlib.Omega.{arith}
 use mathlib.Core.Path.{sym, ap, _∙_}
 use lib.Seq.{length-take-le}
 use Rattle.layout.specs.Layout.{kindWord}
-use Rattle.sheet_law.specs.declared.Line.{Line}
 use Rattle.sheet_law.specs.Sheet.{known}
 use Rattle.sheet.proofs.Turns.{kept-long}
 use Rattle.sheet.proofs.line_in.Statement.{statement}

@@ -1,7 +1,6 @@
 -- What was read after the minus is at most the size of the least pitch. Assumes nothing.
 use borrow.Author.Needs.{needs}
 use native.Mathlib.Omega.{arith}
-use Prim.Native.Nat.{_-_}
 use mathlib.Core.Path.{sym, _∙_, ap}
 use Rattle.calls.specs.Numbers.{PITCH-HALF}
 use Rattle.calls.specs.PitchLaws.{pitch-back}

@@ -1,5 +1,4 @@
 -- The test is the definition's. Assumes nothing.
-use borrow.Author.Needs.{needs}
 use mathlib.Core.Path.{refl, sym, _∙_}
 use Rattle.sheet_reading.proofs.kind_row.Statement.{statement}
 use Rattle.sheet_reading.proofs.kind_row.Tie as tie

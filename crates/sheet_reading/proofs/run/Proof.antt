@@ -1,5 +1,4 @@
 -- Either result is the definition's. Assumes nothing.
-use borrow.Author.Needs.{needs}
 use mathlib.Core.Path.{refl}
 use Rattle.sheet_reading.proofs.run.Statement.{statement}
 use Rattle.sheet_reading.proofs.run.Tie as tie
