@@ -6,7 +6,7 @@ use Rattle.calls.specs.declared.Call.the-variants.{Enter, Claim}
 use Rattle.calls.specs.declared.Reply.the-variants.{At, Refused}
 use Rattle.calls.specs.Numbers.{KIND-NEW, NOT-READING}
 use Rattle.calls.specs.FirstTable.{tables}
-use Rattle.layout.specs.Layout.{readerAt, publisherAt, withReader, withPublisher, withReaders, freshWords}
+use Rattle.layout.specs.Layout.{readerAt, publisherAt, withReader, withPublisher, withRetirement, withRetired, withReaders, freshWords}
 use Rattle.statement.specs.Machine.{State}
 use Rattle.statement.specs.Examples.{AllHold}
 use Rattle.statement.specs.Precedence.{freshOf, small}
@@ -36,8 +36,8 @@ unfolding withReader withReaders freshWords anyBelow making tables
 fresh-spelled = refl
 
 on-spelled : AllHold (casesOn GraceVersion (spelled KIND-NEW NOT-READING) clauses)
-unfolding clauses readerAt publisherAt withReader withPublisher withReaders freshWords anyBelow damaged onward looksFrom step making tables
-on-spelled = (refl, (refl, (refl, (refl, (refl, (refl, (refl, (refl, (refl, (refl, (refl, (refl, (refl, (refl, (refl, (refl, (refl, (refl, (refl, (refl, (refl, (refl, (refl, (refl, (refl, (refl, (refl, (refl, (refl, (refl, (refl, (refl, (refl, (refl, (refl, (refl, (refl, (refl, (refl, (refl, (refl, (refl, tt))))))))))))))))))))))))))))))))))))))))))
+unfolding clauses readerAt publisherAt withReader withPublisher withRetirement withRetired withReaders freshWords anyBelow damaged onward looksFrom step making tables
+on-spelled = (refl, (refl, (refl, (refl, (refl, (refl, (refl, (refl, (refl, (refl, (refl, (refl, (refl, (refl, (refl, (refl, (refl, (refl, (refl, (refl, (refl, (refl, (refl, (refl, (refl, (refl, (refl, (refl, (refl, (refl, (refl, (refl, (refl, (refl, (refl, (refl, (refl, (refl, (refl, (refl, (refl, (refl, (refl, (refl, (refl, tt)))))))))))))))))))))))))))))))))))))))))))))
 
 pub damage-cases : AllHold (cases GraceVersion clauses)
 damage-cases = subst (λ (s : State). AllHold (casesOn GraceVersion s clauses)) (sym fresh-spelled) on-spelled

@@ -9,13 +9,13 @@ use lib.Seq.{getD-set-other}
 use Rattle.base.specs.Rows.{anyBelow}
 use Rattle.calls.specs.Numbers.{KIND-NEW, KIND-OLD, KIND-REST}
 use Rattle.layout.specs.declared.Publisher.{Publisher}
-use Rattle.layout.specs.Layout.{READERS-AT, PUBLISHERS-AT, SLOTS-AT, CURRENT-AT, VERSION-AT, INDICATORS-AT, kindWord}
-use Rattle.layout.specs.Laws.{head-reader, head-publisher, fresh-head}
+use Rattle.layout.specs.Layout.{READERS-AT, PUBLISHERS-AT, SLOTS-AT, CURRENT-AT, VERSION-AT, RELEASES-AT, INDICATORS-AT, kindWord}
+use Rattle.layout.specs.Laws.{head-reader, head-publisher, head-retirement, head-retired, fresh-head}
 use Rattle.statement.specs.Machine.{State}
 use Rattle.statement.specs.Examples.{Example, AllHold, all-hold-append}
 use Rattle.statement.specs.Precedence.{freshOf, withPublisherAs, withCurrentAs, small, looked}
 use Rattle.statement.specs.DamageCases.{Change, change, changed, Case, casesOn, cases}
-use Rattle.statement.specs.DamageCases.Change.{readersTo, publishersTo, slotsTo, currentTo, versionTo, indicatorTo, entriesTo, readerTo, publisherTo}
+use Rattle.statement.specs.DamageCases.Change.{readersTo, publishersTo, slotsTo, currentTo, versionTo, releasesTo, indicatorTo, entriesTo, readerTo, publisherTo, retirementTo, retiredTo}
 use Rattle.statement.specs.DamageCases.Case.{on}
 use Rattle.statement.specs.Alike.{SameAt, allBy, AllCarry, all-hold-alike}
 use Rattle.publication_law.specs.Table.{making}
@@ -109,7 +109,7 @@ precedence = all-hold-append (allBy (store KIND-NEW) new-order.inOrder) (allBy (
 
 -- What damages a store, clause by clause.
 abbrev pub clauseExamples : List Example
-clauseExamples = allBy (store KIND-NEW) (cases (storeOf new) new-cases.clauses) ++ (allBy (store KIND-OLD) (cases (storeOf old) old-cases.clauses) ++ allBy (store KIND-REST) (rest-cases.cases (storeOf rest) rest-cases.clauses))
+clauseExamples = allBy (store KIND-NEW) (cases (storeOf new) new-cases.clauses) ++ (allBy (store KIND-OLD) (cases (storeOf old) old-cases.clauses) ++ allBy (store KIND-REST) (cases (storeOf rest) rest-cases.clauses))
 
 -- No change by hand is one of the kind word.
 change-kind : (d : Change) (s : State) → kindWord (change d s .words) ≡ kindWord (s .words)
@@ -118,10 +118,13 @@ change-kind (publishersTo n) s = getD-set-other (s .words) PUBLISHERS-AT 0 n 0 (
 change-kind (slotsTo n) s = getD-set-other (s .words) SLOTS-AT 0 n 0 (λ same. omega arith)
 change-kind (currentTo n) s = getD-set-other (s .words) CURRENT-AT 0 n 0 (λ same. omega arith)
 change-kind (versionTo n) s = getD-set-other (s .words) VERSION-AT 0 n 0 (λ same. omega arith)
+change-kind (releasesTo n) s = getD-set-other (s .words) RELEASES-AT 0 n 0 (λ same. omega arith)
 change-kind (indicatorTo i n) s = getD-set-other (s .words) (INDICATORS-AT + i) 0 n 0 (λ same. omega arith)
 change-kind (entriesTo n) s = refl
 change-kind (readerTo r reader) s = head-reader (s .words) r reader 0 (omega arith)
 change-kind (publisherTo p y) s = head-publisher (s .words) p y 0 (omega arith)
+change-kind (retirementTo p t) s = head-retirement (s .words) p t 0 (omega arith)
+change-kind (retiredTo p i d) s = head-retired (s .words) p i d 0 (omega arith)
 
 changed-kind : (ds : List Change) (s : State) → kindWord (changed ds s .words) ≡ kindWord (s .words)
 changed-kind [] s = refl
@@ -132,8 +135,8 @@ cases-carry kind s e [] = tt
 cases-carry kind s e (on ds c a ∷ list) = ((refl, λ call. step-named kind (changed ds s) call (changed-kind ds s ∙ e)), cases-carry kind s e list)
 
 pub damage-cases : AllHold clauseExamples
-damage-cases = all-hold-append (allBy (store KIND-NEW) (cases (storeOf new) new-cases.clauses)) (allBy (store KIND-OLD) (cases (storeOf old) old-cases.clauses) ++ allBy (store KIND-REST) (rest-cases.cases (storeOf rest) rest-cases.clauses))
+damage-cases = all-hold-append (allBy (store KIND-NEW) (cases (storeOf new) new-cases.clauses)) (allBy (store KIND-OLD) (cases (storeOf old) old-cases.clauses) ++ allBy (store KIND-REST) (cases (storeOf rest) rest-cases.clauses))
     (all-hold-alike (storeOf new) (store KIND-NEW) (alike new) (cases (storeOf new) new-cases.clauses) (cases-carry new (freshOf (storeOf new) small) new-kind new-cases.clauses) new-cases.damage-cases)
-    (all-hold-append (allBy (store KIND-OLD) (cases (storeOf old) old-cases.clauses)) (allBy (store KIND-REST) (rest-cases.cases (storeOf rest) rest-cases.clauses))
+    (all-hold-append (allBy (store KIND-OLD) (cases (storeOf old) old-cases.clauses)) (allBy (store KIND-REST) (cases (storeOf rest) rest-cases.clauses))
     (all-hold-alike (storeOf old) (store KIND-OLD) (alike old) (cases (storeOf old) old-cases.clauses) (cases-carry old (freshOf (storeOf old) small) old-kind old-cases.clauses) old-cases.damage-cases)
-    (all-hold-alike (storeOf rest) (store KIND-REST) (alike rest) (rest-cases.cases (storeOf rest) rest-cases.clauses) (carried.clauses-carry (store KIND-REST) rest-named change-kind) rest-cases.damage-cases))
+    (all-hold-alike (storeOf rest) (store KIND-REST) (alike rest) (cases (storeOf rest) rest-cases.clauses) (cases-carry rest (freshOf (storeOf rest) small) carried.small-kind rest-cases.clauses) rest-cases.damage-cases))

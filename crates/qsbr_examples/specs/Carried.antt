@@ -1,9 +1,8 @@
--- The three lists of this crate are true of words of any kind too: of each machine N whose steps are the rest store's wherever the kind word is the rest store's number.
+-- The lists of examples and of rows in their order are true of words of any kind too: of each machine N whose steps are the rest store's wherever the kind word is the rest store's number.
 -- Each example begins with an accepted making, is a making, or is of a state put together by hand whose kind word is the fresh store's. Assumes nothing.
 use Prim.Native.Nat.{ℕ}
 use native.Mathlib.Omega.{arith}
 use mathlib.Core.Path.{_≡_, refl, _∙_}
-use mathlib.Core.List.{List, [], _∷_}
 use lib.Seq.{getD-set-other}
 use Rattle.base.specs.Rows.{anyBelow}
 use Rattle.calls.specs.Numbers.{KIND-REST}
@@ -11,22 +10,18 @@ use Rattle.layout.specs.declared.Publisher.{Publisher}
 use Rattle.layout.specs.declared.Retirement.{Retirement}
 use Rattle.layout.specs.Layout.{CURRENT-AT, kindWord, noRetirement}
 use Rattle.layout.specs.Records.{_step≔_, _count≔_}
-use Rattle.layout.specs.Laws.{head-publisher, head-retirement, head-retired, fresh-head}
+use Rattle.layout.specs.Laws.{head-publisher, head-retirement, fresh-head}
 use Rattle.statement.specs.Machine.{State, Machine}
 use Rattle.statement.specs.Examples.{givenFeathered}
 use Rattle.statement.specs.Precedence.{freshOf, withPublisherAs, withCurrentAs, small}
-use Rattle.statement.specs.DamageCases.{Change, change}
 use Rattle.statement.specs.Alike.{SameAt, AllCarry}
 use Rattle.publication_law.specs.Table.{making}
 use Rattle.qsbr_law.specs.Steps.{Qsbr}
 use Rattle.qsbr_examples.specs.Examples.{examples}
 use Rattle.qsbr_examples.specs.Precedence.{withRetirementAs, insideOne, deferring, swappedOut, deferredAs, inOrder}
-use Rattle.qsbr_examples.specs.DamageCases.{RestChange, restChange, restChanged, RestCase, casesOn, cases, clauses}
-use Rattle.qsbr_examples.specs.DamageCases.RestChange.{shared, retirementTo, retiredTo}
-use Rattle.qsbr_examples.specs.DamageCases.RestCase.{on}
 
 -- The kind word of a fresh store, and of one with a participant's record put.
-small-kind : kindWord (freshOf Qsbr small .words) ≡ KIND-REST
+pub small-kind : kindWord (freshOf Qsbr small .words) ≡ KIND-REST
 unfolding anyBelow making
 small-kind = fresh-head KIND-REST 1 1 2 0 _ 0 (omega arith)
 
@@ -65,21 +60,3 @@ module _ (N : Machine) (named : (s : State) → kindWord (s .words) ≡ KIND-RES
   pub in-order-carry : AllCarry Qsbr N inOrder
   unfolding inOrder
   in-order-carry = (refl, (refl, (refl, (refl, (refl, (refl, (refl, (refl, (refl, (refl, (refl, (refl, (refl, (refl, (refl, (refl, (refl, (refl, (refl, (refl, (refl, (refl, (refl, (refl, (refl, (refl, (refl, (refl, (refl, ((refl, put-current (freshOf Qsbr small) small-kind 2), ((refl, refl), ((refl, refl), ((refl, put-retirement (withRetirementAs (freshOf Qsbr small) 0 insideOne) inside-kind 1 insideOne), ((refl, put-publisher (withPublisherAs (freshOf Qsbr small) 0 deferring) deferring-kind 1 deferring), ((refl, put-deferred 18446744073709551615 1 8 last-kind), ((refl, put-deferred 18446744073709551615 0 8 last-kind), ((refl, put-deferred 18446744073709551614 0 8 before-last-kind), ((refl, put-deferred 18446744073709551614 0 7 before-last-kind), ((refl, refl), ((refl, refl), ((refl, refl), ((refl, refl), ((refl, refl), ((refl, refl), tt))))))))))))))))))))))))))))))))))))))))))))
-
-  -- No change by hand is one of the kind word, if none is that every kind has.
-  module _ (change-kind : (d : Change) (s : State) → kindWord (change d s .words) ≡ kindWord (s .words)) where
-    rest-change-kind : (d : RestChange) (s : State) → kindWord (restChange d s .words) ≡ kindWord (s .words)
-    rest-change-kind (shared d) s = change-kind d s
-    rest-change-kind (retirementTo p t) s = head-retirement (s .words) p t 0 (omega arith)
-    rest-change-kind (retiredTo p i d) s = head-retired (s .words) p i d 0 (omega arith)
-
-    changed-kind : (ds : List RestChange) (s : State) → kindWord (restChanged ds s .words) ≡ kindWord (s .words)
-    changed-kind [] s = refl
-    changed-kind (d ∷ ds) s = changed-kind ds (restChange d s) ∙ rest-change-kind d s
-
-    carry-on : (s : State) → kindWord (s .words) ≡ KIND-REST → (list : List RestCase) → AllCarry Qsbr N (casesOn Qsbr s list)
-    carry-on s e [] = tt
-    carry-on s e (on ds c a ∷ list) = ((refl, named (restChanged ds s) (changed-kind ds s ∙ e)), carry-on s e list)
-
-    pub clauses-carry : AllCarry Qsbr N (cases Qsbr clauses)
-    clauses-carry = carry-on (freshOf Qsbr small) small-kind clauses

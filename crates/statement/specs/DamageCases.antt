@@ -11,24 +11,29 @@ use Rattle.calls.specs.declared.Reply.{Reply}
 use Rattle.calls.specs.declared.Reply.the-variants.{At, Claimed, Refused}
 use Rattle.layout.specs.declared.Reader.{Reader}
 use Rattle.layout.specs.declared.Publisher.{Publisher}
-use Rattle.layout.specs.Layout.{READERS-AT, PUBLISHERS-AT, SLOTS-AT, withCurrent, withVersion, withIndicator, withReader, withPublisher, noReader, noPublisher, noWalk}
-use Rattle.layout.specs.Records.{_place≔_, _first≔_, _second≔_, _published≔_, _picked≔_, _atPlace_, _held≔_, _walk≔_, _mark≔_, _next≔_, _looks≔_, _waits≔_}
+use Rattle.layout.specs.declared.Retirement.{Retirement}
+use Rattle.layout.specs.declared.Retired.{Retired}
+use Rattle.layout.specs.Layout.{READERS-AT, PUBLISHERS-AT, SLOTS-AT, withCurrent, withVersion, withReleases, withIndicator, withReader, withPublisher, withRetirement, withRetired, noReader, noPublisher, noWalk, noRetirement}
+use Rattle.layout.specs.Records.{_place≔_, _first≔_, _second≔_, _published≔_, _picked≔_, _atPlace_, _held≔_, _walk≔_, _mark≔_, _next≔_, _looks≔_, _waits≔_, _step≔_, _count≔_}
 use Rattle.statement.specs.Machine.{State, state, Machine}
 use Rattle.statement.specs.Examples.{Example}
 use Rattle.statement.specs.Examples.Example.{each}
 use Rattle.statement.specs.Precedence.{freshOf, small}
 
--- What is changed: a size, the current slot, the version, an indicator, how many entries are lent, a reader, a publisher.
+-- What is changed: a size, the current slot, the version, the releases, an indicator, how many entries are lent, a reader, a publisher, its retirement, one of its retired slots.
 pub data Change : Type 0 where
   readersTo : ℕ → Change
   publishersTo : ℕ → Change
   slotsTo : ℕ → Change
   currentTo : ℕ → Change
   versionTo : ℕ → Change
+  releasesTo : ℕ → Change
   indicatorTo : ℕ → ℕ → Change
   entriesTo : ℕ → Change
   readerTo : ℕ → Reader → Change
   publisherTo : ℕ → Publisher → Change
+  retirementTo : ℕ → Retirement → Change
+  retiredTo : ℕ → ℕ → Retired → Change
 
 abbrev pub change : Change → State → State
 change (readersTo n) s = state (set (s .words) READERS-AT n) (s .entries)
@@ -36,10 +41,13 @@ change (publishersTo n) s = state (set (s .words) PUBLISHERS-AT n) (s .entries)
 change (slotsTo n) s = state (set (s .words) SLOTS-AT n) (s .entries)
 change (currentTo n) s = state (withCurrent (s .words) n) (s .entries)
 change (versionTo n) s = state (withVersion (s .words) n) (s .entries)
+change (releasesTo n) s = state (withReleases (s .words) n) (s .entries)
 change (indicatorTo i n) s = state (withIndicator (s .words) i n) (s .entries)
 change (entriesTo n) s = state (s .words) (replicate n (pos 0))
 change (readerTo r reader) s = state (withReader (s .words) r reader) (s .entries)
 change (publisherTo p y) s = state (withPublisher (s .words) p y) (s .entries)
+change (retirementTo p t) s = state (withRetirement (s .words) p t) (s .entries)
+change (retiredTo p i d) s = state (withRetired (s .words) p i d) (s .entries)
 
 abbrev pub changed : List Change → State → State
 changed [] s = s
@@ -65,12 +73,18 @@ times (suc n) l = l ++ times n l
 abbrev pub spelled : ℕ → ℕ → State
 spelled kind published = state (kind ∷ 1 ∷ 1 ∷ 2 ∷ 0 ∷ 0 ∷ 0 ∷ 0 ∷ 0 ∷ times 64 (0 ∷ 0 ∷ 0 ∷ published ∷ 0 ∷ []) ++ times 16 (0 ∷ 0 ∷ 0 ∷ 0 ∷ 0 ∷ 0 ∷ []) ++ times 288 (0 ∷ [])) (replicate 64 (pos 90000))
 
--- The five numbers of a reader and the six of a publisher, in the layout's order.
+-- The five numbers of a reader, the six of a publisher, the two of a retirement and of a retired slot, in the layout's order.
 abbrev pub readerAs : (place first second published picked : ℕ) → Reader
 readerAs place first second published picked = noReader place≔ place first≔ first second≔ second published≔ published picked≔ picked
 
 abbrev pub publisherAs : (place held mark next looks waits : ℕ) → Publisher
 publisherAs place held mark next looks waits = noPublisher atPlace place held≔ held walk≔ (noWalk mark≔ mark next≔ next looks≔ looks waits≔ waits)
+
+abbrev pub retirementAs : (step count : ℕ) → Retirement
+retirementAs step count = noRetirement step≔ step count≔ count
+
+abbrev pub retiredAs : (slot mark : ℕ) → Retired
+retiredAs slot mark = record { slot = slot; mark = mark }
 
 -- A size outside the making rules (the slots with as many entries as they need); the largest sizes.
 abbrev pub sizes : List Case
@@ -134,6 +148,14 @@ beyond =
     ∷ on (publisherTo 1 (publisherAs 39 2 0 0 4 5) ∷ []) (Enter 0) (At 1)
     ∷ []
 
--- All of them, of a kind with this last version.
+-- A kind that retires no slots neither tests nor reads a step, a count or a retired slot; nor are releases tested.
+abbrev pub unread : List Case
+unread =
+    on (retirementTo 0 (retirementAs 9 9) ∷ retiredTo 0 0 (retiredAs 2 1) ∷ []) (Enter 0) (At 1)
+    ∷ on (retirementTo 0 (retirementAs 0 1) ∷ retiredTo 0 0 (retiredAs 1 1) ∷ []) (Claim 0 1) (Claimed 1)
+    ∷ on (releasesTo 18446744073709551615 ∷ []) (Enter 0) (At 1)
+    ∷ []
+
+-- All of them, of a kind with this last version that retires no slots.
 abbrev pub sharedCases : ℕ → List Case
-sharedCases last = sizes ++ (headNumbers last ++ (placeCases ++ (heldSlots ++ (walking last 35 ++ (walking last 37 ++ (walking last 38 ++ (before35 ∷ beyond)))))))
+sharedCases last = sizes ++ (headNumbers last ++ (placeCases ++ (heldSlots ++ (walking last 35 ++ (walking last 37 ++ (walking last 38 ++ (before35 ∷ (beyond ++ unread))))))))

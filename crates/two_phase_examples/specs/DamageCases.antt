@@ -6,7 +6,7 @@ use Rattle.calls.specs.declared.Call.the-variants.{Enter, Claim}
 use Rattle.calls.specs.declared.Reply.the-variants.{At, Claimed, Refused}
 use Rattle.calls.specs.Numbers.{KIND-OLD, NOT-READING}
 use Rattle.calls.specs.FirstTable.{tables}
-use Rattle.layout.specs.Layout.{indicator, readerAt, publisherAt, withReader, withPublisher, withReaders, freshWords}
+use Rattle.layout.specs.Layout.{indicator, readerAt, publisherAt, withReader, withPublisher, withRetirement, withRetired, withReaders, freshWords}
 use Rattle.statement.specs.Machine.{State}
 use Rattle.statement.specs.Examples.{AllHold}
 use Rattle.statement.specs.Precedence.{freshOf, small}
@@ -44,8 +44,8 @@ unfolding withReader withReaders freshWords anyBelow making tables
 fresh-spelled = refl
 
 on-spelled : AllHold (casesOn TwoPhase (spelled KIND-OLD NOT-READING) clauses)
-unfolding clauses indicator readerAt publisherAt withReader withPublisher withReaders freshWords anyBelow countBelow damaged onward lookAt step making tables
-on-spelled = (refl, (refl, (refl, (refl, (refl, (refl, (refl, (refl, (refl, (refl, (refl, (refl, (refl, (refl, (refl, (refl, (refl, (refl, (refl, (refl, (refl, (refl, (refl, (refl, (refl, (refl, (refl, (refl, (refl, (refl, (refl, (refl, (refl, (refl, (refl, (refl, (refl, (refl, (refl, (refl, (refl, (refl, (refl, (refl, (refl, (refl, (refl, (refl, (refl, tt)))))))))))))))))))))))))))))))))))))))))))))))))
+unfolding clauses indicator readerAt publisherAt withReader withPublisher withRetirement withRetired withReaders freshWords anyBelow countBelow damaged onward lookAt step making tables
+on-spelled = (refl, (refl, (refl, (refl, (refl, (refl, (refl, (refl, (refl, (refl, (refl, (refl, (refl, (refl, (refl, (refl, (refl, (refl, (refl, (refl, (refl, (refl, (refl, (refl, (refl, (refl, (refl, (refl, (refl, (refl, (refl, (refl, (refl, (refl, (refl, (refl, (refl, (refl, (refl, (refl, (refl, (refl, (refl, (refl, (refl, (refl, (refl, (refl, (refl, (refl, (refl, (refl, tt))))))))))))))))))))))))))))))))))))))))))))))))))))
 
 pub damage-cases : AllHold (cases TwoPhase clauses)
 damage-cases = subst (λ (s : State). AllHold (casesOn TwoPhase s clauses)) (sym fresh-spelled) on-spelled
