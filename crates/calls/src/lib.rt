@@ -31,7 +31,7 @@ pub const TABLE: usize = 32;
 pub const DEFERRED_MAX: u64 = 8;
 // The greatest number of 64 bits.
 pub const NUMBER_MAX: u64 = 18446744073709551615;
-// What a fresh reader has published, and what LEAVE of the new store publishes.
+// What a fresh reader of new and old has published, and what LEAVE of the new store publishes.
 pub const NOT_READING: u64 = 18446744073709551615;
 
 // The format of words and entries. A release that changes them and not the number of words raises it by one.
@@ -44,7 +44,7 @@ pub const KIND_OLD: u64 = 18;
 
 pub const KIND_REST: u64 = 19;
 
-// The places of a reader. The section is open at 4 and 5; the old store has no 2 and 3.
+// The places of a reader. The section is open at 4 and 5; the old store has no 2 and 3, and rest only 0 and 5, without a section.
 pub const PLACE_OUT: u64 = 0;
 
 pub const PLACE_LOADED: u64 = 1;
@@ -57,7 +57,7 @@ pub const PLACE_OPEN: u64 = 4;
 
 pub const PLACE_PICKED: u64 = 5;
 
-// The places of a publisher. At 1 to 32 place - 1 entries are written; the new store has no 36.
+// The places of a publisher. At 1 to 32 place - 1 entries are written; the new store has no 36, and rest none above 35.
 pub const PLACE_IDLE: u64 = 0;
 
 pub const PLACE_CLAIMED: u64 = 1;

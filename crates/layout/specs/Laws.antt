@@ -1,5 +1,5 @@
 -- The laws of the layout, by which the crates above reason about records; only worked examples compute through the views.
--- Those of readers and publishers are the law of regions (Regions.antt), of theirs. Assumes nothing.
+-- Each kind of record has a region of the words; its laws are those of any region (Regions.antt). Assumes nothing.
 use Prim.Native.Nat.{ℕ, zero, suc, _+_, _*_, _<_, _≤_}
 use native.Mathlib.Omega.{arith}
 use native.Mathlib.Numerals.{add-one}

@@ -1,6 +1,5 @@
+-- `put_retirement` meets its contract: the words are those that `withRetirement` puts. Assumes nothing.
 use borrow.Author.Needs.{needs}
-use native.Mathlib.Omega.{arith}
-use lib.ListN.{length-set}
 use native.Mathlib.Omega.{arith}
 use lib.ListN.{length-set}
 use mathlib.Core.Path.{refl}

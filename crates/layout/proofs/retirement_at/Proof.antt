@@ -1,3 +1,4 @@
+-- `retirement_at` meets its contract: the words are those that `retirementAt` reads. Assumes nothing.
 use borrow.Author.Needs.{needs}
 use mathlib.Core.Path.{refl}
 use borrow.Author.Tests.{lt-ltb}

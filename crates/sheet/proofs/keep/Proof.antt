@@ -1,3 +1,4 @@
+-- `keep` meets its contract: a line that is too long already stays so, else the byte is put behind what is kept. Assumes nothing.
 use borrow.Author.Needs.{needs}
 use mathlib.Core.Path.{sym}
 use Rattle.sheet.proofs.Turns.{joined-full, joined-set}
