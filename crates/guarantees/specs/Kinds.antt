@@ -16,15 +16,15 @@ use Rattle.calls.specs.ReplyNumbersLaws.{PitchFitsWord, Representable}
 use Rattle.calls.specs.Numbers.{FORMAT, DAMAGED, PLACE-PUBLISHED}
 use Rattle.calls.specs.Events.{accepted}
 use Rattle.calls.specs.Tally.{tallyOf}
-use Rattle.layout.specs.Layout.{WORDS, kindWord, indicator}
+use Rattle.layout.specs.Layout.{WORDS, kindWord, readers, publishers, slots, indicator}
 use Rattle.statement.specs.Machine.{State, state, Given, outcome, Fresh, events, afterAll, retires}
 use Rattle.statement.specs.Demand3.{Demand3}
 use Rattle.statement.specs.Frame.{Frame}
 use Rattle.statement.specs.Looks.{LooksInRange, FirstTableUntilSwap}
-use Rattle.statement.specs.Companions.{MakingAccepts, MakesFresh, RefusedLeaves, Companions, GraceCompanions}
+use Rattle.statement.specs.Companions.{MakingAccepts, MakingOnly, MakesFresh, Named, RefusedLeaves, Companions, GraceCompanions}
 use Rattle.statement.specs.Quiescent.{QuiescentCompanions, ObservedNeverFalls, FreesSurely, quiescent-alike, observed-alike, frees-surely-alike}
 use Rattle.statement.specs.FreeSlot.{FindsFreeSlot, finds-free-slot-alike}
-use Rattle.statement.specs.Alike.{fresh-alike, after-alike, events-alike, demand3-alike, companions-alike, grace-companions-alike, making-accepts-alike, makes-fresh-alike, looks-in-range-alike, first-table-until-swap-alike}
+use Rattle.statement.specs.Alike.{fresh-alike, after-alike, events-alike, demand3-alike, companions-alike, grace-companions-alike, making-accepts-alike, making-only-alike, makes-fresh-alike, looks-in-range-alike, first-table-until-swap-alike}
 use Rattle.publication_law.specs.DamageLaws.{zero-damaged}
 use Rattle.publication_law.specs.Steps.{publisher}
 use Rattle.publication_law.specs.Table.{damaged}
@@ -120,9 +120,12 @@ frees-surely = frees-surely-alike (storeOf rest) (store (kindNumber rest)) (alik
 pub never-damaged : (kind : Kind) (s : State) → Fresh (store (kindNumber kind)) s → (cs : List Call) → damaged (tableOf kind) (afterAll (store (kindNumber kind)) s cs) ≡ false
 never-damaged kind s f cs = rw (after-alike (storeOf kind) (store (kindNumber kind)) (alike kind) s f cs) (kind-promises kind .never-damaged s (fresh-alike (storeOf kind) (store (kindNumber kind)) (alike kind) s f) cs)
 
--- A making with every argument in its range is accepted.
+-- A making is accepted exactly if arguments, lent slices and table are in order.
 pub making-accepts : (kind : Kind) → MakingAccepts (store (kindNumber kind)) (traits kind)
 making-accepts kind = making-accepts-alike (storeOf kind) (store (kindNumber kind)) (alike kind) (traits kind) (kind-promises kind .making-accepts)
+
+pub making-only : (kind : Kind) → MakingOnly (store (kindNumber kind)) (traits kind)
+making-only kind = making-only-alike (storeOf kind) (store (kindNumber kind)) (alike kind) (traits kind) (kind-promises kind .making-only)
 
 -- A fresh store is document 01's, number by number.
 pub makes-fresh : (kind : Kind) → MakesFresh (store (kindNumber kind)) (traits kind)
@@ -155,9 +158,9 @@ representable-making n = chosen-representable-making (kindOfNumber n)
 pub zero-store-damaged : (kind : Kind) (entries : List ℤ) → damaged (tableOf kind) (state (replicate WORDS 0) entries) ≡ true
 zero-store-damaged kind entries = zero-damaged (tableOf kind) entries
 
--- A kind with several publishers may not refuse one as busy: a CLAIM on an undamaged store, whether or not a list of calls leads to it, is refused only for a wrong name, a wrong turn or a slot in use.
-pub claim-refusals : (kind : Kind) → traits kind .exclusive ≡ false → (s : State) (p slot n : ℕ) → damaged (tableOf kind) s ≡ false → anyStep s (Claim p slot) .reply ≡ Refused n → ClaimRefusal (retires (kindNumber kind)) s p slot n
-claim-refusals kind several s p slot n sound e = rw (← number-is kind) (kind-promises kind .shared-facts .claim-refusals several s p slot n sound (rw (step-named kind s (Claim p slot) (undamaged-facts (tableOf kind) s sound .head .kind-is ∙ number-is kind)) at e))
+-- A CLAIM on an undamaged store, whether or not a list of calls leads to it, is refused only for a wrong name, a wrong turn or a slot in use; of the old store, which alone is exclusive, also beside a busy publisher.
+pub claim-refusals : (kind : Kind) (s : State) (p slot n : ℕ) → damaged (tableOf kind) s ≡ false → anyStep s (Claim p slot) .reply ≡ Refused n → ClaimRefusal (traits kind .exclusive) (retires (kindNumber kind)) s p slot n
+claim-refusals kind s p slot n sound e = rw (← number-is kind) (kind-promises kind .shared-facts .claim-refusals s p slot n sound (rw (step-named kind s (Claim p slot) (undamaged-facts (tableOf kind) s sound .head .kind-is ∙ number-is kind)) at e))
 
 -- With more slots than publishers, an idle publisher of the new store always finds a free slot, and its claim of that slot is accepted.
 pub finds-free-slot : FindsFreeSlot (store (kindNumber new))
@@ -185,12 +188,16 @@ enter-facts-old s r is = rw (step-named old s (Enter r) is) (old-readers.old-ent
 pub leave-facts-old : (s : State) (r : ℕ) → kindWord (s .words) ≡ kindNumber old → accepted (anyStep s (Leave r) .reply) ≡ true → old-readers.LeaveFacts s r (anyStep s (Leave r))
 leave-facts-old s r is = rw (step-named old s (Leave r) is) (old-readers.old-leave-facts s r)
 
+-- What an accepted call names is there, on words of each kind.
+pub named : (kind : Kind) (s : State) (c : Call) → kindWord (s .words) ≡ kindNumber kind → accepted (anyStep s c .reply) ≡ true → Named (readers (s .words)) (publishers (s .words)) (slots (s .words)) c
+named kind s c is = rw (step-named kind s c is) (kind-promises kind .named s c)
+
 -- What an accepted LOOK, CLAIM, WRITE and SWAP reply and store, on words of each kind.
 pub look-facts : (kind : Kind) (s : State) (r k : ℕ) → kindWord (s .words) ≡ kindNumber kind → accepted (anyStep s (Look r k) .reply) ≡ true → LookReplies s r k (anyStep s (Look r k))
 look-facts kind s r k is = rw (step-named kind s (Look r k) is) (kind-promises kind .shared-facts .look-facts s r k)
 
-pub claim-facts : (kind : Kind) (s : State) (p slot : ℕ) → kindWord (s .words) ≡ kindNumber kind → accepted (anyStep s (Claim p slot) .reply) ≡ true → ClaimFacts s p slot (anyStep s (Claim p slot))
-claim-facts kind s p slot is = rw (step-named kind s (Claim p slot) is) (kind-promises kind .shared-facts .claim-facts s p slot)
+pub claim-facts : (kind : Kind) (s : State) (p slot : ℕ) → kindWord (s .words) ≡ kindNumber kind → accepted (anyStep s (Claim p slot) .reply) ≡ true → ClaimFacts (traits kind .exclusive) (retires (kindNumber kind)) s p slot (anyStep s (Claim p slot))
+claim-facts kind s p slot is = rw (step-named kind s (Claim p slot) is, ← number-is kind) (kind-promises kind .shared-facts .claim-facts s p slot)
 
 pub write-facts : (kind : Kind) (s : State) (p : ℕ) (v : ℤ) → kindWord (s .words) ≡ kindNumber kind → accepted (anyStep s (Write p v) .reply) ≡ true → WriteFacts s p (anyStep s (Write p v))
 write-facts kind s p v is = rw (step-named kind s (Write p v) is) (kind-promises kind .shared-facts .write-facts s p v)

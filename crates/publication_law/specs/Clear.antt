@@ -14,7 +14,7 @@ use Rattle.calls.specs.Numbers.{READERS-MAX, PUBLISHERS-MAX, SLOTS-MIN, SLOTS-M
 use Rattle.calls.specs.FirstTable.{outOfRange, anyOutOfRange, steep, anySteep, entryOf}
 use Rattle.layout.specs.Layout.{WORDS, publishers, slots}
 use Rattle.statement.specs.Machine.{State, Given}
-use Rattle.statement.specs.Companions.{GoodTable}
+use Rattle.statement.specs.Companions.{GoodTable, MakingFits}
 use Rattle.publication_law.specs.Steps.{Versions, publisher, anotherBusy, inUse, claimTests, makingTests}
 
 pub record MakingClear (ofParticipants : Bool) (vs : Versions) (z : Given) (s : State) : Type 0 where
@@ -85,6 +85,40 @@ good-in-range table good = no-below (λ k. outOfRange (entryOf table k)) (length
 
 pub good-steps : (table : List ℤ) → GoodTable table → anySteep table ≡ false
 good-steps table good = no-below (λ k. steep (entryOf table k) (entryOf table (k + 1))) (length table - 1) (λ k l. good .steps-bounded k (omega (arith, good .long)))
+
+-- What making asks is what its rows ask, where the last version is the one up to which versions fit.
+module _ (ofParticipants : Bool) (vs : Versions) (z : Given) (s : State) (last : ℕ) where
+  pub making-fits : (vs .tooLarge (z .version) ≡ false → z .version ≤ last) → MakingClear ofParticipants vs z s → MakingFits ofParticipants last z s
+  making-fits to-last f = record {
+    words-long = f .long;
+    readers-low = f .readers-low;
+    readers-high = f .readers-high;
+    publishers-low = f .publishers-low;
+    publishers-high = f .publishers-high;
+    as-many = f .as-many;
+    slots-low = f .slots-low;
+    slots-high = f .slots-high;
+    entries-long = f .entries-are;
+    version-high = to-last (f .version-fits);
+    table-good = table-is-good ofParticipants vs z s f;
+  }
+
+  pub fitting-clear : (z .version ≤ last → vs .tooLarge (z .version) ≡ false) → MakingFits ofParticipants last z s → AllClear (makingTests ofParticipants vs z s)
+  fitting-clear fits f = making-rows ofParticipants vs z s (record {
+    long = f .words-long;
+    readers-low = f .readers-low;
+    readers-high = f .readers-high;
+    as-many = f .as-many;
+    publishers-low = f .publishers-low;
+    publishers-high = f .publishers-high;
+    slots-low = f .slots-low;
+    slots-high = f .slots-high;
+    entries-are = f .entries-long;
+    version-fits = fits (f .version-high);
+    table-long = f .table-good .long;
+    table-in-range = good-in-range (z .table) (f .table-good);
+    table-steps = good-steps (z .table) (f .table-good);
+  })
 
 pub record ClaimClear (exclusive retiring : Bool) (s : State) (p slot : ℕ) : Type 0 where
   pub publisher-named : p < publishers (s .words)

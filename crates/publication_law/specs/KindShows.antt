@@ -32,10 +32,10 @@ use Rattle.statement.specs.Machine.{State, state, Outcome, outcome, Given, Fres
 use Rattle.statement.specs.Demand3.{Demand3}
 use Rattle.statement.specs.Frame.{PlaceAndOne, LeaveStays, nextEntry, Writes}
 use Rattle.publication_tables.specs.FillLaws.{tables-long, tables-entry}
-use Rattle.statement.specs.Companions.{GraceTraits, IsFresh, MakesFresh, MakingAccepts, Named, InTurn, StateCompanions, GraceStateCompanions, GraceCompanions}
+use Rattle.statement.specs.Companions.{GraceTraits, IsFresh, MakesFresh, MakingFits, MakingAccepts, MakingOnly, Named, InTurn, StateCompanions, GraceStateCompanions, GraceCompanions}
 use Rattle.statement.specs.KeptInvariant.{Ghost, ghost₀, ghostStep, afterEvent, afterEvents, Back, GraceKeptInvariant, kept-after, grace-demand3, grace-companions}
 use Rattle.publication_law.specs.Steps.{reader, publisher, enterTests, leaveTests, syncTests, sync, raise, walk, oneMore, makingTests, made}
-use Rattle.publication_law.specs.Clear.{MakingClear, making-clear, making-rows, table-is-good, good-in-range, good-steps, claim-clear}
+use Rattle.publication_law.specs.Clear.{MakingClear, making-clear, table-is-good, making-fits, fitting-clear, claim-clear}
 use Rattle.publication_law.specs.Damage.{DamageRules, sharedDamage}
 use Rattle.publication_law.specs.Table.{damaged, rows, step, making, machine}
 use Rattle.publication_law.specs.SectionRules.{SectionRules, withoutSections, tableBy}
@@ -46,7 +46,7 @@ use Rattle.publication_law.specs.PhaseLaws.{phase-turn}
 use Rattle.publication_law.specs.GraceInvariant.{GraceInvariant}
 use Rattle.publication_law.specs.KindLaw.{KindLaw, place-bounded, undamaged-publisher, early-fits}
 use Rattle.publication_law.specs.Keeps.{claim-keeps, write-keeps, swap-keeps, slots-right, picks-right, table-right, placed, idle-told, former-told}
-use Rattle.publication_law.specs.Served.{SharedCalls, named-reader, named-publisher, reader-named, publisher-named, slot-named, publisher-placed, writer-placed, look-turn, claim-turn, write-turn, swap-turn, look-shelf, claim-not-picked, look-accepted, claims-on, refused-busy, writes-on, swaps-on}
+use Rattle.publication_law.specs.Served.{SharedCalls, named-reader, named-publisher, publisher-placed, writer-placed, look-turn, claim-turn, write-turn, swap-turn, look-shelf, claim-not-picked, look-accepted, claims-on, refused-busy, writes-on, swaps-on}
 use Rattle.publication_law.specs.GraceKeeps.{early-keeps, release-keeps, released-in-order, idle-empty, moved-publisher-undamaged, made-grace-invariant}
 use Rattle.publication_law.specs.TableLaws.{ActFacts, ActLaws, lacked-refused, only-damaged}
 use Rattle.publication_law.specs.Calls.{step-undamaged, undamaged-facts}
@@ -184,6 +184,27 @@ module _ (R : SectionRules) (traits : GraceTraits) (L : KindShows R traits) wher
   all-numbers : (s : State) (c : Call) → allAbove 0 (rows (tableBy R) s c) ≡ true
   all-numbers s c = all-above DAMAGED 0 (omega arith) (tableBy R .tests s c) (numbers-above-1 s c)
 
+  -- An accepted call names what the store has.
+  named-clear : (s : State) (c : Call) → withoutSections c ≡ false → AllClear (tableBy R .tests s c) → Named (readers (s .words)) (publishers (s .words)) (slots (s .words)) c
+  named-clear s (Enter r) has f = leb-false _ _ (f .0)
+  named-clear s (Look r k) has f = (leb-false _ _ (f .0), leb-false TABLE k (f .1 .0))
+  named-clear s (Leave r) has f = leb-false _ _ (f .0)
+  named-clear s (Claim p slot) has f = (leb-false _ _ (f .0), leb-false _ _ (f .1 .0))
+  named-clear s (Write p v) has f = (leb-false _ _ (f .0), f .1 .0)
+  named-clear s (Swap p) has f = leb-false _ _ (f .0)
+  named-clear s (Sync p) has f = leb-false _ _ (f .0)
+  named-clear s (Raise p) has f = leb-false _ _ (f .0)
+  named-clear s (Walk p b) has f = leb-false _ _ (f .0)
+  named-clear s (Release p) has f = leb-false _ _ (f .0)
+  named-clear s (Pick r) has f = absurd (clash has)
+  named-clear s (Checkpoint r) has f = absurd (clash has)
+  named-clear s (Defer p) has f = absurd (clash has)
+
+  pub named-of : (s : State) (c : Call) → accepted (step (tableBy R) s c .reply) ≡ true → Named (readers (s .words)) (publishers (s .words)) (slots (s .words)) c
+  unfolding step
+  named-of s c = decided (λ (o : Outcome). accepted (o .reply) ≡ true → Named (readers (s .words)) (publishers (s .words)) (slots (s .words)) c) (rows (tableBy R) s c) (tableBy R .act s c) s (all-numbers s c)
+      (λ f ok. named-clear s c (or-false (withoutSections c) (damaged (tableBy R) s) (f .0) .0) (f .1)) (λ ok. clash (sym ok))
+
   -- Each step keeps the invariant.
   module _ (z : Given) (g : Ghost) (s : State) (i : WholeInvariant (R .damage) (L .KindInvariant) z g s) where
     After : Call → Outcome → Type 0
@@ -317,26 +338,8 @@ module _ (R : SectionRules) (traits : GraceTraits) (L : KindShows R traits) wher
         let turn : R .walksAt (publisher s p .place) ≡ true = sym (walk-told p (leb-false _ _ (named-publisher (R .damage) z g s (i .shared .every) p pn))) ∙ e in
         rw (accepts (Walk p b) refl (named-publisher (R .damage) z g s (i .shared .every) p pn, (negated _ turn, (le-ltb NUMBER-MAX (publisher s p .walk .looks + b) few-looks, tt)))) refl
 
-    -- An accepted call names what the store has.
-    named-clear : (c : Call) → withoutSections c ≡ false → AllClear (tableBy R .tests s c) → Named z c
-    named-clear (Enter r) has f = reader-named (R .damage) z g s (i .shared .every) r (f .0)
-    named-clear (Look r k) has f = (reader-named (R .damage) z g s (i .shared .every) r (f .0), leb-false TABLE k (f .1 .0))
-    named-clear (Leave r) has f = reader-named (R .damage) z g s (i .shared .every) r (f .0)
-    named-clear (Claim p slot) has f = (publisher-named (R .damage) z g s (i .shared .every) p (f .0), slot-named (R .damage) z g s (i .shared .every) slot (f .1 .0))
-    named-clear (Write p v) has f = (publisher-named (R .damage) z g s (i .shared .every) p (f .0), f .1 .0)
-    named-clear (Swap p) has f = publisher-named (R .damage) z g s (i .shared .every) p (f .0)
-    named-clear (Sync p) has f = publisher-named (R .damage) z g s (i .shared .every) p (f .0)
-    named-clear (Raise p) has f = publisher-named (R .damage) z g s (i .shared .every) p (f .0)
-    named-clear (Walk p b) has f = publisher-named (R .damage) z g s (i .shared .every) p (f .0)
-    named-clear (Release p) has f = publisher-named (R .damage) z g s (i .shared .every) p (f .0)
-    named-clear (Pick r) has f = absurd (clash has)
-    named-clear (Checkpoint r) has f = absurd (clash has)
-    named-clear (Defer p) has f = absurd (clash has)
-
-    named-right : (c : Call) → accepted (step (tableBy R) s c .reply) ≡ true → Named z c
-    unfolding step
-    named-right c = decided (λ (o : Outcome). accepted (o .reply) ≡ true → Named z c) (rows (tableBy R) s c) (tableBy R .act s c) s (all-numbers s c)
-        (λ f ok. named-clear c (or-false (withoutSections c) (damaged (tableBy R) s) (f .0) .0) (f .1)) (λ ok. clash (sym ok))
+    named-right : (c : Call) → accepted (step (tableBy R) s c .reply) ≡ true → Named (z .readers) (z .publishers) (z .slots) c
+    named-right = rw (← i .shared .every .sized .readers-are, ← i .shared .every .sized .publishers-are, ← i .shared .every .sized .slots-are) (named-of s)
 
     -- An accepted call is in its turn.
     at-phase : (p pl : ℕ) (phase : Phase) → eqb (publisher s p .place) pl ≡ true → phaseAt pl ≡ phase → g .tally .phase p ≡ phase
@@ -430,16 +433,6 @@ module _ (R : SectionRules) (traits : GraceTraits) (L : KindShows R traits) wher
         publishers-given = head PUBLISHERS-AT (omega arith);
         slots-given = head SLOTS-AT (omega arith);
         version-given = head VERSION-AT (omega arith);
-        sizes-fit = record {
-          readers-low = ok .readers-low;
-          readers-high = ok .readers-high;
-          publishers-low = ok .publishers-low;
-          publishers-high = ok .publishers-high;
-          as-many = λ e. clash (sym e ∙ L .apart-is);
-          slots-low = ok .slots-low;
-          slots-high = ok .slots-high;
-          version-high = L .fits-to-last (z .version) (ok .version-fits);
-        };
         current-is = head CURRENT-AT (omega arith);
         releases-are = head RELEASES-AT (omega arith);
         indicators-are = fresh-indicator number (z .readers) (z .publishers) (z .slots) (z .version) x;
@@ -497,25 +490,17 @@ module _ (R : SectionRules) (traits : GraceTraits) (L : KindShows R traits) wher
       go g s′ i [] = undamaged-now (f .arguments) g s′ i
       go g s′ i (c ∷ cs) = go (afterEvent g (c ⇒ step (tableBy R) s′ c .reply)) (step (tableBy R) s′ c .after) (stepped (f .arguments) g s′ i c) cs
 
-  -- A making with every argument in its range is accepted.
+  -- A making that fits is accepted, and no other.
   pub making-accepts-of : MakingAccepts (machine (tableBy R)) (traits .every)
   unfolding making
-  making-accepts-of z s long len fit good = rw (decide-accepts (makingTests false (R .damage .versions) z s) (outcome Made (made (R .damage .number) (R .freshReader) z s)) s
-      (making-rows false (R .damage .versions) z s (record {
-        long = long;
-        readers-low = fit .readers-low;
-        readers-high = fit .readers-high;
-        as-many = λ e. absurd (clash (sym e));
-        publishers-low = fit .publishers-low;
-        publishers-high = fit .publishers-high;
-        slots-low = fit .slots-low;
-        slots-high = fit .slots-high;
-        entries-are = len;
-        version-fits = L .last-fits _ (fit .version-high);
-        table-long = good .long;
-        table-in-range = good-in-range (z .table) good;
-        table-steps = good-steps (z .table) good;
-      }))) refl
+  making-accepts-of z s = rw (L .apart-is) (λ fit. rw (decide-accepts (makingTests false (R .damage .versions) z s) (outcome Made (made (R .damage .number) (R .freshReader) z s)) s
+      (fitting-clear false (R .damage .versions) z s (traits .every .last) (L .last-fits (z .version)) fit)) refl)
+
+  pub making-only-of : MakingOnly (machine (tableBy R)) (traits .every)
+  unfolding making
+  making-only-of z s = rw (L .apart-is) (decided (λ (o : Outcome). accepted (o .reply) ≡ true → MakingFits false (traits .every .last) z s) (makingTests false (R .damage .versions) z s) (outcome Made (made (R .damage .number) (R .freshReader) z s)) s refl
+      (λ f _. making-fits false (R .damage .versions) z s (traits .every .last) (L .fits-to-last (z .version)) (making-clear false (R .damage .versions) z s f))
+      (λ ok. clash (sym ok)))
 
   -- A WALK with no looks that replies spent leaves the whole state as it was.
   pub walk-zero-of : (s : State) (p : ℕ) → step (tableBy R) s (Walk p 0) .reply ≡ Walked Spent → step (tableBy R) s (Walk p 0) .after ≡ s

@@ -19,13 +19,13 @@ use Rattle.calls.specs.ReplyNumbersLaws.{PitchFitsWord, Representable}
 use Rattle.calls.specs.FirstTable.{outOfRange}
 use Rattle.calls.specs.Events.{accepted}
 use Rattle.layout.specs.declared.WalkResult.{WalkResult}
-use Rattle.layout.specs.Layout.{VERSION-AT, RELEASES-AT, publishers, version}
+use Rattle.layout.specs.Layout.{VERSION-AT, RELEASES-AT, readers, publishers, slots, version}
 use Rattle.layout.specs.Records.{_atPlace_, _walk≔_, _mark≔_, _next≔_, _looks≔_, _waits≔_}
 use Rattle.statement.specs.Machine.{State, Outcome, Given, Fresh, afterAll}
 use Rattle.statement.specs.Demand3.{Demand3}
 use Rattle.statement.specs.Frame.{Frame}
 use Rattle.statement.specs.Looks.{LooksInRange, FirstTableUntilSwap, WritesInRange, looks-in-range, first-table-until-swap}
-use Rattle.statement.specs.Companions.{Traits, GraceTraits, MakingAccepts, MakesFresh, RefusedLeaves, Companions, GraceCompanions}
+use Rattle.statement.specs.Companions.{Traits, GraceTraits, MakingAccepts, MakingOnly, MakesFresh, Named, RefusedLeaves, Companions, GraceCompanions}
 use Rattle.publication_law.specs.Steps.{publisher, raise, walked}
 use Rattle.publication_law.specs.Table.{Table, damaged, rows, step, making, machine}
 use Rattle.publication_law.specs.SectionRules.{SectionRules, tableBy}
@@ -37,7 +37,7 @@ use Rattle.publication_law.specs.Frames.{walk-record}
 use Rattle.publication_law.specs.Decide.{decided}
 use Rattle.publication_law.specs.TableLaws.{refused-leaves-of-acts, frame-of-table, representable-of-table, representable-making-of-table}
 use Rattle.publication_law.specs.SharedFacts.{ReleaseFacts, SharedFacts, shared-facts-of}
-use Rattle.publication_law.specs.KindShows.{KindShows, shared-calls-of, demand3-of, companions-of, never-damaged-of, act-laws-of, making-accepts-of, makes-fresh-of, walk-zero-of}
+use Rattle.publication_law.specs.KindShows.{KindShows, shared-calls-of, demand3-of, companions-of, never-damaged-of, act-laws-of, making-accepts-of, making-only-of, makes-fresh-of, named-of, walk-zero-of}
 
 -- SYNC: the reply is the mark that it stores, the version's successor; next, looks and waits are 0.
 pub record SyncFacts (successor : ℕ → ℕ) (s : State) (p : ℕ) (o : Outcome) : Type 0 where
@@ -59,7 +59,9 @@ pub record EveryPromises (T : Table) (traits : Traits) : Type 0 where
   pub first-table-until-swap : FirstTableUntilSwap (machine T)
   -- the damage test is false after every list from fresh
   pub never-damaged : (s : State) → Fresh (machine T) s → (cs : List Call) → damaged T (afterAll (machine T) s cs) ≡ false
+  -- a making is accepted exactly if its arguments, what is lent and the table are in order
   pub making-accepts : MakingAccepts (machine T) traits
+  pub making-only : MakingOnly (machine T) traits
   pub refused-leaves : RefusedLeaves (machine T)
   pub frame : Frame (λ s. traits .publishes) (machine T)
   -- a fresh store is document 01's, number by number
@@ -67,7 +69,8 @@ pub record EveryPromises (T : Table) (traits : Traits) : Type 0 where
   -- every reply of a store whose entries are pitches of 64 bits has three numbers for C that no other representable reply has
   pub representable : (s : State) (c : Call) → ((j : ℕ) → PitchFitsWord (getD (s .entries) j (pos 0))) → Representable (step T s c .reply)
   pub representable-making : (z : Given) (s : State) → Representable (making T z s .reply)
-  -- what an accepted LOOK, CLAIM, WRITE and SWAP reply and store, and why a CLAIM is refused, for every state
+  -- for every state: an accepted call names what is there; what LOOK, CLAIM, WRITE and SWAP reply and store; and why a CLAIM is refused, if not for damage
+  pub named : (s : State) (c : Call) → accepted (step T s c .reply) ≡ true → Named (readers (s .words)) (publishers (s .words)) (slots (s .words)) c
   pub shared-facts : SharedFacts (traits .exclusive) T
 
 -- .. and of a kind with sections, SYNC and WALK besides.
@@ -145,11 +148,13 @@ promises-of R traits L = record {
     first-table-until-swap = first-table-until-swap (machine (tableBy R)) (own-table R traits L);
     never-damaged = never-damaged-of R traits L;
     making-accepts = making-accepts-of R traits L;
+    making-only = making-only-of R traits L;
     refused-leaves = refused-leaves-of-acts (λ s. traits .every .publishes) (tableBy R) (act-laws-of R traits L);
     frame = frame-of-table (λ s. traits .every .publishes) (tableBy R) (act-laws-of R traits L);
     makes-fresh = makes-fresh-of R traits L;
     representable = representable-of-table (λ s. traits .every .publishes) (tableBy R) (act-laws-of R traits L);
     representable-making = representable-making-of-table (λ s. traits .every .publishes) (tableBy R) (act-laws-of R traits L);
+    named = named-of R traits L;
     shared-facts = rw (L .exclusive-is) (shared-facts-of (R .exclusive) (tableBy R) (shared-calls-of R));
   };
   companions = companions-of R traits L;

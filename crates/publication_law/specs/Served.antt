@@ -51,15 +51,6 @@ module _ (K : DamageRules) (z : Given) (g : Ghost) (s : State) (i : Invariant K 
   named-slot x l = lt-leb (slots (s .words)) x (omega (arith, i .sized .slots-are))
 
   -- .. and those of the store are the ones as made.
-  pub reader-named : (r : ℕ) → leb (readers (s .words)) r ≡ false → r < z .readers
-  reader-named r e = omega (arith, leb-false (readers (s .words)) r e, i .sized .readers-are)
-
-  pub publisher-named : (p : ℕ) → leb (publishers (s .words)) p ≡ false → p < z .publishers
-  publisher-named p e = omega (arith, leb-false (publishers (s .words)) p e, i .sized .publishers-are)
-
-  pub slot-named : (x : ℕ) → leb (slots (s .words)) x ≡ false → x < z .slots
-  slot-named x e = omega (arith, leb-false (slots (s .words)) x e, i .sized .slots-are)
-
   -- The place of a publisher in the words is the one at which its phase begins, or tells how much it has written.
   pub publisher-placed : (p : ℕ) → publisher s p .place ≤ PLACE-RETURNED → g .tally .phase p ≢ writing → publisher s p .place ≡ firstPlace (g .tally .phase p)
   publisher-placed p high not-writing = go (g .tally .phase p) not-writing (placed K z g s i p (g .tally .phase p) refl)

@@ -1,12 +1,12 @@
 -- 'Spoiled means' of the rest store, clause by clause, by computation: what is changed by hand in a fresh store, one call there, and its reply. Assumes nothing.
--- The calls are PICK 0 and CLAIM 0 1, which the fresh store accepts; at 35 PICK gets 20. Each state here that gets 1 is damaged by one clause alone, but for no participants;
+-- Most calls are PICK 0 and CLAIM 0 1, which the fresh store accepts; one that gets 20 or 21, and not 1, shows too that a state is not damaged. Each state here that gets 1 is damaged by one clause alone, but for no participants;
 -- beside each clause stands a near state that is not damaged.
 use Prim.Native.Nat.{ℕ, _+_}
 use mathlib.Core.Path.{_≡_, refl, sym, subst}
 use mathlib.Core.List.{List, [], _∷_, _++_}
 use Rattle.base.specs.Rows.{anyBelow}
 use Rattle.calls.specs.declared.Call.the-variants.{Claim, Pick, Checkpoint, Defer}
-use Rattle.calls.specs.declared.Reply.the-variants.{Claimed, Picked, Refused}
+use Rattle.calls.specs.declared.Reply.the-variants.{At, Claimed, Picked, Refused}
 use Rattle.calls.specs.Numbers.{KIND-REST}
 use Rattle.calls.specs.FirstTable.{tables}
 use Rattle.layout.specs.Layout.{readerAt, publisherAt, retirementAt, retiredAt, withReader, withPublisher, withRetirement, withRetired, withReaders, freshWords}
@@ -94,10 +94,11 @@ countCases =
     ∷ on (publisherTo 0 (publisherAs 35 1 1 0 0 0) ∷ retirementTo 0 (retirementAs 0 8) ∷ []) (Pick 0) (Refused 1)
     ∷ []
 
--- At 5 inside a checkpoint, and at 35 inside one, are good: PICK and CHECKPOINT get 20 there, and DEFER 21.
+-- A pick inside a checkpoint, and 35 inside one, are good: no paper has them as spoiled. There PICK gets 20 and CHECKPOINT goes on; at 35 CHECKPOINT gets 20 and DEFER 21.
 abbrev pub insideCases : List Case
 insideCases =
     on (readerTo 0 (readerAs 5 0 0 0 0) ∷ retirementTo 0 (retirementAs 1 0) ∷ []) (Pick 0) (Refused 20)
+    ∷ on (readerTo 0 (readerAs 5 0 0 0 0) ∷ retirementTo 0 (retirementAs 1 0) ∷ []) (Checkpoint 0) (At 2)
     ∷ on (publisherTo 0 (publisherAs 35 1 1 0 0 0) ∷ retirementTo 0 (retirementAs 1 0) ∷ []) (Checkpoint 0) (Refused 20)
     ∷ on (publisherTo 0 (publisherAs 35 1 1 0 0 0) ∷ retirementTo 0 (retirementAs 1 0) ∷ []) (Defer 0) (Refused 21)
     ∷ []
@@ -132,7 +133,7 @@ fresh-spelled = refl
 
 on-spelled : AllHold (casesOn Qsbr (spelled KIND-REST 0) clauses)
 unfolding clauses readerAt publisherAt retirementAt retiredAt withReader withPublisher withRetirement withRetired withReaders freshWords anyBelow damaged staying step making tables
-on-spelled = (refl, (refl, (refl, (refl, (refl, (refl, (refl, (refl, (refl, (refl, (refl, (refl, (refl, (refl, (refl, (refl, (refl, (refl, (refl, (refl, (refl, (refl, (refl, (refl, (refl, (refl, (refl, (refl, (refl, (refl, (refl, (refl, (refl, (refl, (refl, (refl, (refl, (refl, (refl, (refl, (refl, (refl, (refl, (refl, (refl, (refl, (refl, (refl, (refl, (refl, (refl, (refl, (refl, tt)))))))))))))))))))))))))))))))))))))))))))))))))))))
+on-spelled = (refl, (refl, (refl, (refl, (refl, (refl, (refl, (refl, (refl, (refl, (refl, (refl, (refl, (refl, (refl, (refl, (refl, (refl, (refl, (refl, (refl, (refl, (refl, (refl, (refl, (refl, (refl, (refl, (refl, (refl, (refl, (refl, (refl, (refl, (refl, (refl, (refl, (refl, (refl, (refl, (refl, (refl, (refl, (refl, (refl, (refl, (refl, (refl, (refl, (refl, (refl, (refl, (refl, (refl, tt))))))))))))))))))))))))))))))))))))))))))))))))))))))
 
 pub damage-cases : AllHold (cases Qsbr clauses)
 damage-cases = subst (λ (s : State). AllHold (casesOn Qsbr s clauses)) (sym fresh-spelled) on-spelled

@@ -99,7 +99,7 @@ module _ (w : List ℕ) (n ss p : ℕ) where
 abbrev pub headFails : State → Bool
 headFails s = anyTrue (headRows damageRules s) || not (eqb (readers (s .words)) (publishers (s .words)))
 
--- The numbers of participants and slots are handed to the pass, which asks nothing of them.
+-- The numbers of participants and slots are handed to the pass. It tests the words' length and the first number itself, and so requires nothing.
 abbrev pub participantsFail : List ℕ → ℕ → ℕ → Bool
 participantsFail w n ss = not (eqb (length w) WORDS) || outside 1 PUBLISHERS-MAX n || anyBelow (participantFails w n ss) n
 

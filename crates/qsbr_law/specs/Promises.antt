@@ -35,12 +35,12 @@ use Rattle.statement.specs.Machine.{State, Outcome, outcome, Given, Fresh, even
 use Rattle.statement.specs.Demand3.{Demand3}
 use Rattle.statement.specs.Frame.{nextEntry, Writes}
 use Rattle.statement.specs.Looks.{WritesInRange, looks-in-range, first-table-until-swap}
-use Rattle.statement.specs.Companions.{IsFresh, MakesFresh, MakingAccepts, Named, InTurn, StateCompanions}
+use Rattle.statement.specs.Companions.{IsFresh, MakesFresh, MakingFits, MakingAccepts, MakingOnly, Named, InTurn, StateCompanions}
 use Rattle.statement.specs.Quiescent.{QuiescentStateCompanions, QuiescentCompanions}
 use Rattle.statement.specs.KeptInvariant.{Ghost, ghost₀, afterEvent, afterEvents, KeptInvariant, kept-after, all-told, all-tally, returns-never, demand3, companions}
 use Rattle.publication_tables.specs.FillLaws.{tables-long, tables-entry}
 use Rattle.publication_law.specs.Steps.{reader, publisher, inUse, makingTests, made}
-use Rattle.publication_law.specs.Clear.{MakingClear, making-clear, making-rows, table-is-good, good-in-range, good-steps, claim-clear}
+use Rattle.publication_law.specs.Clear.{MakingClear, making-clear, table-is-good, making-fits, fitting-clear, claim-clear}
 use Rattle.publication_law.specs.DamageLaws.{publisher-below}
 use Rattle.publication_law.specs.Core.{CurrentOrFormer}
 use Rattle.publication_law.specs.Core.CurrentOrFormer.{is-current, is-former}
@@ -52,7 +52,7 @@ use Rattle.publication_law.specs.Decide.{decided, decide-accepts}
 use Rattle.publication_law.specs.Frames.{same-framed, claim-framed, write-framed, swap-framed}
 use Rattle.publication_law.specs.TableLaws.{ActFacts, ActLaws, lacked-refused, only-damaged, refused-leaves-of-acts, frame-of-table, representable-of-table, representable-making-of-table}
 use Rattle.publication_law.specs.Keeps.{slots-right, picks-right, table-right, placed, idle-told, unused-told, made-invariant}
-use Rattle.publication_law.specs.Served.{SharedCalls, named-reader, named-publisher, named-slot, reader-named, publisher-named, slot-named, publisher-placed, writer-placed, look-turn, claim-turn, write-turn, swap-turn, look-shelf, claim-not-picked, look-accepted, claims-on, writes-on, swaps-on}
+use Rattle.publication_law.specs.Served.{SharedCalls, named-reader, named-publisher, named-slot, publisher-placed, writer-placed, look-turn, claim-turn, write-turn, swap-turn, look-shelf, claim-not-picked, look-accepted, claims-on, writes-on, swaps-on}
 use Rattle.publication_law.specs.Phases.{phaseAt}
 use Rattle.publication_law.specs.SharedFacts.{shared-facts-of}
 use Rattle.publication_law.specs.Promises.{EveryPromises}
@@ -152,6 +152,27 @@ act-laws = record { numbers-above-1 = λ s c _. numbers-above-1 s c; making-numb
 pub all-numbers : (s : State) (c : Call) → allAbove 0 (rows rules s c) ≡ true
 all-numbers s c = all-above DAMAGED 0 (omega arith) (tests s c) (numbers-above-1 s c)
 
+-- An accepted call names what the store has.
+named-clear : (s : State) (c : Call) → lacks c ≡ false → AllClear (tests s c) → Named (readers (s .words)) (publishers (s .words)) (slots (s .words)) c
+named-clear s (Enter r) has f = absurd (clash has)
+named-clear s (Look r k) has f = (leb-false _ _ (f .0), leb-false TABLE k (f .1 .0))
+named-clear s (Leave r) has f = absurd (clash has)
+named-clear s (Claim p slot) has f = (leb-false _ _ (f .0), leb-false _ _ (f .1 .0))
+named-clear s (Write p v) has f = (leb-false _ _ (f .0), f .1 .0)
+named-clear s (Swap p) has f = leb-false _ _ (f .0)
+named-clear s (Sync p) has f = absurd (clash has)
+named-clear s (Raise p) has f = absurd (clash has)
+named-clear s (Walk p b) has f = absurd (clash has)
+named-clear s (Release p) has f = absurd (clash has)
+named-clear s (Pick r) has f = leb-false _ _ (f .0)
+named-clear s (Checkpoint r) has f = leb-false _ _ (f .0)
+named-clear s (Defer p) has f = leb-false _ _ (f .0)
+
+named-of : (s : State) (c : Call) → accepted (step rules s c .reply) ≡ true → Named (readers (s .words)) (publishers (s .words)) (slots (s .words)) c
+unfolding step
+named-of s c = decided (λ (o : Outcome). accepted (o .reply) ≡ true → Named (readers (s .words)) (publishers (s .words)) (slots (s .words)) c) (rows rules s c) (act s c) s (all-numbers s c)
+    (λ f ok. named-clear s c (or-false (lacks c) (damaged rules s) (f .0) .0) (f .1)) (λ ok. clash (sym ok))
+
 -- LOOK, CLAIM, WRITE and SWAP of an undamaged store are the shared ones.
 shared-calls-of : (s : State) → damaged rules s ≡ false → SharedCalls false true Qsbr s
 shared-calls-of s sound = record {
@@ -207,26 +228,8 @@ module _ (z : Given) (g : Ghost) (s : State) (i : RestInvariant z g s) where
       go true e = absurd (ne (at-phase p 35 synchronising e refl))
       go false e = refl
 
-  -- An accepted call names what the store has.
-  named-clear : (c : Call) → lacks c ≡ false → AllClear (tests s c) → Named z c
-  named-clear (Enter r) has f = absurd (clash has)
-  named-clear (Look r k) has f = (reader-named damageRules z g s (i .shared) r (f .0), leb-false TABLE k (f .1 .0))
-  named-clear (Leave r) has f = absurd (clash has)
-  named-clear (Claim p slot) has f = (publisher-named damageRules z g s (i .shared) p (f .0), slot-named damageRules z g s (i .shared) slot (f .1 .0))
-  named-clear (Write p v) has f = (publisher-named damageRules z g s (i .shared) p (f .0), f .1 .0)
-  named-clear (Swap p) has f = publisher-named damageRules z g s (i .shared) p (f .0)
-  named-clear (Sync p) has f = absurd (clash has)
-  named-clear (Raise p) has f = absurd (clash has)
-  named-clear (Walk p b) has f = absurd (clash has)
-  named-clear (Release p) has f = absurd (clash has)
-  named-clear (Pick r) has f = reader-named damageRules z g s (i .shared) r (f .0)
-  named-clear (Checkpoint r) has f = reader-named damageRules z g s (i .shared) r (f .0)
-  named-clear (Defer p) has f = publisher-named damageRules z g s (i .shared) p (f .0)
-
-  named-right : (c : Call) → accepted (step rules s c .reply) ≡ true → Named z c
-  unfolding step
-  named-right c = decided (λ (o : Outcome). accepted (o .reply) ≡ true → Named z c) (rows rules s c) (act s c) s (all-numbers s c)
-      (λ f ok. named-clear c (or-false (lacks c) (damaged rules s) (f .0) .0) (f .1)) (λ ok. clash (sym ok))
+  named-right : (c : Call) → accepted (step rules s c .reply) ≡ true → Named (z .readers) (z .publishers) (z .slots) c
+  named-right = rw (← i .shared .sized .readers-are, ← i .shared .sized .publishers-are, ← i .shared .sized .slots-are) (named-of s)
 
   -- An accepted call is in its turn.
   turn-clear : (c : Call) → lacks c ≡ false → AllClear (tests s c) → InTurn traits (g .model) (g .told) (g .tally) c
@@ -377,16 +380,6 @@ module _ (z : Given) (s : State) (ok : MakingClear true versions z s) where
         publishers-given = head PUBLISHERS-AT (omega arith);
         slots-given = head SLOTS-AT (omega arith);
         version-given = head VERSION-AT (omega arith);
-        sizes-fit = record {
-          readers-low = ok .readers-low;
-          readers-high = ok .readers-high;
-          publishers-low = ok .publishers-low;
-          publishers-high = ok .publishers-high;
-          as-many = λ _. ok .as-many refl;
-          slots-low = ok .slots-low;
-          slots-high = ok .slots-high;
-          version-high = ltb-false LAST (z .version) (ok .version-fits);
-        };
         current-is = head CURRENT-AT (omega arith);
         releases-are = head RELEASES-AT (omega arith);
         indicators-are = fresh-indicator KIND-REST (z .readers) (z .publishers) (z .slots) (z .version) (blankReader (z .version));
@@ -443,22 +436,13 @@ writes-in-range s p v = decided (λ (o : Outcome). accepted (o .reply) ≡ true 
 
 making-accepts : MakingAccepts Qsbr traits
 unfolding making
-making-accepts z s long len fit good = rw (decide-accepts (makingTests true versions z s) (outcome Made (made KIND-REST (blankReader (z .version)) z s)) s
-    (making-rows true versions z s (record {
-      long = long;
-      readers-low = fit .readers-low;
-      readers-high = fit .readers-high;
-      as-many = λ _. fit .as-many refl;
-      publishers-low = fit .publishers-low;
-      publishers-high = fit .publishers-high;
-      slots-low = fit .slots-low;
-      slots-high = fit .slots-high;
-      entries-are = len;
-      version-fits = le-ltb LAST (z .version) (fit .version-high);
-      table-long = good .long;
-      table-in-range = good-in-range (z .table) good;
-      table-steps = good-steps (z .table) good;
-    }))) refl
+making-accepts z s fit = rw (decide-accepts (makingTests true versions z s) (outcome Made (made KIND-REST (blankReader (z .version)) z s)) s (fitting-clear true versions z s LAST (le-ltb LAST (z .version)) fit)) refl
+
+making-only : MakingOnly Qsbr traits
+unfolding making
+making-only z s = decided (λ (o : Outcome). accepted (o .reply) ≡ true → MakingFits true LAST z s) (makingTests true versions z s) (outcome Made (made KIND-REST (blankReader (z .version)) z s)) s refl
+    (λ f _. making-fits true versions z s LAST (ltb-false LAST (z .version)) (making-clear true versions z s f))
+    (λ ok. clash (sym ok))
 
 makes-fresh : MakesFresh Qsbr traits
 makes-fresh = from-fresh (IsFresh traits) made-is
@@ -471,11 +455,13 @@ rest-promises = record {
   first-table-until-swap = first-table-until-swap Qsbr own-demand3;
   never-damaged = λ s f cs. undamaged-now (f .arguments) _ _ (reached s f cs);
   making-accepts = making-accepts;
+  making-only = making-only;
   refused-leaves = refused-leaves-of-acts (λ s. true) rules act-laws;
   frame = frame-of-table (λ s. true) rules act-laws;
   makes-fresh = makes-fresh;
   representable = representable-of-table (λ s. true) rules act-laws;
   representable-making = representable-making-of-table (λ s. true) rules act-laws;
+  named = named-of;
   shared-facts = shared-facts-of false rules shared-calls-of;
 }
 

@@ -16,7 +16,7 @@ use Rattle.calls.specs.Tally.{Tally}
 use Rattle.statement.specs.Machine.{State, outcome, Given, Machine, Fresh, events, afterAll}
 use Rattle.statement.specs.Demand3.{Demand3}
 use Rattle.statement.specs.Looks.{LooksInRange, FirstTableUntilSwap}
-use Rattle.statement.specs.Companions.{Traits, GraceTraits, MakingAccepts, MakesFresh, StateCompanions, GraceStateCompanions, Companions, GraceCompanions}
+use Rattle.statement.specs.Companions.{Traits, GraceTraits, MakingAccepts, MakingOnly, MakesFresh, StateCompanions, GraceStateCompanions, Companions, GraceCompanions}
 use Rattle.statement.specs.Examples.{lentFor, replies, repliesAfter, repliesFrom, repliesOn, leadTo, Example, Holds, AllHold}
 use Rattle.statement.specs.Examples.Example.{shows, unchanged, makes, each}
 
@@ -157,6 +157,9 @@ module _ (M N : Machine) where
 
     pub making-accepts-alike : (traits : Traits) → MakingAccepts M traits → MakingAccepts N traits
     making-accepts-alike traits promise z s = rw (like .makings z s) (promise z s)
+
+    pub making-only-alike : (traits : Traits) → MakingOnly M traits → MakingOnly N traits
+    making-only-alike traits promise z s = rw (like .makings z s) (promise z s)
 
     pub makes-fresh-alike : (traits : Traits) → MakesFresh M traits → MakesFresh N traits
     makes-fresh-alike traits promise s f = promise s (fresh-alike s f)

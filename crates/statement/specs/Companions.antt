@@ -60,22 +60,28 @@ pub record GoodTable (table : List ℤ) : Type 0 where
   pub in-range : (k : ℕ) → k < TABLE → outOfRange (entryOf table k) ≡ false
   pub steps-bounded : (k : ℕ) → k + 1 < TABLE → steep (entryOf table k) (entryOf table (k + 1)) ≡ false
 
--- Arguments of making that are in range: the sizes, in a kind of participants as many publishers as readers, and the version.
-pub record MakingFits (traits : Traits) (z : Given) : Type 0 where
+-- What making asks, in a kind of participants or not and with this last version: lent words and entries of the right lengths, sizes and version in range, a good table.
+pub record MakingFits (ofParticipants : Bool) (last : ℕ) (z : Given) (s : State) : Type 0 where
+  pub words-long : length (s .words) ≡ WORDS
   pub readers-low : 1 ≤ z .readers
   pub readers-high : z .readers ≤ READERS-MAX
   pub publishers-low : 1 ≤ z .publishers
   pub publishers-high : z .publishers ≤ PUBLISHERS-MAX
-  pub as-many : traits .ofParticipants ≡ true → z .publishers ≡ z .readers
+  pub as-many : ofParticipants ≡ true → z .publishers ≡ z .readers
   pub slots-low : SLOTS-MIN ≤ z .slots
   pub slots-high : z .slots ≤ SLOTS-MAX
-  pub version-high : z .version ≤ traits .last
+  pub entries-long : length (s .entries) ≡ z .slots * TABLE
+  pub version-high : z .version ≤ last
+  pub table-good : GoodTable (z .table)
 
--- A making with every argument in its range, lent words and entries of the right lengths and a good table is accepted.
+-- Such a making is accepted, and no other.
 abbrev pub MakingAccepts : Machine → Traits → Type 0
-MakingAccepts M traits = (z : Given) (s : State) → length (s .words) ≡ WORDS → length (s .entries) ≡ z .slots * TABLE → MakingFits traits z → GoodTable (z .table) → M .making z s .reply ≡ Made
+MakingAccepts M traits = (z : Given) (s : State) → MakingFits (traits .ofParticipants) (traits .last) z s → M .making z s .reply ≡ Made
 
--- A fresh store, to the letter: entry k of every slot is entry k of the lent table, which is a good one; sizes and version as given, and in range; slot 0 current, readers and publishers at place 0, published versions as the kind's fresh readers have them,
+abbrev pub MakingOnly : Machine → Traits → Type 0
+MakingOnly M traits = (z : Given) (s : State) → accepted (M .making z s .reply) ≡ true → MakingFits (traits .ofParticipants) (traits .last) z s
+
+-- A fresh store, to the letter: entry k of every slot is entry k of the lent table, which is a good one; sizes and version as given; slot 0 current, readers and publishers at place 0, published versions as the kind's fresh readers have them,
 -- and every other number 0.
 pub record IsFresh (traits : Traits) (z : Given) (s : State) : Type 0 where
   pub long : length (s .words) ≡ WORDS
@@ -83,7 +89,6 @@ pub record IsFresh (traits : Traits) (z : Given) (s : State) : Type 0 where
   pub publishers-given : publishers (s .words) ≡ z .publishers
   pub slots-given : slots (s .words) ≡ z .slots
   pub version-given : version (s .words) ≡ z .version
-  pub sizes-fit : MakingFits traits z
   pub current-is : current (s .words) ≡ 0
   pub releases-are : releases (s .words) ≡ 0
   pub indicators-are : (i : ℕ) → indicator (s .words) i ≡ 0
@@ -126,21 +131,21 @@ InTurn traits h t u (Pick r) = OutsideCheckpoint t r × NotDeferring u r
 InTurn traits h t u (Checkpoint r) = NotDeferring u r
 InTurn traits h t u (Defer p) = OutsideCheckpoint t p × ((u .phase p ≡ swapped) ⊎ (u .phase p ≡ synchronising))
 
--- What a call names is there, in a store made with the arguments z: the reader, the publisher, the slot, the entry of a table; and a pitch is in range.
-abbrev pub Named : Given → Call → Type 0
-Named z (Enter r) = r < z .readers
-Named z (Look r k) = (r < z .readers) × (k < TABLE)
-Named z (Leave r) = r < z .readers
-Named z (Claim p slot) = (p < z .publishers) × (slot < z .slots)
-Named z (Write p v) = (p < z .publishers) × (outOfRange v ≡ false)
-Named z (Swap p) = p < z .publishers
-Named z (Sync p) = p < z .publishers
-Named z (Raise p) = p < z .publishers
-Named z (Walk p b) = p < z .publishers
-Named z (Release p) = p < z .publishers
-Named z (Pick r) = r < z .readers
-Named z (Checkpoint r) = r < z .readers
-Named z (Defer p) = p < z .publishers
+-- What a call names is there, in a store of so many readers, publishers and slots: the reader, the publisher, the slot, the entry of a table; and a pitch is in range.
+abbrev pub Named : (readers publishers slots : ℕ) → Call → Type 0
+Named rs ps ss (Enter r) = r < rs
+Named rs ps ss (Look r k) = (r < rs) × (k < TABLE)
+Named rs ps ss (Leave r) = r < rs
+Named rs ps ss (Claim p slot) = (p < ps) × (slot < ss)
+Named rs ps ss (Write p v) = (p < ps) × (outOfRange v ≡ false)
+Named rs ps ss (Swap p) = p < ps
+Named rs ps ss (Sync p) = p < ps
+Named rs ps ss (Raise p) = p < ps
+Named rs ps ss (Walk p b) = p < ps
+Named rs ps ss (Release p) = p < ps
+Named rs ps ss (Pick r) = r < rs
+Named rs ps ss (Checkpoint r) = r < rs
+Named rs ps ss (Defer p) = p < ps
 
 -- What holds of a state after a list of calls that told h, t and u.
 pub record StateCompanions (M : Machine) (traits : Traits) (z : Given) (h : Model) (t : Told) (u : Tally) (s : State) : Type 0 where
@@ -148,10 +153,10 @@ pub record StateCompanions (M : Machine) (traits : Traits) (z : Given) (h : Mode
   pub undamaged : (c : Call) → traits .lacks c ≡ false → M .step s c .reply ≢ Refused DAMAGED
   pub lacked : (c : Call) → traits .lacks c ≡ true → M .step s c ≡ outcome (Refused DAMAGED) s
   -- an accepted call names what the store has
-  pub named : (c : Call) → accepted (M .step s c .reply) ≡ true → Named z c
+  pub named : (c : Call) → accepted (M .step s c .reply) ≡ true → Named (z .readers) (z .publishers) (z .slots) c
   -- order: a call is accepted in its turn alone
   pub in-turn : (c : Call) → accepted (M .step s c .reply) ≡ true → InTurn traits h t u c
-  -- the places in the words are those told: a reader's, and a publisher's by its phase; while it writes it is one further than it has written
+  -- the places in the words are those told: a reader's, and that of each publisher of the store by its phase; while it writes it is one further than it has written
   pub reader-placed : (r : ℕ) → readerAt (s .words) r .place ≡ u .place r
   pub publisher-placed : (p : ℕ) → p < z .publishers → u .phase p ≢ writing → publisherAt (s .words) p .place ≡ firstPlace (u .phase p)
   pub writer-placed : (p : ℕ) → u .phase p ≡ writing → publisherAt (s .words) p .place ≡ length (h .draft p) + 1

@@ -65,7 +65,7 @@ casesOn M s (on ds c a ∷ rest) = each M (changed ds s) (c ∷ []) (a ∷ []) �
 abbrev pub cases : Machine → List Case → List Example
 cases M list = casesOn M (freshOf M small) list
 
--- That fresh store, with its kind word, written out: the head, 64 readers, 16 publishers; and its entries. It is quicker to compute with.
+-- That fresh store, with its kind word, written out: the head, 64 readers, 16 publishers, the 288 words behind them; and its entries. It is quicker to compute with.
 abbrev times : ℕ → List ℕ → List ℕ
 times zero l = []
 times (suc n) l = l ++ times n l

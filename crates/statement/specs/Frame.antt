@@ -161,7 +161,7 @@ pub record Writes (s : State) (p : ℕ) (v : ℤ) (o : Outcome) : Type 0 where
   pub others : (j : ℕ) → j ≢ nextEntry s p → getD (o .after .entries) j (pos 0) ≡ getD (s .entries) j (pos 0)
   pub long : length (o .after .entries) ≡ length (s .entries)
 
--- For every state: a call moves the numbers that its step names of the record of the reader or publisher named (CHECKPOINT and DEFER of each record of the participant),
+-- For every state: a call moves the numbers that its step names of the record of the reader or publisher named (CHECKPOINT of the reader and its retirement, DEFER of publisher, reader and retirement),
 -- perhaps one number of the head, which its step names too, and nothing else; a WALK that record alone. Only WRITE moves the entries, and one of them.
 pub record Frame (publishes : State → Bool) (M : Machine) : Type 0 where
   pub words : (s : State) (c : Call) → Framed (publishes s) c (s .words) (M .step s c .after .words)
