@@ -280,8 +280,8 @@ impl Seen {
 
     fn missing_replies(&self, kind: Kind, missing: &mut Vec<String>) {
         for name in NAMES {
-            for &code in codes(name, kind) {
-                if self.replies[row(Some(kind))][name.index()][code] == 0 {
+            for &code in name.codes(kind) {
+                if self.replies[row(Some(kind))][name.index()][code as usize] == 0 {
                     missing.push(format!("{kind} {name}: {}", answer(code)));
                 }
             }
@@ -312,9 +312,9 @@ impl Seen {
             let listed = &self.listed[row(Some(Kind::Rest))][name.index()];
             // No list spoils a store.
             let lacked = !name.of(Kind::Rest);
-            let codes = codes(name, Kind::Rest).iter();
+            let codes = name.codes(Kind::Rest).iter();
             for &code in codes.filter(|&&code| code != 1 || lacked) {
-                if listed[code] == 0 {
+                if listed[code as usize] == 0 {
                     missing.push(format!("rest {name}, in a list: {}", answer(code)));
                 }
             }
@@ -355,35 +355,9 @@ impl Seen {
     }
 }
 
-fn answer(code: usize) -> String {
+fn answer(code: u64) -> String {
     let what = if code < 100 { "refusal" } else { "reply" };
     format!("{what} {code}")
-}
-
-/// The codes that this call can give on a store of this kind.
-fn codes(name: Name, kind: Kind) -> &'static [usize] {
-    if !name.of(kind) {
-        return &[1];
-    }
-    match (name, kind) {
-        (Name::Store, Kind::New | Kind::Old) => &[2, 3, 4, 5, 6, 40, 41, 42, 100],
-        (Name::Store, Kind::Rest) => &[2, 3, 4, 5, 40, 41, 42, 100],
-        (Name::Enter, _) => &[1, 10, 20, 101],
-        (Name::Look, _) => &[1, 10, 13, 20, 102],
-        (Name::Leave, _) => &[1, 10, 20, 103],
-        (Name::Claim, Kind::New | Kind::Rest) => &[1, 11, 12, 21, 30, 104],
-        (Name::Claim, Kind::Old) => &[1, 11, 12, 21, 31, 30, 104],
-        (Name::Write, _) => &[1, 11, 14, 21, 105],
-        (Name::Swap, _) => &[1, 11, 21, 106],
-        (Name::Sync, _) => &[1, 11, 21, 32, 107],
-        (Name::Raise, _) => &[1, 11, 21, 108, 109],
-        (Name::Walk, Kind::Old) => &[1, 11, 21, 33, 110, 111, 112, 113],
-        (Name::Walk, Kind::New | Kind::Rest) => &[1, 11, 21, 33, 110, 111, 113],
-        (Name::Release, _) => &[1, 11, 21, 114],
-        (Name::Pick, _) => &[1, 10, 20, 115],
-        (Name::Checkpoint, _) => &[1, 10, 20, 101],
-        (Name::Defer, _) => &[1, 11, 21, 43, 44, 101],
-    }
 }
 
 /// The places that the reader or publisher of this call can be at.

@@ -107,7 +107,7 @@ fn needed(can: fn(Kind, u64) -> bool) -> Vec<Answer> {
     let mut needed = Vec::new();
     for kind in KINDS {
         for call in NAMES {
-            let codes = codes(call, kind).iter().copied();
+            let codes = call.codes(kind).iter().copied();
             let met = codes.filter(|&code| can(kind, code));
             needed.extend(met.map(|code| (Some(kind), call, code)));
         }
@@ -122,32 +122,6 @@ fn missing(cells: &[Cell], mut wanted: Vec<Answer>) -> Vec<String> {
         format!("{kind}, {call}: {code}")
     };
     wanted.into_iter().map(name).collect()
-}
-
-/// The codes that this call can give on a store of this kind.
-fn codes(call: Name, kind: Kind) -> &'static [u64] {
-    if !call.of(kind) {
-        return &[1];
-    }
-    match (call, kind) {
-        (Name::Store, Kind::New | Kind::Old) => &[2, 3, 4, 5, 6, 40, 41, 42, 100],
-        (Name::Store, Kind::Rest) => &[2, 3, 4, 5, 40, 41, 42, 100],
-        (Name::Enter, _) => &[1, 10, 20, 101],
-        (Name::Look, _) => &[1, 10, 13, 20, 102],
-        (Name::Leave, _) => &[1, 10, 20, 103],
-        (Name::Claim, Kind::New | Kind::Rest) => &[1, 11, 12, 21, 30, 104],
-        (Name::Claim, Kind::Old) => &[1, 11, 12, 21, 30, 31, 104],
-        (Name::Write, _) => &[1, 11, 14, 21, 105],
-        (Name::Swap, _) => &[1, 11, 21, 106],
-        (Name::Sync, _) => &[1, 11, 21, 32, 107],
-        (Name::Raise, _) => &[1, 11, 21, 108, 109],
-        (Name::Walk, Kind::New | Kind::Rest) => &[1, 11, 21, 33, 110, 111, 113],
-        (Name::Walk, Kind::Old) => &[1, 11, 21, 33, 110, 111, 112, 113],
-        (Name::Release, _) => &[1, 11, 21, 114],
-        (Name::Pick, _) => &[1, 10, 20, 115],
-        (Name::Checkpoint, _) => &[1, 10, 20, 101],
-        (Name::Defer, _) => &[1, 11, 21, 43, 44, 101],
-    }
 }
 
 #[cfg(test)]
