@@ -10,13 +10,14 @@ use lib.IntN.{ℤ, pos}
 use lib.ListN.{getD, replicate}
 use Rattle.calls.specs.declared.Call.{Call}
 use Rattle.calls.specs.declared.Call.the-variants.{Enter, Look, Leave, Claim, Write, Swap, Sync, Raise, Walk, Release, Pick, Checkpoint, Defer}
-use Rattle.calls.specs.declared.Reply.the-variants.{Walked, Refused}
+use Rattle.calls.specs.declared.Reply.the-variants.{At, Walked, Refused}
 use Rattle.calls.specs.declared.WalkReply.the-variants.{Waiting, Spent}
 use Rattle.calls.specs.ReplyNumbersLaws.{PitchFitsWord, Representable}
-use Rattle.calls.specs.Numbers.{FORMAT, DAMAGED, PLACE-PUBLISHED}
+use Rattle.calls.specs.Numbers.{FORMAT, DAMAGED, PLACE-PUBLISHED, PLACE-LOADED-AGAIN, PLACE-OPEN}
 use Rattle.calls.specs.Events.{accepted}
 use Rattle.calls.specs.Tally.{tallyOf}
-use Rattle.layout.specs.Layout.{WORDS, kindWord, readers, publishers, slots, indicator}
+use Rattle.layout.specs.Layout.{WORDS, kindWord, readers, publishers, slots, indicator, withReader}
+use Rattle.layout.specs.Records.{_place≔_, _published≔_}
 use Rattle.statement.specs.Machine.{State, state, Given, outcome, Fresh, events, afterAll, retires}
 use Rattle.statement.specs.Demand3.{Demand3}
 use Rattle.statement.specs.Frame.{Frame}
@@ -26,8 +27,8 @@ use Rattle.statement.specs.Quiescent.{QuiescentCompanions, ObservedNeverFalls, 
 use Rattle.statement.specs.FreeSlot.{FindsFreeSlot, finds-free-slot-alike}
 use Rattle.statement.specs.Alike.{fresh-alike, after-alike, events-alike, demand3-alike, companions-alike, grace-companions-alike, making-accepts-alike, making-only-alike, makes-fresh-alike, looks-in-range-alike, first-table-until-swap-alike}
 use Rattle.publication_law.specs.DamageLaws.{zero-damaged}
-use Rattle.publication_law.specs.Steps.{publisher}
-use Rattle.publication_law.specs.Table.{damaged}
+use Rattle.publication_law.specs.Steps.{reader, publisher}
+use Rattle.publication_law.specs.Table.{damaged, step}
 use Rattle.publication_law.specs.TableLaws.{lacked-refused}
 use Rattle.publication_law.specs.Calls.{undamaged-facts}
 use Rattle.publication_law.specs.SharedFacts.{LookReplies, ClaimFacts, WriteFacts, SwapFacts, ReleaseFacts, ClaimRefusal}
@@ -187,6 +188,19 @@ enter-facts-old s r is = rw (step-named old s (Enter r) is) (old-readers.old-ent
 
 pub leave-facts-old : (s : State) (r : ℕ) → kindWord (s .words) ≡ kindNumber old → accepted (anyStep s (Leave r) .reply) ≡ true → old-readers.LeaveFacts s r (anyStep s (Leave r))
 leave-facts-old s r is = rw (step-named old s (Leave r) is) (old-readers.old-leave-facts s r)
+
+-- Document 02, request 4: on every undamaged new store ENTER of a reader at 3 goes to 4 and publishes the second loaded version, always, and moves nothing else;
+-- where the two loaded versions are equal, that is the number that was published, and it stays. An undamaged store's kind word is its kind's.
+module _ (s : State) (r : ℕ) (no-damage : damaged (tableOf new) s ≡ false) (below : r < readers (s .words)) (turn : reader s r .place ≡ PLACE-LOADED-AGAIN) where
+  own-step : anyStep s (Enter r) ≡ step (tableOf new) s (Enter r)
+  own-step = step-named new s (Enter r) (undamaged-facts (tableOf new) s no-damage .head .kind-is ∙ number-is new)
+
+  pub publishes-second : anyStep s (Enter r) ≡ outcome (At PLACE-OPEN) (state (withReader (s .words) r (reader s r place≔ PLACE-OPEN published≔ reader s r .second)) (s .entries))
+  publishes-second = own-step ∙ new-readers.new-publishes-second s r no-damage below turn
+
+  pub equal-same-number : reader s r .first ≡ reader s r .second
+      → (reader s r .second ≡ reader s r .published) × (reader (anyStep s (Enter r) .after) r .published ≡ reader s r .published)
+  equal-same-number equal = rw own-step (new-readers.new-equal-same-number s r no-damage below turn equal)
 
 -- What an accepted call names is there, on words of each kind.
 pub named : (kind : Kind) (s : State) (c : Call) → kindWord (s .words) ≡ kindNumber kind → accepted (anyStep s c .reply) ≡ true → Named (readers (s .words)) (publishers (s .words)) (slots (s .words)) c
