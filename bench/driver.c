@@ -1,6 +1,7 @@
 /* Plays one list of calls, drawn from a seed and mostly in turn, through the archive's entry points and through the baseline's by hand, side by side,
    and compares every reply, the words and the entries. run counts the instructions of each call under callgrind.
-   Makings whose first table is refused, refused calls of the rest store and calls that a kind lacks are a list of their own, which is compared and not counted. */
+   Makings whose first table is refused, refused calls of the rest store and calls that a kind lacks are a list of their own, which is compared and not counted.
+   The fourth steps of ENTER of the new store are another list, compared and counted: fourth_step.h. */
 #include "baseline.h"
 
 #include <stdbool.h>
@@ -50,6 +51,13 @@ static void compare(const char *call, struct rahuvyte_reply ours, struct rahuvyt
 }
 
 #define BOTH(call, ...) compare(#call, rahuvyte_##call(words[0], WORDS, entries[0], entries_len, __VA_ARGS__), c_##call(words[1], WORDS, entries[1], entries_len, __VA_ARGS__))
+
+/* A call that run counts apart, by the name of the caller. */
+#define COUNTED(name, call) \
+    __attribute__((noipa)) static void name(uint16_t who) \
+    { \
+        BOTH(call, who); \
+    }
 
 /* A good first table, whose neighbours differ by anything that is allowed. */
 static void draw_table(void)
@@ -115,6 +123,8 @@ static void publisher_goes_on(uint16_t p, uint16_t slots)
 }
 
 #include "rest_turns.h"
+
+#include "fourth_step.h"
 
 /* Every call on a store of each kind: those that the kind lacks get 1. */
 static void compare_lacked(uint16_t kind)
@@ -187,15 +197,19 @@ static uint16_t kind_named(const char *name)
     return strcmp(name, "rest") == 0 ? RAHUVYTE_KIND_REST : RAHUVYTE_KIND_NEW;
 }
 
-/* driver new|old|rest READERS PUBLISHERS SLOTS CALLS SEED, or driver new|old|rest for what is refused */
+/* driver new|old|rest READERS PUBLISHERS SLOTS CALLS SEED; driver new|old|rest for what is refused; driver fourth READERS PUBLISHERS SLOTS for the fourth step of ENTER */
 int main(int argc, char **argv)
 {
+    state = 1;
+    if (argc == 5 && strcmp(argv[1], "fourth") == 0) {
+        play_fourth_steps((uint16_t)atoi(argv[2]), (uint16_t)atoi(argv[3]), (uint16_t)atoi(argv[4]));
+        return 0;
+    }
     if (argc != 7 && argc != 2) {
-        fprintf(stderr, "driver new|old|rest [READERS PUBLISHERS SLOTS CALLS SEED]\n");
+        fprintf(stderr, "driver new|old|rest [READERS PUBLISHERS SLOTS CALLS SEED]\ndriver fourth READERS PUBLISHERS SLOTS\n");
         return 2;
     }
     const uint16_t kind = kind_named(argv[1]);
-    state = 1;
     if (argc == 2) {
         compare_refused(kind);
         compare_lacked(kind);

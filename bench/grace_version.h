@@ -69,8 +69,7 @@ static struct rahuvyte_reply NAMED(enter)(uint64_t *words, size_t words_len, con
         x->second = s->version;
         break;
     case 3:
-        if (x->second != x->first)
-            x->published = x->second;
+        x->published = x->second;
         break;
     case 4:
         x->picked = s->current;

@@ -1,4 +1,4 @@
-/* The turns of a rest store's participants, for driver.c: included after its words and its BOTH. */
+/* The turns of a rest store's participants, for driver.c: included after its words, its BOTH and its COUNTED. */
 
 /* docs/LAYOUT.md: where the epoch stands, the steps and counts of checkpoints and the pairs of deferred slots, and in a reader's record its least and its observed epoch. */
 enum { EPOCH = 5, FIRST_STEP = 425, FIRST_PAIR = 457, DEFERRED_MAX = RAHUVYTE_DEFERRED_MAX, LEAST = 2, OBSERVED = 3 };
@@ -24,13 +24,6 @@ static uint64_t *pairs_of(int side, uint64_t p)
 {
     return &words[side][FIRST_PAIR + 2 * DEFERRED_MAX * p];
 }
-
-/* run counts these apart, by the name of the caller. */
-#define COUNTED(name, call) \
-    __attribute__((noipa)) static void name(uint16_t p) \
-    { \
-        BOTH(call, p); \
-    }
 
 COUNTED(checkpoint_loads, checkpoint)
 COUNTED(checkpoint_observes, checkpoint)
