@@ -145,6 +145,7 @@ impl Both {
     /// The call as part of a list from a fresh store.
     pub fn listed(&mut self, call: &Call, demand3: &mut Demand3) -> Result<Reply, Stop> {
         let kind = self.kind_called(call);
+        let stand = self.stand_called(call);
         let reply = self.call(call)?;
         let mut kept = demand3.hear(call, &reply);
         if let (Ok(()), Some(words)) = (&kept, self.words()) {
@@ -156,7 +157,8 @@ impl Both {
             return Err(difference.into());
         }
         if let Some(kind) = kind {
-            self.seen.note_listed(kind, call, reply.numbers().code);
+            self.seen
+                .note_listed(kind, call, reply.numbers().code, stand);
         }
         Ok(reply)
     }
@@ -312,12 +314,14 @@ fn right(call: &Call, reply: Reply) -> bool {
 /// are 16 at most.
 fn stand(words: &[u64; WORDS], n: usize, place: u64) -> Stand {
     let p = n.min(15);
+    let [first, second] = [1, 2].map(|i| words[reader_at(n) + i]);
     Stand {
         place,
         reader_place: words[reader_at(n)],
         publisher_place: words[publisher_at(p)],
         step: words[step_at(p)],
         participants: words[READERS],
+        versions_differ: first != second,
     }
 }
 

@@ -138,6 +138,7 @@ fn what_was_seen_is_not_missing() {
         publisher_place: 0,
         step: 3,
         participants: 3,
+        versions_differ: false,
     };
     seen.note(Some(Kind::New), &claim, &numbers, Some(stand));
     let missing = seen.missing();
@@ -158,9 +159,37 @@ fn what_was_seen_is_not_missing() {
         assert!(!now.iter().any(|line| line == what), "{what}");
     }
     seen.note_events(&Events::from([Event::TwoDefer]));
-    seen.note_listed(Kind::Rest, &claim, 30);
+    seen.note_listed(Kind::Rest, &claim, 30, Some(stand));
     seen.note_lacked(Kind::Rest, &Call::Walk { p: 0, b: 0 });
     assert_eq!(now.len(), seen.missing().len() + 3);
+}
+
+/// A run must see the fourth step of entering in lists of a new store, with
+/// equal and with differing versions.
+#[test]
+fn fourth_steps_are_told_apart() {
+    let mut seen = Seen::new();
+    let all = seen.missing().len();
+    let stand = |place, versions_differ| Stand {
+        place,
+        reader_place: place,
+        publisher_place: 0,
+        step: 0,
+        participants: 1,
+        versions_differ,
+    };
+    let enter = Call::Enter { r: 0 };
+    seen.note_listed(Kind::New, &enter, 101, Some(stand(2, true)));
+    seen.note_listed(Kind::Old, &enter, 101, Some(stand(3, true)));
+    seen.note_listed(Kind::New, &enter, 1, Some(stand(3, true)));
+    seen.note_listed(Kind::New, &Call::Leave { r: 0 }, 20, Some(stand(3, true)));
+    assert_eq!(all, seen.missing().len());
+    seen.note_listed(Kind::New, &enter, 101, Some(stand(3, false)));
+    let missing = seen.missing();
+    assert_eq!(all, missing.len() + 1);
+    assert!(missing.contains(&"new enter, in a list: from place 3 with differing versions".into()));
+    seen.note_listed(Kind::New, &enter, 101, Some(stand(3, true)));
+    assert_eq!(all, seen.missing().len() + 2);
 }
 
 /// A table shows the borders that it is at, and no refusal shows those of

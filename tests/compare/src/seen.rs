@@ -63,6 +63,8 @@ pub struct Stand {
     pub publisher_place: u64,
     pub step: u64,
     pub participants: u64,
+    /// Whether the reader's two loaded versions differ.
+    pub versions_differ: bool,
 }
 
 /// Where a participant is in its checkpoint.
@@ -92,6 +94,9 @@ pub struct Seen {
     replies: Box<[[[u64; 128]; CALLS]; ROWS]>,
     /// The replies in lists from a fresh store.
     listed: Box<[[[u64; 128]; CALLS]; ROWS]>,
+    /// A new store's ENTERs from 3 to 4 in such lists: with equal loaded
+    /// versions, and with differing ones.
+    fourth_steps: [u64; FOURTH_STEPS.len()],
     /// Calls that a kind lacks, where nothing else is wrong.
     lacked: [[u64; CALLS]; ROWS],
     places: Box<[[[u64; 39]; CALLS]; ROWS]>,
@@ -110,6 +115,9 @@ pub struct Seen {
     pub swaps: u64,
     pub freed: u64,
 }
+
+/// The fourth steps of entering that lists of a new store must have.
+const FOURTH_STEPS: [&str; 2] = ["equal versions", "differing versions"];
 
 /// Makings that a run must have begun a list with.
 const MAKINGS: [&str; 7] = [
@@ -131,6 +139,7 @@ impl Seen {
         Seen {
             replies: Box::new([[[0; 128]; CALLS]; ROWS]),
             listed: Box::new([[[0; 128]; CALLS]; ROWS]),
+            fourth_steps: [0; FOURTH_STEPS.len()],
             lacked: [[0; CALLS]; ROWS],
             places: Box::new([[[0; 39]; CALLS]; ROWS]),
             reader_places: [[0; 6]; CALLS],
@@ -168,9 +177,16 @@ impl Seen {
         }
     }
 
-    /// A call of a list from a fresh store, and the code that it got.
-    pub fn note_listed(&mut self, kind: Kind, call: &Call, code: u64) {
+    /// A call of a list from a fresh store, the code that it got, and where
+    /// it was made from.
+    pub fn note_listed(&mut self, kind: Kind, call: &Call, code: u64, stand: Option<Stand>) {
         self.listed[row(Some(kind))][call.name().index()][code as usize & 127] += 1;
+        let (Kind::New, Call::Enter { .. }, Some(stand)) = (kind, call, stand) else {
+            return;
+        };
+        if stand.place == 3 && code == 101 {
+            self.fourth_steps[usize::from(stand.versions_differ)] += 1;
+        }
     }
 
     /// A call that the kind lacks, where nothing else is wrong.
@@ -265,6 +281,13 @@ impl Seen {
                 if count == 0 {
                     missing.push(format!("{kind} store {making}"));
                 }
+            }
+        }
+        for (versions, count) in FOURTH_STEPS.iter().zip(self.fourth_steps) {
+            if count == 0 {
+                missing.push(format!(
+                    "new enter, in a list: from place 3 with {versions}"
+                ));
             }
         }
         self.missing_of_rest(&mut missing);
