@@ -58,8 +58,8 @@
 
 #define RAHUVYTE_VERSION_MAJOR 0
 #define RAHUVYTE_VERSION_MINOR 4
-#define RAHUVYTE_VERSION_PATCH 0
-#define RAHUVYTE_VERSION "0.4.0"
+#define RAHUVYTE_VERSION_PATCH 1
+#define RAHUVYTE_VERSION "0.4.1"
 
 #ifdef __cplusplus
 extern "C" {
