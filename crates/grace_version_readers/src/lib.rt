@@ -37,7 +37,7 @@ use publication_entries::look_up;
 // ENTER of a reader that there is: 0 to 1 loads the version; 1 to 2 publishes it; 2 to 3 loads the version again;
 // 3 to 4 publishes the second, always; 4 to 5 picks the current slot.
 // At 3 an undamaged store's reader has published the first: where the two are equal, that is the same number.
-// Nothing in the step from 3 to 4 compares the two (document 02, request 4); .ci/fourth-step, in the gate, holds the code to it.
+// Nothing in the step from 3 to 4 compares the two, by request 4 of document 02: .ci/fourth-step reads the code for it.
 fn advance(words: &mut [u64], r: usize) -> Reply
     requires { ⌜ (length (now words) ≡ WORDS) × (r < readers (now words)) × (r < READERS-MAX) ⌝ }
     ensures { λ a. ⌜ ((es : List ℤ) → damaged rules (state (now (words .entry)) es) ≡ false →
