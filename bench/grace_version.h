@@ -4,6 +4,8 @@
 #define NAMED(call) new_##call
 #define KIND RAHUVYTE_KIND_NEW
 #define LAST RAHUVYTE_LAST_NEW
+#define BAD_VERSION(version) (version > LAST)
+#define IS_LAST(version) (version == LAST)
 
 static inline bool NAMED(damaged)(const struct store *s, size_t words_len, size_t entries_len)
 {
@@ -12,7 +14,7 @@ static inline bool NAMED(damaged)(const struct store *s, size_t words_len, size_
     const uint64_t readers = s->readers, publishers = s->publishers, slots = s->slots;
     if (readers - 1 >= READERS_MAX || publishers - 1 >= PUBLISHERS_MAX || slots - 2 > SLOTS_MAX - 2)
         return true;
-    if (entries_len != slots * TABLE || s->current >= slots || s->version > LAST)
+    if (entries_len != slots * TABLE || s->current >= slots || BAD_VERSION(s->version))
         return true;
     for (const struct reader *x = s->reader, *end = x + readers; x != end; x++) {
         const uint64_t place = x->place;
@@ -170,3 +172,5 @@ static struct rahuvyte_reply NAMED(walk)(uint64_t *words, size_t words_len, cons
 #undef NAMED
 #undef KIND
 #undef LAST
+#undef BAD_VERSION
+#undef IS_LAST

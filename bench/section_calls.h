@@ -1,12 +1,10 @@
-/* SYNC and RELEASE, which the kinds with sections share, and what making asks of them: included by each after its NAMED, its KIND, its LAST and its damage test. */
+/* SYNC and RELEASE, which the kinds with sections share, and what making asks of them: included by each after its NAMED, its KIND, its BAD_VERSION, its IS_LAST and its damage test. */
 #define BAD_PUBLISHERS(readers, publishers) (publishers < 1 || publishers > PUBLISHERS_MAX)
-#define BAD_VERSION(version) (version > LAST)
 #define PUBLISHED(version) NOT_READING
 
 #include "shared_calls.h"
 
 #undef BAD_PUBLISHERS
-#undef BAD_VERSION
 #undef PUBLISHED
 
 static struct rahuvyte_reply NAMED(sync)(uint64_t *words, size_t words_len, const rahuvyte_pitch *entries, size_t entries_len, uint16_t p)
@@ -20,7 +18,7 @@ static struct rahuvyte_reply NAMED(sync)(uint64_t *words, size_t words_len, cons
     struct publisher *y = &s->publisher[p];
     if (y->place != 34)
         return refused(21);
-    if (s->version == LAST)
+    if (IS_LAST(s->version))
         return refused(32);
     y->place = 35;
     y->mark = s->version + 1;

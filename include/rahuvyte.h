@@ -57,9 +57,9 @@
 #include <stdint.h>
 
 #define RAHUVYTE_VERSION_MAJOR 0
-#define RAHUVYTE_VERSION_MINOR 4
-#define RAHUVYTE_VERSION_PATCH 1
-#define RAHUVYTE_VERSION "0.4.1"
+#define RAHUVYTE_VERSION_MINOR 5
+#define RAHUVYTE_VERSION_PATCH 0
+#define RAHUVYTE_VERSION "0.5.0"
 
 #ifdef __cplusplus
 extern "C" {
@@ -95,10 +95,9 @@ typedef int32_t rahuvyte_pitch;
 #define RAHUVYTE_KIND_OLD 18
 #define RAHUVYTE_KIND_REST 19
 
-/* The last version of each kind: the greatest first version at making, and the one at which SYNC, or in a rest store the first DEFER of a table, is refused.
-   A rest store's version is its epoch. */
+/* The last version of a new and of a rest store: the greatest first version at making, and the one at which SYNC, or in a rest store the first DEFER of a table, is refused.
+   A rest store's version is its epoch. An old store has no last version: its versions run modulo 2^64, so 0 follows UINT64_MAX. (RAHUVYTE_LAST_OLD is gone since 0.5.0.) */
 #define RAHUVYTE_LAST_NEW (UINT64_MAX - 1)
-#define RAHUVYTE_LAST_OLD (UINT64_MAX / 2)
 #define RAHUVYTE_LAST_REST UINT64_MAX
 
 /* Rest store: so many slots of one participant may be deferred, and so many CHECKPOINTs make a whole one. */
@@ -169,7 +168,7 @@ enum {
     RAHUVYTE_BAD_PUBLISHERS = 3,     /* making: publishers not 1 to 16; rest store: or not as many as readers */
     RAHUVYTE_BAD_SLOTS = 4,          /* making: slots not 2 to 32 */
     RAHUVYTE_BAD_ENTRIES = 5,        /* making: entries not slots x 32 */
-    RAHUVYTE_BAD_VERSION = 6,        /* making: first version above the last */
+    RAHUVYTE_BAD_VERSION = 6,        /* making, new store: first version above the last */
     RAHUVYTE_NO_SUCH_READER = 10,
     RAHUVYTE_NO_SUCH_PUBLISHER = 11,
     RAHUVYTE_NO_SUCH_SLOT = 12,
@@ -179,7 +178,7 @@ enum {
     RAHUVYTE_PUBLISHER_TURN = 21,    /* the publisher is at a place where this call is not allowed */
     RAHUVYTE_SLOT_IN_USE = 30,       /* CLAIM: the slot is current, or a publisher holds it; rest store: or has deferred it */
     RAHUVYTE_BUSY = 31,              /* CLAIM, old store: another publisher is publishing */
-    RAHUVYTE_VERSION_IS_LAST = 32,   /* SYNC: no version is left */
+    RAHUVYTE_VERSION_IS_LAST = 32,   /* SYNC, new store: no version is left */
     RAHUVYTE_TOO_MANY_LOOKS = 33,    /* WALK: looks + b would pass 2^64 - 1 */
     RAHUVYTE_BAD_TABLE_LENGTH = 40,  /* making: the first table has not 32 entries */
     RAHUVYTE_BAD_TABLE_PITCH = 41,   /* making: an entry of the first table is not -5000 to 95000 */
@@ -258,8 +257,8 @@ static inline const char *rahuvyte_meaning(uint64_t code)
    Rest store: readers and publishers are the same number, that of the participants. Deferred slots are in use too: take one slot for the current table, one for each
    participant that publishes, and one for each table that is published while the slowest loop makes two turns, or three where a checkpoint is spread over a turn.
    Reply: MADE. Refused, tested in this order: DAMAGED (store_len is not RAHUVYTE_WORDS, or no such kind), BAD_READERS,
-   BAD_PUBLISHERS (rest store: also if they are not as many as readers), BAD_SLOTS, BAD_ENTRIES (entries_len is not slots x 32), BAD_VERSION (never in a rest
-   store), BAD_TABLE_LENGTH (table_len is not 32; so a null table with length 0), BAD_TABLE_PITCH (of all entries, before any neighbours are compared), BAD_TABLE_STEP.
+   BAD_PUBLISHERS (rest store: also if they are not as many as readers), BAD_SLOTS, BAD_ENTRIES (entries_len is not slots x 32), BAD_VERSION (new store
+   alone), BAD_TABLE_LENGTH (table_len is not 32; so a null table with length 0), BAD_TABLE_PITCH (of all entries, before any neighbours are compared), BAD_TABLE_STEP.
    A refused making leaves store, entries and table as lent.
    It does not ask whether a store was there before: tables and sections of that one are gone. */
 struct rahuvyte_reply rahuvyte_make(uint64_t *store, size_t store_len, rahuvyte_pitch *entries, size_t entries_len,
@@ -324,12 +323,12 @@ struct rahuvyte_reply rahuvyte_write(uint64_t *store, size_t store_len, rahuvyte
 struct rahuvyte_reply rahuvyte_swap(uint64_t *store, size_t store_len, const rahuvyte_pitch *entries, size_t entries_len, uint16_t p);
 
 /* SYNC (new and old store): begins the wait for the sections that are open now. It does not wait itself: no call does.
-   Reply: SYNCED with the mark. Refused: DAMAGED, NO_SUCH_PUBLISHER, PUBLISHER_TURN (not just swapped),
-   VERSION_IS_LAST (no publication can end any more; make a new store. From version 0 that is never reached in practice). */
+   Reply: SYNCED with the mark; in an old store 0 is a mark like any other, that of version UINT64_MAX. Refused: DAMAGED, NO_SUCH_PUBLISHER,
+   PUBLISHER_TURN (not just swapped), VERSION_IS_LAST (new store alone: no publication can end any more; make another store. From version 0 that is never reached in practice). */
 struct rahuvyte_reply rahuvyte_sync(uint64_t *store, size_t store_len, const rahuvyte_pitch *entries, size_t entries_len, uint16_t p);
 
 /* RAISE (new and old store): moves the version up to the mark. New store: next after SYNC. Old store: next after a WALK replied QUIET.
-   Reply: RAISED, or SHARED if another publisher has raised it already, which is as good.
+   Reply: RAISED, or in a new store SHARED if another publisher has raised it already, which is as good.
    Refused: DAMAGED, NO_SUCH_PUBLISHER, PUBLISHER_TURN. */
 struct rahuvyte_reply rahuvyte_raise(uint64_t *store, size_t store_len, const rahuvyte_pitch *entries, size_t entries_len, uint16_t p);
 

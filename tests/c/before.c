@@ -2,7 +2,8 @@
    A store of 425 words gets 1 from each call, whoever calls. So does a caller compiled with a header of then, which lends 425 words, at making too.
    Lent with the words of today, a store and a making from before 0.3.0 still get 1, for the number of their kind. Nothing is changed, and no byte touched beyond what
    is lent. 0.1.0 packed the same words as 0.2.0.
-   With the length of today, and from before 0.3.0 also the kind's number of today, the same is not 1, but accepted or tested further: so it is these that 1 is given for. */
+   With the length of today, and from before 0.3.0 also the kind's number of today, the same is not 1, but accepted or tested further: so it is these that 1 is given for.
+   Stores of 0.4.0 and 0.4.1 have the words of today. They go on where they stood, and an old one at the last version of then goes on too. */
 #define _DEFAULT_SOURCE
 
 #include "before.h"
@@ -255,6 +256,37 @@ static void try_release(const struct release *x)
     }
 }
 
+/* ---- Old stores of 0.4.0 and 0.4.1 ---- */
+
+/* The last version of the old kind then. Publisher 0 has swapped slot 1 in; its SYNC was refused. */
+static const struct changed old_at_last[] = {
+    { 4, 1 }, { 5, UINT64_MAX / 2 },                           /* the current slot, the version */
+    { 329, 34 },                                               /* publisher 0: its place */
+};
+
+static void expect_walk(struct lent l, uint64_t code, uint64_t first, uint64_t second)
+{
+    const struct rahuvyte_reply reply = make_call(l, WALK, 0, 1);
+    if (!same_reply(reply, code, first, second))
+        report_failure(test, "walk of a store of 0.4.1", reply, code, "");
+}
+
+static void go_on_from_0_4_1(void)
+{
+    const struct lent l = lend_arrays(RAHUVYTE_WORDS, ENTRIES);
+    rahuvyte_make(LENT_TO_MAKING(l), RAHUVYTE_KIND_OLD, READERS, PUBLISHERS, SLOTS, 0);
+    CHANGE(l.store, old_publishing);
+    expect_walk(l, RAHUVYTE_WAITING, 0, 0);
+    expect("leave of a store of 0.4.1", make_call(l, LEAVE, 0, 0), RAHUVYTE_LEFT, 0);
+    expect_walk(l, RAHUVYTE_RETURNED, 4, 2);
+    rahuvyte_make(LENT_TO_MAKING(l), RAHUVYTE_KIND_OLD, READERS, PUBLISHERS, SLOTS, 0);
+    CHANGE(l.store, old_at_last);
+    expect("sync of a store of 0.4.1 at its last version", make_call(l, SYNC, 0, 0), RAHUVYTE_SYNCED, UINT64_MAX / 2 + 1);
+    expect_walk(l, RAHUVYTE_QUIET, 0, 0);
+    expect("raise of a store of 0.4.1 at its last version", make_call(l, RAISE, 0, 0), RAHUVYTE_RAISED, 0);
+    expect_walk(l, RAHUVYTE_RETURNED, 2, 0);
+}
+
 int main(void)
 {
     for (size_t i = 0; i < sizeof releases / sizeof releases[0]; i++)
@@ -266,6 +298,8 @@ int main(void)
         make_from_0_1_0(RAHUVYTE_WORDS, i, AT_BEGIN);
         make_from_0_1_0(RAHUVYTE_WORDS, i, AT_END);
     }
-    printf("before: %u calls and makings with stores or callers of 0.3.0, 0.2.0 and 0.1.0 get 1, nothing changed\n", tried);
+    test = "before, 0.4.1";
+    go_on_from_0_4_1();
+    printf("before: %u calls and makings with stores or callers of 0.3.0, 0.2.0 and 0.1.0 get 1, nothing changed; old stores of 0.4.1 go on\n", tried);
     return 0;
 }

@@ -67,15 +67,15 @@ static void swap_in(struct lent l, uint16_t p, uint16_t slot, int step, uint64_t
     play(l, swap);
 }
 
-/* Versions above the last, if the kind has any: refused before the first table is looked at. */
-static void try_version(struct lent l, uint16_t kind, uint64_t last)
+/* Versions above the greatest, if the kind has any: refused before the first table is looked at. */
+static void try_version(struct lent l, uint16_t kind, uint64_t greatest)
 {
-    if (last != UINT64_MAX)
-        make(l, kind, 1, 1, 3, last + 1, RAHUVYTE_BAD_VERSION);
+    if (greatest != UINT64_MAX)
+        make(l, kind, 1, 1, 3, greatest + 1, RAHUVYTE_BAD_VERSION);
 }
 
 /* First tables: each refusal alone, and the order of two at once. */
-static void try_tables(struct lent l, uint16_t kind, uint64_t last)
+static void try_tables(struct lent l, uint16_t kind, uint64_t greatest)
 {
     struct lent none = l, fewer = l;
     none.table = NULL;
@@ -83,12 +83,12 @@ static void try_tables(struct lent l, uint16_t kind, uint64_t last)
     fewer.table = lend_table(RAHUVYTE_TABLE, AT_END);
     fewer.table_len = RAHUVYTE_TABLE - 1;
     fewer.table[1] = RAHUVYTE_PITCH_HIGH + 1;
-    try_version(none, kind, last);
-    make(none, kind, 1, 1, 3, last, RAHUVYTE_BAD_TABLE_LENGTH);
+    try_version(none, kind, greatest);
+    make(none, kind, 1, 1, 3, greatest, RAHUVYTE_BAD_TABLE_LENGTH);
     make(fewer, kind, 1, 1, 3, 0, RAHUVYTE_BAD_TABLE_LENGTH);
     l.table = lend_table(RAHUVYTE_TABLE, AT_END);
     l.table[1] = (rahuvyte_pitch)(l.table[0] - RAHUVYTE_STEP_MAX - 1);
-    try_version(l, kind, last);
+    try_version(l, kind, greatest);
     make(l, kind, 1, 1, 3, 0, RAHUVYTE_BAD_TABLE_STEP);
     l.table[31] = RAHUVYTE_PITCH_LOW - 1;
     make(l, kind, 1, 1, 3, 0, RAHUVYTE_BAD_TABLE_PITCH);
@@ -109,7 +109,7 @@ static void try_participants(struct lent l, struct lent most)
 }
 
 /* Making: each refusal alone, the order of two at once, the ends of each range. */
-static void try_makings(uint16_t kind, uint64_t last)
+static void try_makings(uint16_t kind, uint64_t greatest)
 {
     const struct lent l = lend_arrays(RAHUVYTE_WORDS, RAHUVYTE_ENTRIES(3)), least = lend_arrays(RAHUVYTE_WORDS, RAHUVYTE_ENTRIES(2)),
                       most = lend_arrays(RAHUVYTE_WORDS, RAHUVYTE_ENTRIES(32)), more = lend_arrays(RAHUVYTE_WORDS, RAHUVYTE_ENTRIES(32) + 1);
@@ -122,9 +122,9 @@ static void try_makings(uint16_t kind, uint64_t last)
     make(l, kind, 1, 1, 33, 0, RAHUVYTE_BAD_SLOTS);
     make(l, kind, 1, 1, 2, UINT64_MAX, RAHUVYTE_BAD_ENTRIES);
     make(more, kind, 1, 1, 32, 0, RAHUVYTE_BAD_ENTRIES);
-    try_version(l, kind, last);
-    try_tables(l, kind, last);
-    make(least, kind, 1, 1, 2, last, RAHUVYTE_MADE);
+    try_version(l, kind, greatest);
+    try_tables(l, kind, greatest);
+    make(least, kind, 1, 1, 2, greatest, RAHUVYTE_MADE);
     if (kind == RAHUVYTE_KIND_REST)
         try_participants(l, most);
     else
@@ -442,20 +442,59 @@ static void reach_last_epoch(void)
     PLAY(l, eight_at_last);
 }
 
-/* SYNC at the last version and one before it; WALK with looks at their end (word 329 + 4, docs/LAYOUT.md). */
-static void reach_last_numbers(uint16_t kind, uint64_t last)
+/* SYNC of a new store at the last version and one before it. */
+static void reach_last_version(void)
 {
     static const struct line at_last[] = { { SYNC, 0, 0, RAHUVYTE_VERSION_IS_LAST, 0, 0 } };
+    static const struct line before_last[] = { { SYNC, 0, 0, RAHUVYTE_SYNCED, RAHUVYTE_LAST_NEW, 0 } };
+    const struct lent l = lend_arrays(RAHUVYTE_WORDS, RAHUVYTE_ENTRIES(2));
+    make(l, RAHUVYTE_KIND_NEW, 1, 1, 2, RAHUVYTE_LAST_NEW, RAHUVYTE_MADE);
+    swap_in(l, 0, 1, 0, 0);
+    PLAY(l, at_last);
+    make(l, RAHUVYTE_KIND_NEW, 1, 1, 2, RAHUVYTE_LAST_NEW - 1, RAHUVYTE_MADE);
+    swap_in(l, 0, 1, 0, 0);
+    PLAY(l, before_last);
+}
+
+/* The version of an old store runs past 2^64 - 1 under a reader: the mark is 0, and the walk waits at indicator 1. The next publication has mark 1 and waits at indicator 0. */
+static void run_past_the_end(void)
+{
+    static const struct line enters[] = {
+        { ENTER, 0, 0, RAHUVYTE_AT, RAHUVYTE_PLACE_LOADED, 0 }, { ENTER, 0, 0, RAHUVYTE_AT, RAHUVYTE_PLACE_OPEN, 0 },
+        { ENTER, 0, 0, RAHUVYTE_AT, RAHUVYTE_PLACE_PICKED, 0 },
+    };
+    static const struct line past_the_end[] = {
+        { SYNC, 0, 0, RAHUVYTE_SYNCED, 0, 0 },  { WALK, 0, 9, RAHUVYTE_QUIET, 0, 0 }, { RAISE, 0, 0, RAHUVYTE_RAISED, 0, 0 },
+        { WALK, 0, 9, RAHUVYTE_WAITING, 1, 0 }, { LEAVE, 0, 0, RAHUVYTE_LEFT, 0, 0 }, { WALK, 0, 9, RAHUVYTE_RETURNED, 3, 1 },
+        { RELEASE, 0, 0, RAHUVYTE_FREED, 0, 1 },
+    };
+    static const struct line looks[] = { { LOOK, 0, 0, RAHUVYTE_PITCH, UINT64_MAX - 4999, 0 }, { LOOK, 0, 31, RAHUVYTE_PITCH, WRITTEN_PITCH(31, 1001), 0 } };
+    static const struct line next[] = {
+        { SYNC, 0, 0, RAHUVYTE_SYNCED, 1, 0 },  { WALK, 0, 9, RAHUVYTE_QUIET, 0, 0 }, { RAISE, 0, 0, RAHUVYTE_RAISED, 0, 0 },
+        { WALK, 0, 9, RAHUVYTE_WAITING, 0, 0 }, { LEAVE, 0, 0, RAHUVYTE_LEFT, 0, 0 }, { WALK, 0, 9, RAHUVYTE_RETURNED, 3, 1 },
+        { RELEASE, 0, 0, RAHUVYTE_FREED, 1, 2 },
+    };
+    const struct lent l = lend_arrays(RAHUVYTE_WORDS, RAHUVYTE_ENTRIES(2));
+    make(l, RAHUVYTE_KIND_OLD, 1, 1, 2, UINT64_MAX, RAHUVYTE_MADE);
+    PLAY(l, enters);
+    swap_in(l, 0, 1, 1001, 0);
+    PLAY(l, past_the_end);
+    PLAY(l, enters);
+    PLAY(l, looks);
+    swap_in(l, 0, 0, 0, 1);
+    PLAY(l, next);
+}
+
+/* WALK with looks at their end (word 329 + 4, docs/LAYOUT.md). */
+static void reach_last_looks(uint16_t kind)
+{
+    static const struct line synced[] = { { SYNC, 0, 0, RAHUVYTE_SYNCED, 1, 0 } };
     static const struct line new_raise[] = { { RAISE, 0, 0, RAHUVYTE_RAISED, 0, 0 } };
     static const struct line too_many[] = { { WALK, 0, 2, RAHUVYTE_TOO_MANY_LOOKS, 0, 0 } };
     const struct lent l = lend_arrays(RAHUVYTE_WORDS, RAHUVYTE_ENTRIES(2));
-    make(l, kind, 1, 1, 2, last, RAHUVYTE_MADE);
+    make(l, kind, 1, 1, 2, 0, RAHUVYTE_MADE);
     swap_in(l, 0, 1, 0, 0);
-    PLAY(l, at_last);
-    make(l, kind, 1, 1, 2, last - 1, RAHUVYTE_MADE);
-    swap_in(l, 0, 1, 0, 0);
-    const struct line before_last = { SYNC, 0, 0, RAHUVYTE_SYNCED, last, 0 };
-    play(l, before_last);
+    PLAY(l, synced);
     if (kind == RAHUVYTE_KIND_NEW)
         PLAY(l, new_raise);
     l.store[333] = UINT64_MAX - 1;
@@ -482,8 +521,8 @@ static void call_damaged(uint16_t kind)
 /* docs/C-INTERFACE.md, 'Calls': the codes of each call, in the order of enum word and then of making; 0 ends a list. */
 static const uint16_t section_codes[ALL_CALLS + 1][12] = {
     { 101, 1, 10, 20 }, { 102, 1, 10, 13, 20 }, { 103, 1, 10, 20 }, { 104, 1, 11, 12, 21, 30 }, { 105, 1, 11, 14, 21 }, { 106, 1, 11, 21 },
-    { 107, 1, 11, 21, 32 }, { 108, 1, 11, 21 }, { 110, 111, 113, 1, 11, 21, 33 }, { 114, 1, 11, 21 }, { 1 }, { 1 }, { 1 },
-    { 100, 1, 2, 3, 4, 5, 6, 40, 41, 42 },
+    { 107, 1, 11, 21 }, { 108, 1, 11, 21 }, { 110, 111, 113, 1, 11, 21, 33 }, { 114, 1, 11, 21 }, { 1 }, { 1 }, { 1 },
+    { 100, 1, 2, 3, 4, 5, 40, 41, 42 },
 };
 static const uint16_t rest_codes[ALL_CALLS + 1][12] = {
     { 1 }, { 102, 1, 10, 13, 20 }, { 1 }, { 104, 1, 11, 12, 21, 30 }, { 105, 1, 11, 14, 21 }, { 106, 1, 11, 21 },
@@ -491,10 +530,10 @@ static const uint16_t rest_codes[ALL_CALLS + 1][12] = {
     { 100, 1, 2, 3, 4, 5, 40, 41, 42 },
 };
 
-/* Whether the call of the kind has the code. The new kind alone has 109, the old one alone 31 and 112. */
+/* Whether the call of the kind has the code. The new kind alone has 6, 32 and 109, the old one alone 31 and 112. */
 static int is_due(uint16_t kind, int word, uint64_t code)
 {
-    if (code == RAHUVYTE_SHARED && word == RAISE)
+    if ((code == RAHUVYTE_SHARED && word == RAISE) || (code == RAHUVYTE_VERSION_IS_LAST && word == SYNC) || (code == RAHUVYTE_BAD_VERSION && word == MAKE))
         return kind == RAHUVYTE_KIND_NEW;
     if ((code == RAHUVYTE_BUSY && word == CLAIM) || (code == RAHUVYTE_QUIET && word == WALK))
         return kind == RAHUVYTE_KIND_OLD;
@@ -535,12 +574,14 @@ int main(void)
 {
     try_makings(RAHUVYTE_KIND_NEW, RAHUVYTE_LAST_NEW);
     play_new_lists();
-    reach_last_numbers(RAHUVYTE_KIND_NEW, RAHUVYTE_LAST_NEW);
+    reach_last_version();
+    reach_last_looks(RAHUVYTE_KIND_NEW);
     call_damaged(RAHUVYTE_KIND_NEW);
     check_all_seen(RAHUVYTE_KIND_NEW);
-    try_makings(RAHUVYTE_KIND_OLD, RAHUVYTE_LAST_OLD);
+    try_makings(RAHUVYTE_KIND_OLD, UINT64_MAX);
     play_old_lists();
-    reach_last_numbers(RAHUVYTE_KIND_OLD, RAHUVYTE_LAST_OLD);
+    run_past_the_end();
+    reach_last_looks(RAHUVYTE_KIND_OLD);
     call_damaged(RAHUVYTE_KIND_OLD);
     check_all_seen(RAHUVYTE_KIND_OLD);
     try_makings(RAHUVYTE_KIND_REST, RAHUVYTE_LAST_REST);

@@ -299,7 +299,7 @@ fn main() {
     publish_new(&mut two_slots, &feathered);
     show(b"new store: two publishers share a wait");
     publish_side_by_side(&mut three_slots, &feathered);
-    show_one(b"old store: the last version is", TwoPhase::LAST);
+    show(b"old store: versions run modulo 2^64, so that none is the last");
     show(b"old store: a publication, a reader of the old table, a second publisher");
     publish_old(&mut three_slots, &feathered);
     show_one(b"rest store: the last version is", Qsbr::LAST);

@@ -74,7 +74,9 @@ pub printings : AllPrinted (
     ∷ (text "", text "(store new 0 1 2 0)\n", text "(1 refused 2)\n")
     ∷ (text "", text "(store old 1 0 2 0)\n", text "(1 refused 3)\n")
     ∷ (text "", text "(store new 1 1 33 0)\n", text "(1 refused 4)\n")
-    ∷ (text "", text "(store old 1 1 2 9223372036854775808)\n", text "(1 refused 6)\n")
+    ∷ (text "", text "(store new 1 1 2 18446744073709551615)\n", text "(1 refused 6)\n")
+    -- `old` takes every first version
+    ∷ (text "", text "(store old 1 1 2 18446744073709551615)\n", text "(1 refused 40)\n")
     -- `rest` has as many publishers as readers, up to 16, and takes every first version
     ∷ (text "", text "(store rest 65 65 2 0)\n", text "(1 refused 2)\n")
     ∷ (text "", text "(store rest 17 17 2 0)\n", text "(1 refused 3)\n")
@@ -84,4 +86,4 @@ pub printings : AllPrinted (
     ∷ [])
 unfolding
     withReaders freshWords anyBelow tables making kindOfNumber anyMaking digitsBefore decimal upToSpace afterSpace digits plain angle wordNamed lineOf played joinedLines linesFrom afterLines printedFor sheet cardOf sheetOn
-printings = (refl, (refl, (refl, (refl, (refl, (refl, (refl, (refl, (refl, (refl, (refl, (refl, (refl, (refl, (refl, (refl, (refl, (refl, tt))))))))))))))))))
+printings = (refl, (refl, (refl, (refl, (refl, (refl, (refl, (refl, (refl, (refl, (refl, (refl, (refl, (refl, (refl, (refl, (refl, (refl, (refl, tt)))))))))))))))))))

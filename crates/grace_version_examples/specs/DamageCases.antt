@@ -29,7 +29,7 @@ kindCases =
     ∷ []
 
 unfoldable pub clauses : List Case
-clauses = kindCases ++ sharedCases 18446744073709551614
+clauses = kindCases ++ sharedCases 18446744073709551614 (Refused 1)
 
 pub fresh-spelled : freshOf GraceVersion small ≡ spelled KIND-NEW NOT-READING
 unfolding withReader withReaders freshWords anyBelow making tables

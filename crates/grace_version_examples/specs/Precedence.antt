@@ -17,7 +17,7 @@ abbrev pub freeRows : Example
 freeRows = shows GraceVersion (givenFeathered 1 2 3 0) (Claim 0 1 ∷ []) (Claim 0 1 ∷ Claim 1 1 ∷ Claim 1 2 ∷ []) (Made ∷ Refused 21 ∷ Refused 30 ∷ Claimed 2 ∷ [])
 
 unfoldable pub inOrder : List Example
-inOrder = freeRows ∷ sharedRows GraceVersion 18446744073709551614 5
+inOrder = freeRows ∷ sharedRows GraceVersion 18446744073709551614 (Refused 32) 5
 
 pub precedence : AllHold inOrder
 unfolding inOrder readerAt publisherAt withReader withPublisher withReaders freshWords anyBelow damaged onward looksFrom step making tables

@@ -1,6 +1,7 @@
 -- In what the new store differs for the companions of demand 3.
 use Prim.Native.Nat.{suc, _+_}
 use mathlib.Core.Bool.{true, false}
+use lib.Dec.{eqb}
 use Rattle.calls.specs.Numbers.{NOT-READING}
 use Rattle.calls.specs.Tally.{inPhase}
 use Rattle.calls.specs.Tally.Phase.{synchronising, raised}
@@ -13,7 +14,7 @@ abbrev pub traits : GraceTraits
 traits = record {
   every = record {
     firstTable = λ z. z .table;
-    last = 18446744073709551614;
+    greatest = 18446744073709551614;
     lacks = withoutSections;
     exclusive = false;
     ofParticipants = false;
@@ -23,6 +24,7 @@ traits = record {
     walksIn = inPhase raised;
   };
   passes = λ z. z .readers;
+  isLast = λ ver. eqb ver 18446744073709551614;
   successor = λ ver. ver + 1;
   nextPlace = suc;
 }

@@ -47,7 +47,7 @@ new-begin = ((refl, refl), ((refl, refl), ((refl, refl), ((refl, refl), (refl, (
 
 old-begin : AllCarry (storeOf old) (store KIND-OLD) old-store.examples
 unfolding old-store.examples
-old-begin = ((refl, refl), (refl, ((refl, refl), ((refl, refl), ((refl, refl), ((refl, refl), ((refl, refl), tt)))))))
+old-begin = ((refl, refl), (refl, ((refl, refl), ((refl, refl), ((refl, refl), ((refl, refl), ((refl, refl), ((refl, refl), tt))))))))
 
 -- Words with the number of rest have its steps.
 rest-named : (s : State) → kindWord (s .words) ≡ KIND-REST → SameAt (storeOf rest) (store KIND-REST) s

@@ -25,6 +25,7 @@ use Rattle.statement.specs.Looks.{LooksInRange, FirstTableUntilSwap}
 use Rattle.statement.specs.Companions.{MakingAccepts, MakingOnly, MakesFresh, Named, RefusedLeaves, Companions, GraceCompanions}
 use Rattle.statement.specs.Quiescent.{QuiescentCompanions, ObservedNeverFalls, FreesSurely, quiescent-alike, observed-alike, frees-surely-alike}
 use Rattle.statement.specs.FreeSlot.{FindsFreeSlot, finds-free-slot-alike}
+use Rattle.statement.specs.NeverShared.{NeverShared, never-shared-alike}
 use Rattle.statement.specs.Alike.{fresh-alike, after-alike, events-alike, demand3-alike, companions-alike, grace-companions-alike, making-accepts-alike, making-only-alike, makes-fresh-alike, looks-in-range-alike, first-table-until-swap-alike}
 use Rattle.publication_law.specs.DamageLaws.{zero-damaged}
 use Rattle.publication_law.specs.Steps.{reader, publisher}
@@ -39,6 +40,7 @@ use Rattle.grace_version_law.specs.Readers as new-readers
 use Rattle.two_phase_law.specs.Steps as old-store
 use Rattle.two_phase_law.specs.Counts.{LookFacts}
 use Rattle.two_phase_law.specs.Promises as old-promises
+use Rattle.two_phase_law.specs.NeverShared.{old-never-shared}
 use Rattle.two_phase_law.specs.Readers as old-readers
 use Rattle.qsbr_law.specs.Promises as rest-promises
 use Rattle.qsbr_law.specs.Surely as rest-surely
@@ -166,6 +168,10 @@ claim-refusals kind s p slot n sound e = rw (← number-is kind) (kind-promises 
 -- With more slots than publishers, an idle publisher of the new store always finds a free slot, and its claim of that slot is accepted.
 pub finds-free-slot : FindsFreeSlot (store (kindNumber new))
 finds-free-slot = finds-free-slot-alike (storeOf new) (store (kindNumber new)) (alike new) new-promises.new-finds-free-slot
+
+-- In the old store no RAISE is shared, after every list of calls from fresh: each accepted one raises the version.
+pub never-shared : NeverShared (store (kindNumber old))
+never-shared = never-shared-alike (storeOf old) (store (kindNumber old)) (alike old) old-never-shared
 
 -- What a WALK says, on words of each kind: reply and record are those of the looks made; waiting names the one that did not pass, spent says that all b looks passed.
 pub walk-facts-new : (s : State) (p b : ℕ) → kindWord (s .words) ≡ kindNumber new → accepted (anyStep s (Walk p b) .reply) ≡ true

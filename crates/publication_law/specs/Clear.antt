@@ -86,10 +86,10 @@ good-in-range table good = no-below (λ k. outOfRange (entryOf table k)) (length
 pub good-steps : (table : List ℤ) → GoodTable table → anySteep table ≡ false
 good-steps table good = no-below (λ k. steep (entryOf table k) (entryOf table (k + 1))) (length table - 1) (λ k l. good .steps-bounded k (omega (arith, good .long)))
 
--- What making asks is what its rows ask, where the last version is the one up to which versions fit.
-module _ (ofParticipants : Bool) (vs : Versions) (z : Given) (s : State) (last : ℕ) where
-  pub making-fits : (vs .tooLarge (z .version) ≡ false → z .version ≤ last) → MakingClear ofParticipants vs z s → MakingFits ofParticipants last z s
-  making-fits to-last f = record {
+-- What making asks is what its rows ask, where the greatest version is the one up to which versions fit.
+module _ (ofParticipants : Bool) (vs : Versions) (z : Given) (s : State) (greatest : ℕ) where
+  pub making-fits : (vs .tooLarge (z .version) ≡ false → z .version ≤ greatest) → MakingClear ofParticipants vs z s → MakingFits ofParticipants greatest z s
+  making-fits to-greatest f = record {
     words-long = f .long;
     readers-low = f .readers-low;
     readers-high = f .readers-high;
@@ -99,11 +99,11 @@ module _ (ofParticipants : Bool) (vs : Versions) (z : Given) (s : State) (last :
     slots-low = f .slots-low;
     slots-high = f .slots-high;
     entries-long = f .entries-are;
-    version-high = to-last (f .version-fits);
+    version-high = to-greatest (f .version-fits);
     table-good = table-is-good ofParticipants vs z s f;
   }
 
-  pub fitting-clear : (z .version ≤ last → vs .tooLarge (z .version) ≡ false) → MakingFits ofParticipants last z s → AllClear (makingTests ofParticipants vs z s)
+  pub fitting-clear : (z .version ≤ greatest → vs .tooLarge (z .version) ≡ false) → MakingFits ofParticipants greatest z s → AllClear (makingTests ofParticipants vs z s)
   fitting-clear fits f = making-rows ofParticipants vs z s (record {
     long = f .words-long;
     readers-low = f .readers-low;

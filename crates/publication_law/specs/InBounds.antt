@@ -11,7 +11,7 @@ use Rattle.layout.specs.Layout.{WORDS, readers, publishers, slots, version, rea
 use Rattle.statement.specs.Machine.{State}
 use Rattle.publication_law.specs.Steps.{Versions, upTo, reader, publisher}
 use Rattle.publication_law.specs.Damage.{DamageRules}
-use Rattle.publication_law.specs.DamageLaws.{Undamaged}
+use Rattle.publication_law.specs.DamageLaws.{Undamaged, UndamagedPublisher}
 use Rattle.publication_law.specs.KindLaw.{KindLaw, undamaged-publisher}
 use Rattle.publication_law.specs.Table.{Table, damaged}
 use Rattle.publication_law.specs.Calls.{undamaged-facts}
@@ -34,9 +34,8 @@ in-bounds K law s f = record {
   held-below = λ p l e. undamaged-publisher law (readers (s .words)) (slots (s .words)) (publisher s p) (f .publishers-undamaged p l) .held-below e;
 }
 
--- From 35 to 38 a publisher's mark is not 0, and it waited at most as often as it looked.
+-- From 35 to 38 a publisher waited at most as often as it looked.
 pub record Synchronising (y : Publisher) : Type 0 where
-  pub mark-low : 1 ≤ y .walk .mark
   pub waits-low : y .walk .waits ≤ y .walk .looks
 
 module _ (T : Table) (law : KindLaw (T .damage)) (s : State) (no-damage : damaged T s ≡ false) where
@@ -49,7 +48,12 @@ module _ (T : Table) (law : KindLaw (T .damage)) (s : State) (no-damage : damage
   pub version-low : (last : ℕ) → T .damage .versions ≡ upTo last → version (s .words) ≤ last
   version-low last up = ltb-false last (version (s .words)) (sym (ap (λ (vs : Versions). vs .tooLarge (version (s .words))) up) ∙ undamaged-facts T s no-damage .head .version-fits)
 
-  pub synchronising-of : (p : ℕ) → p < publishers (s .words) → PLACE-SYNCHRONISING ≤ publisher s p .place → Synchronising (publisher s p)
-  synchronising-of p named late =
-      let f = undamaged-publisher law (readers (s .words)) (slots (s .words)) (publisher s p) (undamaged-facts T s no-damage .publishers-undamaged p named) in
-      record { mark-low = law .versions-law .mark-low _ (f .mark-fits late); waits-low = f .waits-low late }
+  module _ (p : ℕ) (named : p < publishers (s .words)) (late : PLACE-SYNCHRONISING ≤ publisher s p .place) where
+    late-undamaged : UndamagedPublisher (T .damage .versions) (slots (s .words)) (publisher s p)
+    late-undamaged = undamaged-publisher law (readers (s .words)) (slots (s .words)) (publisher s p) (undamaged-facts T s no-damage .publishers-undamaged p named)
+
+    pub mark-fits-of : T .damage .versions .wrongMark (publisher s p .walk .mark) ≡ false
+    mark-fits-of = late-undamaged .mark-fits late
+
+    pub synchronising-of : Synchronising (publisher s p)
+    synchronising-of = record { waits-low = late-undamaged .waits-low late }

@@ -15,24 +15,26 @@ use Rattle.publication_law.specs.Steps.{Versions, upTo}
 use Rattle.publication_law.specs.Damage.{DamageRules, publisherRows}
 use Rattle.publication_law.specs.DamageLaws.{UndamagedPublisher, publisher-of, publisher-to}
 
--- Of its versions: one before a mark is the version that it was made at, and a mark that fits is the one made there; a SYNC that is not refused gives a mark that fits,
--- and such a mark is not 0 and is a version that fits.
+-- Of its versions: one before a mark is the version that it was made at, if that fits, and a mark that fits is the one made there; a SYNC that is not refused gives a mark that fits,
+-- and such a mark is a version that fits.
 pub record VersionsLaw (vs : Versions) : Type 0 where
-  pub before-mark : (ver : ℕ) → vs .beforeMark (vs .markAt ver) ≡ ver
+  pub before-mark : (ver : ℕ) → vs .tooLarge ver ≡ false → vs .beforeMark (vs .markAt ver) ≡ ver
   pub mark-after : (mark : ℕ) → vs .wrongMark mark ≡ false → vs .markAt (vs .beforeMark mark) ≡ mark
   pub mark-fits : (ver : ℕ) → vs .tooLarge ver ≡ false → vs .isLast ver ≡ false → vs .wrongMark (vs .markAt ver) ≡ false
-  pub mark-low : (mark : ℕ) → vs .wrongMark mark ≡ false → 1 ≤ mark
   pub raised-fits : (mark : ℕ) → vs .wrongMark mark ≡ false → vs .tooLarge mark ≡ false
 
 pub up-to-law : (last : ℕ) → VersionsLaw (upTo last)
 up-to-law last = record {
-  before-mark = λ ver. omega arith;
+  before-mark = λ ver fits. omega arith;
   mark-after = λ mark e. let ne = eqb-false mark 0 (or-false (eqb mark 0) (ltb last mark) e .0) in omega arith;
   mark-fits = λ ver fits not-last. let l = ltb-false last ver fits in let ne = eqb-false ver last not-last in
       neither (eqb (upTo last .markAt ver) 0) (ltb last (upTo last .markAt ver)) (ne-eqb (upTo last .markAt ver) 0 (λ eq. omega arith)) (le-ltb last (upTo last .markAt ver) (omega arith));
-  mark-low = λ mark e. let ne = eqb-false mark 0 (or-false (eqb mark 0) (ltb last mark) e .0) in omega arith;
   raised-fits = λ mark e. or-false (eqb mark 0) (ltb last mark) e .1;
 }
+
+-- A mark up to a last version is not 0.
+pub up-to-mark-low : (last mark : ℕ) → upTo last .wrongMark mark ≡ false → 1 ≤ mark
+up-to-mark-low last mark e = let ne = eqb-false mark 0 (or-false (eqb mark 0) (ltb last mark) e .0) in omega arith
 
 -- Of its damage test: an undamaged reader at 5 has picked a slot of the store; a publisher is damaged by the shared rows and by what the kind adds,
 -- which is nothing below 35 and every place above 38.

@@ -69,10 +69,10 @@ pub record KindShows (R : SectionRules) (traits : GraceTraits) : Type 1 where
   pub successor-is : traits .successor ≡ R .damage .versions .markAt
   pub raises-in : (phase : Phase) → traits .every .raisesIn phase ≡ R .raisesAt (firstPlace phase)
   pub walks-in : (phase : Phase) → traits .every .walksIn phase ≡ R .walksAt (firstPlace phase)
-  -- versions up to the last fit, and below it a SYNC is not refused
-  pub last-fits : (ver : ℕ) → ver ≤ traits .every .last → R .damage .versions .tooLarge ver ≡ false
-  pub fits-to-last : (ver : ℕ) → R .damage .versions .tooLarge ver ≡ false → ver ≤ traits .every .last
-  pub below-last : (ver : ℕ) → ver < traits .every .last → R .damage .versions .isLast ver ≡ false
+  -- versions up to the greatest fit, and at one that is not the last a SYNC is not refused
+  pub greatest-fits : (ver : ℕ) → ver ≤ traits .every .greatest → R .damage .versions .tooLarge ver ≡ false
+  pub fits-to-greatest : (ver : ℕ) → R .damage .versions .tooLarge ver ≡ false → ver ≤ traits .every .greatest
+  pub not-last : (ver : ℕ) → R .damage .versions .tooLarge ver ≡ false → traits .isLast ver ≡ false → R .damage .versions .isLast ver ≡ false
   pub KindInvariant : Ghost → State → Type 0
   pub start-own : (z : Given) (s : State) → MakingClear false (R .damage .versions) z s → KindInvariant (ghost₀ (z .readers) (z .table)) (made (R .damage .number) (R .freshReader) z s)
   pub fresh-is : (z : Given) → R .freshReader ≡ blankReader (traits .every .freshPublished z)
@@ -313,8 +313,8 @@ module _ (R : SectionRules) (traits : GraceTraits) (L : KindShows R traits) wher
     shared-calls : SharedCalls (R .exclusive) (retires (R .damage .number)) (machine (tableBy R)) s
     shared-calls = shared-calls-of R s undamaged-now
 
-    syncs-on : (p : ℕ) → p < z .publishers → g .tally .phase p ≡ swapped → version (s .words) < traits .every .last → accepted (step (tableBy R) s (Sync p) .reply) ≡ true
-    syncs-on p pn ph low = rw (accepts (Sync p) refl (named-publisher (R .damage) z g s (i .shared .every) p pn, (negated _ (eq-eqb (publisher s p .place) 34 (placed (R .damage) z g s (i .shared .every) p swapped ph)), (L .below-last (version (s .words)) low, tt)))) refl
+    syncs-on : (p : ℕ) → p < z .publishers → g .tally .phase p ≡ swapped → traits .isLast (version (s .words)) ≡ false → accepted (step (tableBy R) s (Sync p) .reply) ≡ true
+    syncs-on p pn ph more = rw (accepts (Sync p) refl (named-publisher (R .damage) z g s (i .shared .every) p pn, (negated _ (eq-eqb (publisher s p .place) 34 (placed (R .damage) z g s (i .shared .every) p swapped ph)), (L .not-last (version (s .words)) (i .shared .every .no-damage .head .version-fits) more, tt)))) refl
 
     -- Whether RAISE and WALK are in turn is told by the phase.
     turn-told : (f : ℕ → Bool) → ((pl : ℕ) → pl ≤ PLACE-SWAPPED → f pl ≡ false) → (p : ℕ) → p < publishers (s .words) → f (firstPlace (g .tally .phase p)) ≡ f (publisher s p .place)
@@ -494,12 +494,12 @@ module _ (R : SectionRules) (traits : GraceTraits) (L : KindShows R traits) wher
   pub making-accepts-of : MakingAccepts (machine (tableBy R)) (traits .every)
   unfolding making
   making-accepts-of z s = rw (L .apart-is) (λ fit. rw (decide-accepts (makingTests false (R .damage .versions) z s) (outcome Made (made (R .damage .number) (R .freshReader) z s)) s
-      (fitting-clear false (R .damage .versions) z s (traits .every .last) (L .last-fits (z .version)) fit)) refl)
+      (fitting-clear false (R .damage .versions) z s (traits .every .greatest) (L .greatest-fits (z .version)) fit)) refl)
 
   pub making-only-of : MakingOnly (machine (tableBy R)) (traits .every)
   unfolding making
-  making-only-of z s = rw (L .apart-is) (decided (λ (o : Outcome). accepted (o .reply) ≡ true → MakingFits false (traits .every .last) z s) (makingTests false (R .damage .versions) z s) (outcome Made (made (R .damage .number) (R .freshReader) z s)) s refl
-      (λ f _. making-fits false (R .damage .versions) z s (traits .every .last) (L .fits-to-last (z .version)) (making-clear false (R .damage .versions) z s f))
+  making-only-of z s = rw (L .apart-is) (decided (λ (o : Outcome). accepted (o .reply) ≡ true → MakingFits false (traits .every .greatest) z s) (makingTests false (R .damage .versions) z s) (outcome Made (made (R .damage .number) (R .freshReader) z s)) s refl
+      (λ f _. making-fits false (R .damage .versions) z s (traits .every .greatest) (L .fits-to-greatest (z .version)) (making-clear false (R .damage .versions) z s f))
       (λ ok. clash (sym ok)))
 
   -- A WALK with no looks that replies spent leaves the whole state as it was.

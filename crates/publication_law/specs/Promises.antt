@@ -118,7 +118,7 @@ module _ (R : SectionRules) (traits : GraceTraits) (L : KindShows R traits) wher
       })
       (λ e. let m = publisher-moves no-damage p (publisher s p atPlace PLACE-RAISED) lt in
       record {
-        raised = λ q. absurd (eqb-false _ _ e (sym (L .kind-law .versions-law .before-mark (version (s .words))) ∙ ap (R .damage .versions .beforeMark) q));
+        raised = λ q. absurd (eqb-false _ _ e (sym (L .kind-law .versions-law .before-mark (version (s .words)) (no-damage .head .version-fits)) ∙ ap (R .damage .versions .beforeMark) q));
         shared = λ ne. (refl, m .version-is);
         record-is = publisher-written m;
       }))

@@ -34,7 +34,7 @@ pub record Versions : Type 0 where
   -- one before a mark
   pub beforeMark : ℕ → ℕ
 
--- The last version is a fixed number of each kind of store: none is above it, a mark is neither 0 nor above it, mark = version + 1.
+-- Versions up to a last one, which is a fixed number of a kind: none is above it, a mark is neither 0 nor above it, mark = version + 1.
 abbrev pub upTo : ℕ → Versions
 upTo last = record { tooLarge = λ ver. ltb last ver; isLast = λ ver. eqb ver last; wrongMark = λ mark. eqb mark 0 || ltb last mark; markAt = λ ver. ver + 1; beforeMark = λ mark. mark - 1 }
 

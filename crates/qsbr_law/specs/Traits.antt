@@ -8,7 +8,7 @@ use Rattle.qsbr_law.specs.Steps.{lacks}
 abbrev pub traits : Traits
 traits = record {
   firstTable = λ z. z .table;
-  last = 18446744073709551615;
+  greatest = 18446744073709551615;
   lacks = lacks;
   exclusive = false;
   ofParticipants = true;

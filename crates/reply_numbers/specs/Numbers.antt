@@ -8,13 +8,12 @@ use Rattle.calls.specs.Numbers.{READERS-MAX, PUBLISHERS-MAX, SLOTS-MIN, SLOTS-M
 use Rattle.calls.specs.ReplyNumbers.{pitchNumber}
 use Rattle.layout.specs.Layout.{WORDS}
 use Rattle.grace_version_law.specs.Steps as new-store
-use Rattle.two_phase_law.specs.Steps as old-store
 use Rattle.qsbr_law.specs.Steps as rest-store
 
 abbrev pub limits : List ℕ
 limits =
     WORDS ∷ KIND-NEW ∷ KIND-OLD ∷ READERS-MAX ∷ PUBLISHERS-MAX ∷ SLOTS-MIN ∷ SLOTS-MAX ∷ TABLE
-    ∷ pitchNumber PITCH-LOW ∷ pitchNumber PITCH-HIGH ∷ pitchNumber FEATHERED ∷ NOT-READING ∷ new-store.LAST ∷ old-store.LAST ∷ pitchNumber STEP-MAX ∷ PITCH-BYTES
+    ∷ pitchNumber PITCH-LOW ∷ pitchNumber PITCH-HIGH ∷ pitchNumber FEATHERED ∷ NOT-READING ∷ new-store.LAST ∷ pitchNumber STEP-MAX ∷ PITCH-BYTES
     ∷ KIND-REST ∷ rest-store.LAST ∷ DEFERRED-MAX ∷ []
 
 abbrev pub refusals : List ℕ

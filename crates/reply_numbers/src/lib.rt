@@ -69,7 +69,7 @@ pub fn numbers_of(reply: Reply) -> ReplyNumbers
 }
 
 // How many numbers of each sort the header names.
-const LIMITS: usize = 19;
+const LIMITS: usize = 18;
 
 const REFUSALS: usize = 22;
 
@@ -105,7 +105,6 @@ fn limit(which: usize) -> u64
         feathered,
         calls::NOT_READING,
         grace_version_law::LAST,
-        two_phase_law::LAST,
         step,
         calls::PITCH_BYTES,
         calls::KIND_REST,

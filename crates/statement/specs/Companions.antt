@@ -28,8 +28,8 @@ use Rattle.statement.specs.Machine.{State, outcome, Given, Machine, Fres
 pub record Traits : Type 0 where
   -- the first table of a store made so
   pub firstTable : Given → List ℤ
-  -- the last version
-  pub last : ℕ
+  -- the greatest version
+  pub greatest : ℕ
   -- the calls that it lacks
   pub lacks : Call → Bool
   -- whether a claim needs that every other publisher is idle
@@ -49,6 +49,8 @@ pub record GraceTraits : Type 0 where
   pub every : Traits
   -- how many looks of a walk pass before it returns
   pub passes : Given → ℕ
+  -- the version at which no SYNC is accepted; where versions run modulo 2^64 there is none
+  pub isLast : ℕ → Bool
   -- the mark of a synchronise at a version: the version's successor
   pub successor : ℕ → ℕ
   -- the place that follows a reader's place
@@ -60,8 +62,8 @@ pub record GoodTable (table : List ℤ) : Type 0 where
   pub in-range : (k : ℕ) → k < TABLE → outOfRange (entryOf table k) ≡ false
   pub steps-bounded : (k : ℕ) → k + 1 < TABLE → steep (entryOf table k) (entryOf table (k + 1)) ≡ false
 
--- What making asks, in a kind of participants or not and with this last version: lent words and entries of the right lengths, sizes and version in range, a good table.
-pub record MakingFits (ofParticipants : Bool) (last : ℕ) (z : Given) (s : State) : Type 0 where
+-- What making asks, in a kind of participants or not and with this greatest version: lent words and entries of the right lengths, sizes and version in range, a good table.
+pub record MakingFits (ofParticipants : Bool) (greatest : ℕ) (z : Given) (s : State) : Type 0 where
   pub words-long : length (s .words) ≡ WORDS
   pub readers-low : 1 ≤ z .readers
   pub readers-high : z .readers ≤ READERS-MAX
@@ -71,15 +73,15 @@ pub record MakingFits (ofParticipants : Bool) (last : ℕ) (z : Given) (s : Stat
   pub slots-low : SLOTS-MIN ≤ z .slots
   pub slots-high : z .slots ≤ SLOTS-MAX
   pub entries-long : length (s .entries) ≡ z .slots * TABLE
-  pub version-high : z .version ≤ last
+  pub version-high : z .version ≤ greatest
   pub table-good : GoodTable (z .table)
 
 -- Such a making is accepted, and no other.
 abbrev pub MakingAccepts : Machine → Traits → Type 0
-MakingAccepts M traits = (z : Given) (s : State) → MakingFits (traits .ofParticipants) (traits .last) z s → M .making z s .reply ≡ Made
+MakingAccepts M traits = (z : Given) (s : State) → MakingFits (traits .ofParticipants) (traits .greatest) z s → M .making z s .reply ≡ Made
 
 abbrev pub MakingOnly : Machine → Traits → Type 0
-MakingOnly M traits = (z : Given) (s : State) → accepted (M .making z s .reply) ≡ true → MakingFits (traits .ofParticipants) (traits .last) z s
+MakingOnly M traits = (z : Given) (s : State) → accepted (M .making z s .reply) ≡ true → MakingFits (traits .ofParticipants) (traits .greatest) z s
 
 -- A fresh store, to the letter: entry k of every slot is entry k of the lent table, which is a good one; sizes and version as given; slot 0 current, readers and publishers at place 0, published versions as the kind's fresh readers have them,
 -- and every other number 0.
@@ -183,7 +185,7 @@ pub record GraceStateCompanions (M : Machine) (traits : GraceTraits) (z : Given)
   pub idle-only-if : (p : ℕ) → u .phase p ≡ idle → (slot : ℕ) → holds t p slot ≡ false
   -- its next call is accepted after its SWAP too: it synchronises unless the version is the last,
   -- raises and walks each in its phases, a WALK unless its looks could pass 2^64 - 1 (33), and releases what it held
-  pub syncs : (p : ℕ) → p < z .publishers → u .phase p ≡ swapped → version (s .words) < traits .every .last → accepted (M .step s (Sync p) .reply) ≡ true
+  pub syncs : (p : ℕ) → p < z .publishers → u .phase p ≡ swapped → traits .isLast (version (s .words)) ≡ false → accepted (M .step s (Sync p) .reply) ≡ true
   pub raises : (p : ℕ) → p < z .publishers → traits .every .raisesIn (u .phase p) ≡ true → accepted (M .step s (Raise p) .reply) ≡ true
   pub walks : (p b : ℕ) → p < z .publishers → traits .every .walksIn (u .phase p) ≡ true → publisherAt (s .words) p .walk .looks + b ≤ NUMBER-MAX → accepted (M .step s (Walk p b) .reply) ≡ true
   pub frees : (p : ℕ) → p < z .publishers → u .phase p ≡ returned

@@ -98,14 +98,14 @@ sizes =
     ∷ on (readersTo 64 ∷ publishersTo 16 ∷ slotsTo 32 ∷ entriesTo 1024 ∷ []) (Enter 0) (At 1)
     ∷ []
 
--- A wrong entries' length; current slot or version too large; the last slot and the last version.
+-- A wrong entries' length; current slot or version too large; the last slot and the greatest version.
 abbrev pub headNumbers : ℕ → List Case
-headNumbers last =
+headNumbers greatest =
     on (entriesTo 63 ∷ []) (Enter 0) (Refused 1)
     ∷ on (entriesTo 65 ∷ []) (Enter 0) (Refused 1)
     ∷ on (currentTo 2 ∷ []) (Enter 0) (Refused 1)
-    ∷ on (versionTo (last + 1) ∷ []) (Enter 0) (Refused 1)
-    ∷ on (currentTo 1 ∷ versionTo last ∷ []) (Enter 0) (At 1)
+    ∷ on (versionTo (greatest + 1) ∷ []) (Enter 0) (Refused 1)
+    ∷ on (currentTo 1 ∷ versionTo greatest ∷ []) (Enter 0) (At 1)
     ∷ []
 
 -- A place that no kind has: 6 of a reader, 39 of a publisher.
@@ -127,13 +127,13 @@ heldSlots =
     ∷ on (publisherTo 0 (publisherAs 0 2 0 0 0 0) ∷ []) (Enter 0) (At 1)
     ∷ []
 
--- At a place from 35 to 38 a mark of 0 or above the last, or waits above looks; the last mark with as many waits as looks.
-abbrev pub walking : ℕ → ℕ → List Case
-walking last place =
-    on (publisherTo 0 (publisherAs place 1 0 0 0 0) ∷ []) (Enter 0) (Refused 1)
-    ∷ on (publisherTo 0 (publisherAs place 1 (last + 1) 0 0 0) ∷ []) (Enter 0) (Refused 1)
+-- At a place from 35 to 38 a mark of 0, which gets this reply; a mark above the greatest, or waits above looks; the greatest mark with as many waits as looks.
+abbrev pub walking : ℕ → Reply → ℕ → List Case
+walking greatest reply place =
+    on (publisherTo 0 (publisherAs place 1 0 0 0 0) ∷ []) (Enter 0) reply
+    ∷ on (publisherTo 0 (publisherAs place 1 (greatest + 1) 0 0 0) ∷ []) (Enter 0) (Refused 1)
     ∷ on (publisherTo 0 (publisherAs place 1 1 0 4 5) ∷ []) (Enter 0) (Refused 1)
-    ∷ on (publisherTo 0 (publisherAs place 1 last 0 5 5) ∷ []) (Enter 0) (At 1)
+    ∷ on (publisherTo 0 (publisherAs place 1 greatest 0 5 5) ∷ []) (Enter 0) (At 1)
     ∷ []
 
 -- At 34 neither is tested.
@@ -156,6 +156,6 @@ unread =
     ∷ on (releasesTo 18446744073709551615 ∷ []) (Enter 0) (At 1)
     ∷ []
 
--- All of them, of a kind with this last version that retires no slots.
-abbrev pub sharedCases : ℕ → List Case
-sharedCases last = sizes ++ (headNumbers last ++ (placeCases ++ (heldSlots ++ (walking last 35 ++ (walking last 37 ++ (walking last 38 ++ (before35 ∷ (beyond ++ unread))))))))
+-- All of them, of a kind with this greatest version and this reply at a mark of 0 that retires no slots.
+abbrev pub sharedCases : ℕ → Reply → List Case
+sharedCases greatest reply = sizes ++ (headNumbers greatest ++ (placeCases ++ (heldSlots ++ (walking greatest reply 35 ++ (walking greatest reply 37 ++ (walking greatest reply 38 ++ (before35 ∷ (beyond ++ unread))))))))

@@ -6,6 +6,7 @@ use mathlib.Core.List.{List, [], _∷_, _++_}
 use lib.IntN.{ℤ, pos, negℤ}
 use lib.ListN.{replicate}
 use Rattle.calls.specs.declared.Call.the-variants.{Enter, Look, Leave, Claim, Write, Swap, Sync, Raise, Walk, Release}
+use Rattle.calls.specs.declared.Reply.{Reply}
 use Rattle.calls.specs.declared.Reply.the-variants.{Made, Swapped, Walked, Freed, Refused}
 use Rattle.calls.specs.declared.WalkReply.the-variants.{Spent, Returned}
 use Rattle.layout.specs.declared.Publisher.{Publisher}
@@ -26,18 +27,18 @@ thenAll v v′ n = v ∷ replicate n v′
 -- Making: 1 before 2, 2 before 3, 3 before 4, 4 before 5, 5 before 6, 6 before 40, 40 before 41, 41 before 42.
 -- At first nothing is as it must be: words, readers, publishers, slots, entries, version, and a table of 31 entries with one out of range and far from its neighbour.
 abbrev pub makingRows : Machine → ℕ → List Example
-makingRows M last =
+makingRows M greatest =
     let short = thenAll (pos 95001) (pos 0) 30 in
-    makes M (given 0 0 1 (last + 1) short) (lent 712 31) (Refused 1)
-    ∷ makes M (given 0 0 1 (last + 1) short) (lent WORDS 31) (Refused 2)
-    ∷ makes M (given 1 0 1 (last + 1) short) (lent WORDS 31) (Refused 3)
-    ∷ makes M (given 1 1 1 (last + 1) short) (lent WORDS 31) (Refused 4)
-    ∷ makes M (given 1 1 2 (last + 1) short) (lent WORDS 31) (Refused 5)
-    ∷ makes M (given 1 1 2 (last + 1) short) (lent WORDS 64) (Refused 6)
-    ∷ makes M (given 1 1 2 last short) (lent WORDS 64) (Refused 40)
-    ∷ makes M (given 1 1 2 last (thenAll (pos 95001) (pos 0) 31)) (lent WORDS 64) (Refused 41)
-    ∷ makes M (given 1 1 2 last (thenAll (pos 95000) (pos 0) 31)) (lent WORDS 64) (Refused 42)
-    ∷ makes M (given 1 1 2 last (thenAll (pos 15000) (pos 0) 31)) (lent WORDS 64) Made
+    makes M (given 0 0 1 (greatest + 1) short) (lent 712 31) (Refused 1)
+    ∷ makes M (given 0 0 1 (greatest + 1) short) (lent WORDS 31) (Refused 2)
+    ∷ makes M (given 1 0 1 (greatest + 1) short) (lent WORDS 31) (Refused 3)
+    ∷ makes M (given 1 1 1 (greatest + 1) short) (lent WORDS 31) (Refused 4)
+    ∷ makes M (given 1 1 2 (greatest + 1) short) (lent WORDS 31) (Refused 5)
+    ∷ makes M (given 1 1 2 (greatest + 1) short) (lent WORDS 64) (Refused 6)
+    ∷ makes M (given 1 1 2 greatest short) (lent WORDS 64) (Refused 40)
+    ∷ makes M (given 1 1 2 greatest (thenAll (pos 95001) (pos 0) 31)) (lent WORDS 64) (Refused 41)
+    ∷ makes M (given 1 1 2 greatest (thenAll (pos 95000) (pos 0) 31)) (lent WORDS 64) (Refused 42)
+    ∷ makes M (given 1 1 2 greatest (thenAll (pos 15000) (pos 0) 31)) (lent WORDS 64) Made
     ∷ []
 
 -- A first table of n pairs v, v′; and one of n entries from v up by steps.
@@ -49,21 +50,21 @@ abbrev ramp : ℕ → ℕ → ℕ → List ℤ
 ramp zero v by = []
 ramp (suc n) v by = pos v ∷ ramp n (v + by) by
 
--- The ends of a first table. No entries get 40, and 33; with a first version above the last they get 6. -5001 as the last entry and 95001 as entry 16 get 41.
+-- The ends of a first table. No entries get 40, and 33; with a first version above the greatest they get 6. -5001 as the last entry and 95001 as entry 16 get 41.
 -- Steps of 15000 are made, up and down; 15001 gets 42, up between entries 15 and 16 and down at the last pair. Entries 31 and 0 are no neighbours.
 abbrev pub tableEnds : Machine → ℕ → List Example
-tableEnds M last =
-    makes M (given 1 1 2 last []) (lent WORDS 64) (Refused 40)
-    ∷ makes M (given 1 1 2 last (replicate 33 (pos 0))) (lent WORDS 64) (Refused 40)
-    ∷ makes M (given 1 1 2 (last + 1) []) (lent WORDS 64) (Refused 6)
-    ∷ makes M (given 1 1 2 last (replicate 31 (negℤ (pos 5000)) ++ (negℤ (pos 5001) ∷ []))) (lent WORDS 64) (Refused 41)
-    ∷ makes M (given 1 1 2 last (replicate 16 (pos 95000) ++ thenAll (pos 95001) (pos 95000) 15)) (lent WORDS 64) (Refused 41)
-    ∷ makes M (given 1 1 2 last (replicate 32 (negℤ (pos 5000)))) (lent WORDS 64) Made
-    ∷ makes M (given 1 1 2 last (replicate 32 (pos 95000))) (lent WORDS 64) Made
-    ∷ makes M (given 1 1 2 last (pairs 16 (negℤ (pos 5000)) (pos 10000))) (lent WORDS 64) Made
-    ∷ makes M (given 1 1 2 last (replicate 16 (negℤ (pos 5000)) ++ replicate 16 (pos 10001))) (lent WORDS 64) (Refused 42)
-    ∷ makes M (given 1 1 2 last (replicate 31 (pos 15001) ++ (pos 0 ∷ []))) (lent WORDS 64) (Refused 42)
-    ∷ makes M (given 1 1 2 last (ramp 32 0 3000)) (lent WORDS 64) Made
+tableEnds M greatest =
+    makes M (given 1 1 2 greatest []) (lent WORDS 64) (Refused 40)
+    ∷ makes M (given 1 1 2 greatest (replicate 33 (pos 0))) (lent WORDS 64) (Refused 40)
+    ∷ makes M (given 1 1 2 (greatest + 1) []) (lent WORDS 64) (Refused 6)
+    ∷ makes M (given 1 1 2 greatest (replicate 31 (negℤ (pos 5000)) ++ (negℤ (pos 5001) ∷ []))) (lent WORDS 64) (Refused 41)
+    ∷ makes M (given 1 1 2 greatest (replicate 16 (pos 95000) ++ thenAll (pos 95001) (pos 95000) 15)) (lent WORDS 64) (Refused 41)
+    ∷ makes M (given 1 1 2 greatest (replicate 32 (negℤ (pos 5000)))) (lent WORDS 64) Made
+    ∷ makes M (given 1 1 2 greatest (replicate 32 (pos 95000))) (lent WORDS 64) Made
+    ∷ makes M (given 1 1 2 greatest (pairs 16 (negℤ (pos 5000)) (pos 10000))) (lent WORDS 64) Made
+    ∷ makes M (given 1 1 2 greatest (replicate 16 (negℤ (pos 5000)) ++ replicate 16 (pos 10001))) (lent WORDS 64) (Refused 42)
+    ∷ makes M (given 1 1 2 greatest (replicate 31 (pos 15001) ++ (pos 0 ∷ []))) (lent WORDS 64) (Refused 42)
+    ∷ makes M (given 1 1 2 greatest (ramp 32 0 3000)) (lent WORDS 64) Made
     ∷ []
 
 -- The ends of making: 64 readers, 16 publishers and 32 slots on 713 words and 1024 entries are made; one more of each gets 2, 3, 4 and 1; the 425 words of 0.3.0 get 1.
@@ -101,9 +102,9 @@ writeRows M = shows M (givenFeathered 1 1 2 0) []
     (Write 1 (pos 95001) ∷ Write 0 (pos 95001) ∷ Write 0 (pos 95000) ∷ [])
     (Made ∷ Refused 11 ∷ Refused 14 ∷ Refused 21 ∷ [])
 
--- SYNC at the last version, at place 33 and at 34: 21 before 32.
-abbrev pub syncRows : Machine → ℕ → Example
-syncRows M last = shows M (givenFeathered 1 1 2 last) (claimAndWrite 0 1 (pos 100)) (Sync 0 ∷ Swap 0 ∷ Sync 0 ∷ []) (Made ∷ Refused 21 ∷ Swapped 0 ∷ Refused 32 ∷ [])
+-- SYNC at the greatest version, at place 33 and at 34: 21 before 32, or before it is synced.
+abbrev pub syncRows : Machine → ℕ → Reply → Example
+syncRows M greatest reply = shows M (givenFeathered 1 1 2 greatest) (claimAndWrite 0 1 (pos 100)) (Sync 0 ∷ Swap 0 ∷ Sync 0 ∷ []) (Made ∷ Refused 21 ∷ Swapped 0 ∷ reply ∷ [])
 
 -- States put together by hand: a fresh store, and what is changed in it.
 abbrev pub freshOf : Machine → Given → State
@@ -137,7 +138,7 @@ walkRows M =
     ∷ each M (withPublisherAs (freshOf M small) 0 (looked 37 18446744073709551614)) (Walk 0 2 ∷ Walk 0 1 ∷ []) (Refused 33 ∷ Walked (Returned 18446744073709551615 0) ∷ [])
     ∷ []
 
--- All of them, of a kind with this last version and so many ENTERs to place 5.
-abbrev pub sharedRows : Machine → ℕ → ℕ → List Example
-sharedRows M last n =
-    makingRows M last ++ (tableEnds M last ++ (makingEnds M ++ (damagedRows M ++ (walkRows M ++ (lookRows M ∷ claimRows M ∷ writeRows M ∷ syncRows M last ∷ nameRows M ∷ enterRows M n ∷ [])))))
+-- All of them, of a kind with this greatest version, this reply to a SYNC at it and so many ENTERs to place 5.
+abbrev pub sharedRows : Machine → ℕ → Reply → ℕ → List Example
+sharedRows M greatest reply n =
+    makingRows M greatest ++ (tableEnds M greatest ++ (makingEnds M ++ (damagedRows M ++ (walkRows M ++ (lookRows M ∷ claimRows M ∷ writeRows M ∷ syncRows M greatest reply ∷ nameRows M ∷ enterRows M n ∷ [])))))

@@ -35,9 +35,9 @@ pub record QuiescentStateCompanions (M : Machine) (traits : Traits) (z : Given) 
   pub looks-not-before : (r k : ℕ) → r < z .readers → k < TABLE → u .place r ≢ PLACE-PICKED → M .step s (Look r k) .reply ≡ Refused READER-TURN
   pub claims-not-in-use : (p slot : ℕ) → p < z .publishers → slot < z .slots → u .phase p ≡ idle → ¬ Has t slot free → M .step s (Claim p slot) .reply ≡ Refused SLOT-IN-USE
   -- DEFER after a SWAP, outside a checkpoint: 43 at the last epoch, then 44 with eight slots told deferred, else it replies 35; and after that 0. In every other phase, and inside a checkpoint, it gets 21
-  pub defers : (p : ℕ) → p < z .publishers → OutsideCheckpoint t p → u .phase p ≡ swapped → version (s .words) < traits .last → deferredBy (t .deferral) p (z .slots) < DEFERRED-MAX → M .step s (Defer p) .reply ≡ At PLACE-DEFERRING
-  pub defers-not-at-last : (p : ℕ) → p < z .publishers → OutsideCheckpoint t p → u .phase p ≡ swapped → version (s .words) ≡ traits .last → M .step s (Defer p) .reply ≡ Refused EPOCH-IS-LAST
-  pub defers-not-with-eight : (p : ℕ) → p < z .publishers → OutsideCheckpoint t p → u .phase p ≡ swapped → version (s .words) < traits .last → deferredBy (t .deferral) p (z .slots) ≡ DEFERRED-MAX
+  pub defers : (p : ℕ) → p < z .publishers → OutsideCheckpoint t p → u .phase p ≡ swapped → version (s .words) < traits .greatest → deferredBy (t .deferral) p (z .slots) < DEFERRED-MAX → M .step s (Defer p) .reply ≡ At PLACE-DEFERRING
+  pub defers-not-at-last : (p : ℕ) → p < z .publishers → OutsideCheckpoint t p → u .phase p ≡ swapped → version (s .words) ≡ traits .greatest → M .step s (Defer p) .reply ≡ Refused EPOCH-IS-LAST
+  pub defers-not-with-eight : (p : ℕ) → p < z .publishers → OutsideCheckpoint t p → u .phase p ≡ swapped → version (s .words) < traits .greatest → deferredBy (t .deferral) p (z .slots) ≡ DEFERRED-MAX
       → M .step s (Defer p) .reply ≡ Refused TOO-MANY-DEFERRED
   pub queues : (p : ℕ) → p < z .publishers → OutsideCheckpoint t p → u .phase p ≡ synchronising → M .step s (Defer p) .reply ≡ At PLACE-IDLE
   pub defers-not-before : (p : ℕ) → p < z .publishers → u .phase p ≢ swapped → u .phase p ≢ synchronising → M .step s (Defer p) .reply ≡ Refused PUBLISHER-TURN

@@ -1,4 +1,4 @@
-// The old store's damage test, and its last version.
+// The old store's damage test.
 // One pass over the readers in use tests them and counts, for each parity, those at 4 or 5 whose loaded version has it.
 // Its contracts cite two_phase_law.
 ghost use mathlib.Core.Path.{_≡_};
@@ -14,6 +14,7 @@ ghost use Rattle.statement.specs.Machine.{state};
 ghost use Rattle.publication_law.specs.Damage.{headRows, readersAreDamaged, publishersAreDamaged};
 ghost use Rattle.two_phase_law.specs.Steps.{damageRules, miscountedAt, rules};
 use calls::KIND_OLD;
+use calls::NUMBER_MAX;
 use calls::PLACE_IDLE;
 use calls::PLACE_OPEN;
 use calls::PLACE_PICKED;
@@ -32,7 +33,6 @@ use layout::reader_place;
 use layout::readers_of;
 use layout::slots_of;
 use publication_damage::head_damaged_of_kind;
-use two_phase_law::LAST;
 
 // Whether one of the first n readers is damaged, or an indicator is unlike the number of them that added to it.
 fn first_readers_damaged(words: &[u64], n: u64, slots: u64) -> bool
@@ -85,10 +85,8 @@ fn publisher_damaged(words: &[u64], p: usize, slots: u64) -> bool
     if place > PLACE_RETURNED {
         return true;
     }
+    // every mark is good
     let walk = y.walk;
-    if (walk.mark == 0) | (walk.mark > LAST) {
-        return true;
-    }
     walk.waits > walk.looks
 }
 
@@ -111,7 +109,7 @@ pub fn head_is_damaged(words: &[u64], entries: usize) -> bool
     ensures { λ b. ⌜ ((es : List ℤ) → length es ≡ entries →
         b ≡ anyTrue (headRows damageRules (state (now (words .entry)) es))) ⌝ }
 {
-    head_damaged_of_kind(words, entries, KIND_OLD, LAST)
+    head_damaged_of_kind(words, entries, KIND_OLD, NUMBER_MAX)
 }
 
 // Whether the readers or the indicators damage it.

@@ -37,7 +37,7 @@ indicators =
     ∷ []
 
 unfoldable pub clauses : List Case
-clauses = ownPlaces ++ (indicators ++ (walking 9223372036854775807 36 ++ sharedCases 9223372036854775807))
+clauses = ownPlaces ++ (indicators ++ (walking 18446744073709551615 (At 1) 36 ++ sharedCases 18446744073709551615 (At 1)))
 
 pub fresh-spelled : freshOf TwoPhase small ≡ spelled KIND-OLD NOT-READING
 unfolding withReader withReaders freshWords anyBelow making tables

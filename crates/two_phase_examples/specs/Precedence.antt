@@ -5,7 +5,7 @@ use mathlib.Core.Bool.{false}
 use mathlib.Core.List.{List, [], _∷_}
 use Rattle.base.specs.Rows.{anyBelow, countBelow}
 use Rattle.calls.specs.declared.Call.the-variants.{Claim}
-use Rattle.calls.specs.declared.Reply.the-variants.{Made, Claimed, Refused}
+use Rattle.calls.specs.declared.Reply.the-variants.{Made, Claimed, Synced, Refused}
 use Rattle.calls.specs.Numbers.{PLACE-CLAIMED}
 use Rattle.calls.specs.FirstTable.{tables}
 use Rattle.layout.specs.declared.Publisher.{Publisher}
@@ -43,7 +43,7 @@ abbrev pub turnRows : Example
 turnRows = each TwoPhase bothClaimed (Claim 0 3 ∷ Claim 2 3 ∷ []) (Refused 21 ∷ Refused 31 ∷ [])
 
 unfoldable pub inOrder : List Example
-inOrder = busyRows ∷ turnRows ∷ sharedRows TwoPhase 9223372036854775807 3
+inOrder = busyRows ∷ turnRows ∷ sharedRows TwoPhase 18446744073709551615 (Synced 0) 3
 
 pub precedence : AllHold inOrder
 unfolding inOrder indicator readerAt publisherAt withReader withPublisher withReaders freshWords anyBelow countBelow damaged onward lookAt step making tables

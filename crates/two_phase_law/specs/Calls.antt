@@ -16,7 +16,7 @@ use Rattle.base.specs.RowLaws.{clash, choose-split, or-false, count-zero}
 use Rattle.calls.specs.declared.Call.the-variants.{Enter, Leave}
 use Rattle.calls.specs.declared.Reply.the-variants.{At, Left}
 use Rattle.calls.specs.declared.WalkReply.the-variants.{Waiting, Spent, Quiet, Returned}
-use Rattle.calls.specs.Numbers.{READERS-MAX, PLACE-OUT, PLACE-LOADED, PLACE-PUBLISHED, PLACE-OPEN, PLACE-PICKED, PLACE-SYNCHRONISING, PLACE-RAISED}
+use Rattle.calls.specs.Numbers.{READERS-MAX, MODULUS, NUMBER-MAX, PLACE-OUT, PLACE-LOADED, PLACE-PUBLISHED, PLACE-OPEN, PLACE-PICKED, PLACE-SYNCHRONISING, PLACE-RAISED}
 use Rattle.layout.specs.declared.Reader.{Reader}
 use Rattle.layout.specs.declared.Publisher.{Publisher}
 use Rattle.layout.specs.declared.WalkRecord.{WalkRecord}
@@ -29,7 +29,7 @@ use Rattle.publication_law.specs.Damage.{headRows, readersAreDamaged, publisher
 use Rattle.publication_law.specs.DamageLaws.{Undamaged}
 use Rattle.publication_law.specs.Table.{damaged, step}
 use Rattle.publication_law.specs.Calls.{undamaged, undamaged-facts, undamaged-further, damaged-readers, damaged-further, enter-accepted, leave-accepted}
-use Rattle.two_phase_law.specs.Steps.{damageRules, readerRows, addedTo, miscounted, onward, entered, leaving, lookedAt, lookAt, fixed, rules}
+use Rattle.two_phase_law.specs.Steps.{versions, damageRules, readerRows, addedTo, miscounted, onward, entered, leaving, lookedAt, lookAt, fixed, rules}
 use Rattle.two_phase_law.specs.KindInvariant.{Counted}
 use Rattle.two_phase_law.specs.Safety.{picked-rows}
 
@@ -188,6 +188,10 @@ module _ (s : State) (no-damage : damaged rules s ≡ false) where
       → w′ ≡ withIndicator (withReader (s .words) r (leaving x)) i (count - 1) → outcome Left (state w′ (s .entries)) ≡ step rules s (Leave r)
   leave-is w′ r i count x named is turn index counted put =
       rw (put, counted, index, is) (leave-accepted fixed s no-damage r x named is turn)
+
+-- The number to which one is added modulo 2^64 is one before the sum.
+pub before-is : (before mark : ℕ) → before ≤ NUMBER-MAX → (before + 1) % MODULUS ≡ mark → before ≡ versions .beforeMark mark
+before-is before mark low e = omega arith
 
 -- WALK's two places.
 pub walks-at : (pl : ℕ) → (pl ≡ PLACE-SYNCHRONISING) ⊎ (pl ≡ PLACE-RAISED) → (eqb pl PLACE-SYNCHRONISING || eqb pl PLACE-RAISED) ≡ true

@@ -4,5 +4,6 @@ pub mod KindInvariant
 pub mod Counts
 pub mod Safety
 pub mod Promises
+pub mod NeverShared
 pub mod Calls
 pub mod Readers

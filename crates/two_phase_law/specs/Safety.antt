@@ -17,7 +17,7 @@ use Rattle.calls.specs.declared.Call.the-variants.{Enter, Leave, Sync, Raise, W
 use Rattle.calls.specs.declared.Reply.the-variants.{At, Left, Synced, Walked}
 use Rattle.calls.specs.declared.WalkReply.{WalkReply}
 use Rattle.calls.specs.declared.WalkReply.the-variants.{Waiting, Spent, Quiet, Returned}
-use Rattle.calls.specs.Numbers.{READERS-MAX, KIND-OLD, PLACE-OUT, PLACE-LOADED, PLACE-PUBLISHED, PLACE-LOADED-AGAIN, PLACE-OPEN, PLACE-PICKED, PLACE-SYNCHRONISING, PLACE-QUIET, PLACE-RAISED, PLACE-RETURNED}
+use Rattle.calls.specs.Numbers.{READERS-MAX, NUMBER-MAX, KIND-OLD, PLACE-OUT, PLACE-LOADED, PLACE-PUBLISHED, PLACE-LOADED-AGAIN, PLACE-OPEN, PLACE-PICKED, PLACE-SYNCHRONISING, PLACE-QUIET, PLACE-RAISED, PLACE-RETURNED}
 use Rattle.layout.specs.declared.Reader.{Reader}
 use Rattle.layout.specs.Layout.{HEAD, INDICATORS, INDICATORS-AT, readers, publishers, slots, current, version, indicator, readerAt, withReader, withIndicator}
 use Rattle.layout.specs.Records.{_place≔_, _first≔_, _picked≔_}
@@ -31,12 +31,12 @@ use Rattle.publication_law.specs.DamageLaws.{Undamaged}
 use Rattle.publication_law.specs.Onward.{Onward}
 use Rattle.publication_law.specs.Onward.Onward.{stays-out, opens, picks}
 use Rattle.publication_law.specs.Moves.{MovesReader, reader-moves, reader-moves-indicator}
-use Rattle.publication_law.specs.KindLaw.{KindLaw, up-to-law}
+use Rattle.publication_law.specs.KindLaw.{VersionsLaw, KindLaw}
 use Rattle.publication_law.specs.Frames.{place-and-one}
 use Rattle.publication_law.specs.KindShows.{WholeInvariant, KindShows}
 use Rattle.publication_law.specs.DetectorInvariant.{invariantOf}
 use Rattle.publication_law.specs.Detector.{start-own, early-own, enter-invariant, leave-invariant, sync-invariant, raise-invariant, walk-invariant, return-from-invariant}
-use Rattle.two_phase_law.specs.Steps.{LAST, versions, damageRules, readerRows, parity, addedTo, onward, nextPlace, entered, enterWords, leaving, leaveWords, lookedAt, looksOf, lookAt, freshReader, fixed}
+use Rattle.two_phase_law.specs.Steps.{versions, damageRules, readerRows, parity, addedTo, onward, nextPlace, entered, enterWords, leaving, leaveWords, lookedAt, looksOf, lookAt, freshReader, fixed}
 use Rattle.two_phase_law.specs.Traits.{traits}
 use Rattle.two_phase_law.specs.KindInvariant.{Counted, passedAt, detector}
 use Rattle.two_phase_law.specs.Counts.{counted-to, none-added, stays-counted, arrives-counted, leaves-counted, LookFacts, look-mark, walk-places, turn-low, turn-high, look-facts}
@@ -45,9 +45,18 @@ use Rattle.two_phase_law.specs.Counts.{counted-to, none-added, stays-cou
 pub picked-rows : (ss : ℕ) (x : Reader) → x .place ≡ PLACE-PICKED → anyTrue (readerRows ss x) ≡ leb ss (x .picked)
 picked-rows ss x e = rw e (or-none (leb ss (x .picked)))
 
+-- Modulo 2^64 one before and one after undo each other, below 2^64.
+pub versions-law : VersionsLaw versions
+versions-law = record {
+  before-mark = λ ver fits. let l = ltb-false NUMBER-MAX ver fits in omega arith;
+  mark-after = λ mark e. let l = ltb-false NUMBER-MAX mark e in omega arith;
+  mark-fits = λ ver fits not-last. le-ltb NUMBER-MAX (versions .markAt ver) (omega arith);
+  raised-fits = λ mark e. e;
+}
+
 abbrev pub law : KindLaw damageRules
 law = record {
-  versions-law = up-to-law LAST;
+  versions-law = versions-law;
   reader-picked = λ rs ss x e f. leb-false ss (x .picked) (sym (picked-rows ss x e) ∙ f);
   extraDamage = λ rs y. ltb PLACE-RETURNED (y .place);
   extra-rows = λ rs ss y. refl;
@@ -160,7 +169,7 @@ module _ (z : Given) (g : Ghost) (s : State) (i : WholeInvariant damageRules (in
       (leaves-counted _ (indicator (s .words)) (readerAt (s .words)) (i .own .readers-are) r lt _ _ (ltb-false _ _ (f .1 .0)) (omega arith)
       (λ j _. changed-indicator (s .words) head-long r _ (parity (reader s r .first)) (omega arith) (λ n. n - 1) j)) refl
 
-  sync-kept : (p : ℕ) → AllClear (syncTests versions s p) → WholeInvariant damageRules (invariantOf detector) z (kept.ghostStep g (Sync p) (Synced (version (s .words) + 1))) (sync versions s p .after)
+  sync-kept : (p : ℕ) → AllClear (syncTests versions s p) → WholeInvariant damageRules (invariantOf detector) z (kept.ghostStep g (Sync p) (Synced (versions .markAt (version (s .words))))) (sync versions s p .after)
   sync-kept p f = sync-invariant detector damageRules law z g s i p f refl refl (λ r _ l. absurd (omega arith))
 
   raise-kept : (p : ℕ) → p < publishers (s .words) → eqb (publisher s p .place) PLACE-QUIET ≡ true → WholeInvariant damageRules (invariantOf detector) z (kept.ghostStep g (Raise p) (raise versions s p .reply)) (raise versions s p .after)
@@ -252,9 +261,9 @@ kind-shows = record {
   successor-is = refl;
   raises-in = λ phase. refl;
   walks-in = λ phase. refl;
-  last-fits = λ ver l. le-ltb LAST ver l;
-  fits-to-last = λ ver e. ltb-false LAST ver e;
-  below-last = λ ver l. ne-eqb ver LAST (λ e. omega arith);
+  greatest-fits = λ ver l. le-ltb NUMBER-MAX ver l;
+  fits-to-greatest = λ ver e. ltb-false NUMBER-MAX ver e;
+  not-last = λ ver fits e. fits;
   raises-late = λ pl l. ne-eqb pl 36 (λ e. omega arith);
   walks-late = λ pl l. neither (eqb pl 35) (eqb pl 37) (ne-eqb pl 35 (λ e. omega arith)) (ne-eqb pl 37 (λ e. omega arith));
   mark-stays = λ s p b. look-mark (indicator (s .words) (lookedAt (publisher s p))) (publisher s p) b;

@@ -8,24 +8,28 @@ use Rattle.base.specs.Base.{choose}
 use Rattle.base.specs.Rows.{anyTrue, countBelow}
 use Rattle.calls.specs.declared.WalkReply.{WalkReply}
 use Rattle.calls.specs.declared.WalkReply.the-variants.{Waiting, Spent, Quiet, Returned}
-use Rattle.calls.specs.Numbers.{NOT-READING, KIND-OLD, PLACE-OUT, PLACE-LOADED, PLACE-PUBLISHED, PLACE-LOADED-AGAIN, PLACE-OPEN, PLACE-PICKED, PLACE-SYNCHRONISING, PLACE-QUIET, PLACE-RAISED, PLACE-RETURNED}
+use Rattle.calls.specs.Numbers.{MODULUS, NUMBER-MAX, NOT-READING, KIND-OLD, PLACE-OUT, PLACE-LOADED, PLACE-PUBLISHED, PLACE-LOADED-AGAIN, PLACE-OPEN, PLACE-PICKED, PLACE-SYNCHRONISING, PLACE-QUIET, PLACE-RAISED, PLACE-RETURNED}
 use Rattle.layout.specs.declared.Reader.{Reader}
 use Rattle.layout.specs.declared.Publisher.{Publisher}
 use Rattle.layout.specs.declared.WalkResult.{WalkResult}
 use Rattle.layout.specs.Layout.{readers, current, version, indicator, readerAt, withIndicator, withReader, blankReader}
 use Rattle.layout.specs.Records.{_place≔_, _first≔_, _picked≔_, _looks≔_, _waits≔_}
 use Rattle.statement.specs.Machine.{State, Machine}
-use Rattle.publication_law.specs.Steps.{Versions, upTo, reader, publisher}
+use Rattle.publication_law.specs.Steps.{Versions, reader, publisher}
 use Rattle.publication_law.specs.Damage.{DamageRules, wrongPick, publisherRows}
 use Rattle.publication_law.specs.Table.{Table, machine}
 use Rattle.publication_law.specs.SectionRules.{SectionRules, tableBy}
 
--- The last version: 2^63 - 1.
-abbrev pub LAST : ℕ
-LAST = 9223372036854775807
-
+-- Version and mark run modulo 2^64: no version is too large and none the last, every mark is good, 0 too; mark = version + 1 and one before the mark are modulo 2^64.
+-- Definitions have no width: a number above 2^64 - 1, which no word holds, is no version and no mark.
 abbrev pub versions : Versions
-versions = upTo LAST
+versions = record {
+  tooLarge = λ ver. ltb NUMBER-MAX ver;
+  isLast = λ ver. ltb NUMBER-MAX ver;
+  wrongMark = λ mark. ltb NUMBER-MAX mark;
+  markAt = λ ver. (ver + 1) % MODULUS;
+  beforeMark = λ mark. (mark + MODULUS - 1) % MODULUS;
+}
 
 -- A place that the kind does not have (2 and 3 are the new store's); a picked slot too large.
 abbrev pub readerRows : ℕ → Reader → List Bool

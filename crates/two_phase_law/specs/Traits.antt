@@ -1,5 +1,5 @@
 -- In what the old store differs for the companions of demand 3.
-use Prim.Native.Nat.{_+_}
+use Prim.Native.Nat.{_+_, _%_}
 use mathlib.Core.Bool.{true, false, _||_}
 use lib.Dec.{eqb}
 use Rattle.base.specs.Base.{choose}
@@ -9,13 +9,13 @@ use Rattle.calls.specs.Tally.Phase.{synchronising, quiet, raised}
 use Rattle.statement.specs.Companions.{GraceTraits}
 use Rattle.publication_law.specs.SectionRules.{withoutSections}
 
--- The last version is 2^63 - 1; a return passes two looks; a mark is one above the version; WALK follows SYNC, RAISE follows a quiet and WALK follows RAISE;
+-- Versions run modulo 2^64: the greatest is 2^64 - 1, none is the last, and a mark is one above the version modulo 2^64. A return passes two looks; WALK follows SYNC, RAISE follows a quiet and WALK follows RAISE;
 -- the calls without sections are lacking; ENTER goes 1, 4, 5; readers publish no version, and a fresh one has NOT_READING; a claim needs that every other publisher is idle.
 abbrev pub traits : GraceTraits
 traits = record {
   every = record {
     firstTable = λ z. z .table;
-    last = 9223372036854775807;
+    greatest = 18446744073709551615;
     lacks = withoutSections;
     exclusive = true;
     ofParticipants = false;
@@ -25,6 +25,7 @@ traits = record {
     walksIn = λ phase. inPhase synchronising phase || inPhase raised phase;
   };
   passes = λ z. 2;
-  successor = λ ver. ver + 1;
+  isLast = λ ver. false;
+  successor = λ ver. (ver + 1) % 18446744073709551616;
   nextPlace = λ place. choose (eqb place PLACE-OUT) PLACE-LOADED (choose (eqb place PLACE-LOADED) PLACE-OPEN PLACE-PICKED);
 }

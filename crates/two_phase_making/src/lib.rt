@@ -9,9 +9,8 @@ use calls::Pitch;
 use calls::Reply;
 use making::make_store;
 use making::reply_to;
-use two_phase_law::LAST;
 
-// Making, in words and entries whatever they hold. The table goes into every slot.
+// Making, in words and entries whatever they hold. The table goes into every slot. No version is too large.
 pub fn make(
     words: &mut [u64],
     entries: &mut [Pitch],
@@ -34,6 +33,6 @@ pub fn make(
         publishers,
         slots,
         version,
-        version > LAST,
+        false,
     ))
 }

@@ -7,6 +7,7 @@ ghost use Rattle.publication_law.specs.Table.{step};
 ghost use Rattle.two_phase_law.specs.Steps.{rules};
 use calls::DAMAGED;
 use calls::NO_SUCH_PUBLISHER;
+use calls::NUMBER_MAX;
 use calls::PUBLISHER_TURN;
 use calls::Pitch;
 use calls::Reply;
@@ -17,9 +18,8 @@ use publication_grace::start_sync;
 use two_phase_damage::head_is_damaged;
 use two_phase_damage::publishers_are_damaged;
 use two_phase_damage::readers_are_damaged;
-use two_phase_law::LAST;
 
-// SYNC p: 34 to 35, with the mark one above the version.
+// SYNC p: 34 to 35, with the mark one above the version modulo 2^64; at every version.
 pub fn sync(words: &mut [u64], entries: &[Pitch], p: u16) -> Reply
     ensures { λ a. ⌜ outcome a (state (now (words .exit)) (now (entries .entry)))
         ≡ step rules (state (now (words .entry)) (now (entries .entry))) (Sync p) ⌝ }
@@ -30,10 +30,10 @@ pub fn sync(words: &mut [u64], entries: &[Pitch], p: u16) -> Reply
     {
         return Reply::Refused(DAMAGED);
     }
-    start_sync(words, p, LAST - 1)
+    start_sync(words, p, NUMBER_MAX)
 }
 
-// RAISE p: 36 to 37. The version becomes the mark, if it is one before it.
+// RAISE p: 36 to 37. The version becomes the mark, if it is one before it modulo 2^64.
 pub fn raise(words: &mut [u64], entries: &[Pitch], p: u16) -> Reply
     ensures { λ a. ⌜ outcome a (state (now (words .exit)) (now (entries .entry)))
         ≡ step rules (state (now (words .entry)) (now (entries .entry))) (Raise p) ⌝ }
@@ -51,7 +51,7 @@ pub fn raise(words: &mut [u64], entries: &[Pitch], p: u16) -> Reply
     let y = publisher_at(words, at);
     let place = y.place;
     match place {
-        36 => raise_version(words, at, y, y.walk.mark - 1),
+        36 => raise_version(words, at, y, std::num::wrapping_sub_u64(y.walk.mark, 1)),
         _ => Reply::Refused(PUBLISHER_TURN),
     }
 }

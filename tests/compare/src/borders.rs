@@ -163,7 +163,7 @@ fn length_border(case: &mut Case, trial: usize) {
 fn head_border(store: &mut Store, clause: Clause, trial: usize) {
     let (number, last) = match clause {
         Clause::Current => (&mut store.current, store.slots - 1),
-        _ => (&mut store.version, store.kind.last()),
+        _ => (&mut store.version, store.kind.highest()),
     };
     *number = match trial {
         INSIDE => last,
@@ -347,7 +347,7 @@ impl Bounds {
         match clause {
             Clause::Held => publisher.held = self.slots - 1,
             Clause::MarkZero => walk.mark = 1,
-            Clause::MarkAboveLast => walk.mark = self.kind.last(),
+            Clause::MarkAboveLast => walk.mark = self.kind.highest(),
             Clause::WaitsAboveLooks => walk.waits = walk.looks,
             Clause::Next => walk.next = self.readers - 1,
             _ => publisher.place = last_place(self.kind),
@@ -359,7 +359,7 @@ impl Bounds {
         match clause {
             Clause::Held => publisher.held = above(self.slots - 1)[n],
             Clause::MarkZero => walk.mark = 0,
-            Clause::MarkAboveLast => walk.mark = above(self.kind.last())[n],
+            Clause::MarkAboveLast => walk.mark = above(self.kind.highest())[n],
             Clause::WaitsAboveLooks => (walk.looks, walk.waits) = too_many_waits(n),
             Clause::Next => walk.next = above(self.readers - 1)[n],
             _ => {

@@ -6,6 +6,7 @@ use crate::guarded::Guarded;
 use crate::seen::{Seen, Stand};
 use crate::slices::Side;
 use second::call::{Call, Numbers, Reply};
+use second::crossing::Crossing;
 use second::demand3::Demand3;
 use second::events::{Event, Events};
 use second::layout::WORDS;
@@ -86,7 +87,7 @@ fn a_run_that_saw_nothing_lacks_every_number() {
     let lacks = |what: &str| missing.iter().any(|line| line == what);
     let shared = [1, 10, 11, 12, 13, 14, 20, 21, 30];
     let of_kinds: [(&str, &[u64]); 3] =
-        [("new", &[32, 33]), ("old", &[32, 33]), ("rest", &[43, 44])];
+        [("new", &[32, 33]), ("old", &[31, 33]), ("rest", &[43, 44])];
     for (kind, own) in of_kinds {
         for refusal in shared.iter().chain(own) {
             let line = |line: &&String| {
@@ -115,6 +116,16 @@ fn a_run_that_saw_nothing_lacks_every_number() {
     assert!(lacks("old claim: refusal 31") && !lacks("new claim: refusal 31"));
     assert!(lacks("old walk: reply 112") && !lacks("new walk: reply 112"));
     assert!(lacks("new store: refusal 6") && lacks("old store: reply 100"));
+    assert!(lacks("new sync: refusal 32") && !lacks("old sync: refusal 32"));
+    assert!(!lacks("old store: refusal 6") && lacks("old store with the highest version"));
+    assert!(lacks("new look: spoiled by Version alone"));
+    assert!(!lacks("old look: spoiled by Version alone"));
+    assert!(lacks("rest look: spoiled by MarkZero alone"));
+    assert!(!lacks("old look: spoiled by MarkZero alone"));
+    assert!(lacks("old, in a list: SYNC with the mark 0"));
+    assert!(lacks("old, in a list: RAISE to 0"));
+    assert!(lacks("old, in a list: a return with the mark 0"));
+    assert!(lacks("old, in a list: SYNC with the mark 2^63"));
     assert!(lacks("new store: refusal 40") && lacks("old store: refusal 42"));
     assert!(lacks("old store: a first table with -5001 in entry 31"));
     assert!(lacks("store with NullTable") && !lacks("enter with NullTable"));
@@ -162,6 +173,8 @@ fn what_was_seen_is_not_missing() {
     seen.note_listed(Kind::Rest, &claim, 30, Some(stand));
     seen.note_lacked(Kind::Rest, &Call::Walk { p: 0, b: 0 });
     assert_eq!(now.len(), seen.missing().len() + 3);
+    seen.note_events(&Events::from([Event::Crossed(Crossing::Raised)]));
+    assert_eq!(now.len(), seen.missing().len() + 4);
 }
 
 /// A run must see the fourth step of entering in lists of a new store, with
@@ -333,4 +346,33 @@ fn a_list_is_held_against_demand_3() {
     let text = report(both.listed(&enter, &mut demand3));
     let fault = "demand 3: the calls told that publisher 1 holds Some(2)";
     assert!(text.contains(fault), "{text}");
+}
+
+/// A list of an old store across the end, heard as the library replies.
+#[test]
+fn a_list_across_the_end_is_heard() {
+    let mut both = lent(Rules::AS_WRITTEN);
+    let make = Call::Make {
+        kind: Kind::Old.number() as u16,
+        readers: 2,
+        publishers: 2,
+        slots: 3,
+        version: u64::MAX,
+    };
+    assert_eq!(report(both.call(&make)), "alike");
+    let making = Making::of(&make).expect("a known kind");
+    let mut demand3 = Demand3::fresh(&making, &FIRST, Rules::AS_WRITTEN);
+    let p = 1;
+    let mut list = vec![Call::Claim { p, s: 2 }];
+    list.extend([Call::Write { p, v: 0 }; 32]);
+    list.extend([Call::Swap { p }, Call::Sync { p }]);
+    list.extend([Call::Walk { p, b: 1 }, Call::Raise { p }]);
+    list.push(Call::Walk { p, b: 1 });
+    let mut shown = Vec::new();
+    for call in list {
+        assert_eq!(report(both.listed(&call, &mut demand3)), "alike");
+        shown.extend(demand3.crossing());
+    }
+    let due = [Crossing::Synced, Crossing::Raised, Crossing::Returned];
+    assert_eq!(shown, due);
 }

@@ -3,11 +3,13 @@
 
 use crate::both::{Both, Stop};
 use second::call::{Call, Reply};
+use second::crossing::Crossing;
 use second::demand3::Demand3;
+use second::events::Event;
 use second::layout::{KIND, PUBLISHERS, READERS, SLOTS, WORDS};
 use second::making::Making;
 use second::random::Random;
-use second::store::{Kind, Pitch, KINDS, PITCH_LOW, STEP_MOST};
+use second::store::{Kind, Pitch, KINDS, OLD_LAST_BEFORE, PITCH_LOW, STEP_MOST};
 use second::tables;
 use second::turns::Scheduler;
 
@@ -70,6 +72,8 @@ impl Lists {
         both.seen.returns += demand3.returns();
         both.seen.swaps += demand3.swaps();
         both.seen.freed += demand3.freed();
+        let crossed = Event::Crossed(Crossing::Returned);
+        both.seen.crossed += u64::from(demand3.events().contains(&crossed));
         both.seen.note_events(demand3.events());
         played
     }
@@ -146,8 +150,9 @@ fn kind_or_none(random: &mut Random) -> u64 {
 
 /// A making with one argument wrong, or with wrong ones in any mixture.
 fn try_making(both: &mut Both, random: &mut Random) -> Result<(), Stop> {
-    let call = match random.below(3) {
+    let call = match random.below(4) {
         0 => one_wrong(both, random),
+        1 => late_version(both, random),
         _ => any_wrong(both, random),
     };
     both.call(&call).map(|_| ())
@@ -175,7 +180,7 @@ fn one_wrong(both: &mut Both, random: &mut Random) -> Call {
             length = usize::from(slots) * 32;
         }
         3 => length = random.pick(&[0, length - 1, length + 1, length + 32]),
-        _ => version = kind.last().saturating_add(random.below(2)),
+        _ => version = version_border(kind, random),
     }
     both.set_entries(&vec![random.word() as Pitch; length]);
     both.set_table(&tables::good(random));
@@ -188,12 +193,30 @@ fn one_wrong(both: &mut Both, random: &mut Random) -> Call {
     }
 }
 
+/// The last version or one above it. An old store has none: there it is about
+/// 2^63, where one was before, or the highest number.
+fn version_border(kind: Kind, random: &mut Random) -> u64 {
+    match kind {
+        Kind::New | Kind::Rest => kind.highest().saturating_add(random.below(2)),
+        Kind::Old => random.pick(&[OLD_LAST_BEFORE, OLD_LAST_BEFORE + 1, u64::MAX]),
+    }
+}
+
+/// A new store's first version above the last, beside any first table.
+fn late_version(both: &mut Both, random: &mut Random) -> Call {
+    let sizes = some_sizes(Kind::New, random);
+    let length = usize::from(sizes.slots) * 32;
+    both.set_entries(&vec![random.word() as Pitch; length]);
+    both.set_table(&tables::any(random));
+    sizes.making(Kind::New, u64::MAX)
+}
+
 /// A making with wrong arguments and a wrong first table in any mixture. The
 /// entries lent are mostly of a wrong length too.
 fn any_wrong(both: &mut Both, random: &mut Random) -> Call {
     both.set_table(&tables::any(random));
     let kind = random.pick(&KINDS);
-    let last = kind.last();
+    let last = kind.highest();
     let slots = size(2, 32, random);
     if random.one_in(2) && slots <= 64 {
         let length = usize::from(slots) * 32;
@@ -282,7 +305,10 @@ pub fn some_sizes(kind: Kind, random: &mut Random) -> Sizes {
 }
 
 pub fn first_version(kind: Kind, random: &mut Random) -> u64 {
-    let last = kind.last();
+    let last = match kind {
+        Kind::New | Kind::Rest => kind.highest(),
+        Kind::Old => return old_first_version(random),
+    };
     match random.below(12) {
         0 => last,
         1 => last - 1,
@@ -291,6 +317,19 @@ pub fn first_version(kind: Kind, random: &mut Random) -> u64 {
         4 => 1,
         5 => random.below(100),
         6 => random.word() % last,
+        _ => 0,
+    }
+}
+
+/// One time in eight within 3 of 2^64, and as often about 2^63.
+fn old_first_version(random: &mut Random) -> u64 {
+    match random.below(16) {
+        0 | 1 => u64::MAX - random.below(3),
+        2 | 3 => OLD_LAST_BEFORE - 1 + random.below(4),
+        4 => u64::MAX - random.below(20),
+        5 => 1,
+        6 => random.below(100),
+        7 => random.word(),
         _ => 0,
     }
 }

@@ -114,6 +114,8 @@ pub struct Seen {
     pub returns: u64,
     pub swaps: u64,
     pub freed: u64,
+    /// Lists of an old store with a return past the end.
+    pub crossed: u64,
 }
 
 /// The fourth steps of entering that lists of a new store must have.
@@ -123,9 +125,9 @@ const FOURTH_STEPS: [&str; 2] = ["equal versions", "differing versions"];
 const MAKINGS: [&str; 7] = [
     "with first version 0",
     "with first version 1",
-    "with the last version",
-    "with the last version - 1",
-    "with the last version - 2",
+    "with the highest version",
+    "with the highest version - 1",
+    "with the highest version - 2",
     "with the largest sizes",
     "with the smallest sizes",
 ];
@@ -155,6 +157,7 @@ impl Seen {
             returns: 0,
             swaps: 0,
             freed: 0,
+            crossed: 0,
         }
     }
 
@@ -194,7 +197,7 @@ impl Seen {
         self.lacked[row(Some(kind))][call.name().index()] += 1;
     }
 
-    /// What a list of a rest store has shown.
+    /// What a list of a rest or an old store has shown.
     pub fn note_events(&mut self, events: &Events) {
         self.events.extend(events);
     }
@@ -233,7 +236,7 @@ impl Seen {
             return;
         };
         let sizes = (readers, publishers, slots);
-        let last = kind.last();
+        let highest = kind.highest();
         let most_readers = match kind {
             Kind::New | Kind::Old => 64,
             Kind::Rest => 16,
@@ -241,9 +244,9 @@ impl Seen {
         let met = [
             version == 0,
             version == 1,
-            version == last,
-            version == last - 1,
-            version == last - 2,
+            version == highest,
+            version == highest - 1,
+            version == highest - 2,
             sizes == (most_readers, 16, 32),
             sizes == (1, 1, 2),
         ];
@@ -290,6 +293,8 @@ impl Seen {
                 ));
             }
         }
+        let unseen = Event::all().filter(|event| !self.events.contains(event));
+        missing.extend(unseen.map(|event| format!("{}, in a list: {event}", event.kind())));
         self.missing_of_rest(&mut missing);
         for unusual in UNUSUAL {
             for name in NAMES.into_iter().filter(|&name| unusual.can_meet(name)) {
@@ -326,11 +331,9 @@ impl Seen {
         }
     }
 
-    /// What lists of a rest store must show, and where each of its calls must
+    /// What each call of a rest store must have got in lists, and where it must
     /// have been made from.
     fn missing_of_rest(&self, missing: &mut Vec<String>) {
-        let unseen = Event::all().filter(|event| !self.events.contains(event));
-        missing.extend(unseen.map(|event| format!("rest, in a list: {event}")));
         for name in calls() {
             let listed = &self.listed[row(Some(Kind::Rest))][name.index()];
             // No list spoils a store.

@@ -58,9 +58,9 @@ fn up_to_end(n: u64, random: &mut Random) -> u64 {
 fn some_version(kind: Kind, random: &mut Random) -> u64 {
     match random.below(6) {
         0 => random.below(4),
-        1 => kind.last() - random.below(4),
-        2 => random.word() % kind.last(),
-        3 => random.anything().min(kind.last()),
+        1 => kind.highest() - random.below(4),
+        2 => random.word() % kind.highest(),
+        3 => random.anything().min(kind.highest()),
         _ => random.below(100),
     }
 }
@@ -141,15 +141,20 @@ pub fn put_publisher(store: &mut Store, p: usize, place: u64, random: &mut Rando
     }
 }
 
+/// In an old store any number is a mark.
 fn some_mark(kind: Kind, version: u64, random: &mut Random) -> u64 {
+    let least = match kind {
+        Kind::New | Kind::Rest => 1,
+        Kind::Old => 0,
+    };
     let mark = match random.below(6) {
-        0 => 1 + random.below(3),
-        1 => kind.last() - random.below(3),
+        0 => least + random.below(3),
+        1 => kind.highest() - random.below(3),
         2 => random.anything(),
         3 => version.saturating_add(1),
         _ => version.wrapping_sub(1).wrapping_add(random.below(4)),
     };
-    mark.clamp(1, kind.last())
+    mark.clamp(least, kind.highest())
 }
 
 fn some_looks(random: &mut Random) -> u64 {

@@ -511,6 +511,10 @@ impl Played<'_> {
         };
         seen(Cell::new(kind, call.name(), from, numbers.code));
         let kept = self.keep_list(call, reply);
+        let crossing = self.list.as_ref().and_then(Demand3::crossing);
+        if let Some(crossing) = crossing {
+            seen(Cell::crossing(crossing));
+        }
         match kept {
             Ok(()) => Ok(reply),
             Err(fault) => Err(self.difference(call, numbers, reply, Some(fault))),

@@ -2,6 +2,7 @@
 //! which answer.
 
 use second::call::{calls, calls_lacked_by, calls_of, Name, NAMES};
+use second::crossing::{Crossing, CROSSINGS};
 use second::damage::CLAUSES;
 use second::store::{Kind, KINDS};
 
@@ -10,7 +11,10 @@ const CODES: [u64; 39] = [
     0, 1, 2, 3, 4, 5, 6, 10, 11, 12, 13, 14, 20, 21, 30, 31, 32, 33, 40, 41, 42, 43, 44, 100, 101,
     102, 103, 104, 105, 106, 107, 108, 109, 110, 111, 112, 113, 114, 115,
 ];
-const PLACES: usize = 40;
+/// Where nobody stands whom the call names.
+const BEYOND: usize = 39;
+/// Behind the places: what shows the end of an old store's versions.
+const PLACES: usize = BEYOND + 1 + CROSSINGS.len();
 
 /// How many cells there are.
 pub const CELLS: usize = (1 + KINDS.len()) * NAMES.len() * PLACES * CODES.len();
@@ -34,11 +38,29 @@ impl Cell {
     /// with 40 the length of the first table, with 41 and 42 where it is
     /// refused.
     pub fn new(kind: Option<Kind>, call: Name, place: Option<u64>, code: u64) -> Cell {
-        let beyond = PLACES - 1;
         Cell {
             kind,
             call,
-            place: place.map_or(beyond, |place| place.min(beyond as u64) as usize),
+            place: place.map_or(BEYOND, |place| place.min(BEYOND as u64) as usize),
+            code,
+        }
+    }
+
+    /// A call of an old store's list that shows this of the end of the
+    /// versions.
+    pub fn crossing(crossing: Crossing) -> Cell {
+        let (call, code) = match crossing {
+            Crossing::Synced => (Name::Sync, 107),
+            Crossing::Raised => (Name::Raise, 108),
+            Crossing::Arrived => (Name::Enter, 101),
+            Crossing::Looked => (Name::Look, 102),
+            Crossing::Waited => (Name::Walk, 110),
+            Crossing::Returned | Crossing::ReturnedAgain => (Name::Walk, 113),
+        };
+        Cell {
+            kind: Some(Kind::Old),
+            call,
+            place: BEYOND + 1 + crossing as usize,
             code,
         }
     }
@@ -68,10 +90,12 @@ impl Cell {
     }
 }
 
-/// Each answer that the C calls can give and none of these cells has, and
-/// each clause that alone spoils no store for one of the kind's calls.
+/// Each answer that the C calls can give and none of these cells has, what
+/// none shows of the end of an old store's versions, and each clause that
+/// alone spoils no store for one of the kind's calls.
 pub fn missing_of_calls(cells: &[Cell]) -> Vec<String> {
     let mut missing = missing(cells, needed(|_, _| true));
+    missing.extend(missing_crossings(cells));
     for kind in KINDS {
         for clause in CLAUSES.into_iter().filter(|clause| clause.of(kind)) {
             for name in calls_of(kind) {
@@ -85,9 +109,10 @@ pub fn missing_of_calls(cells: &[Cell]) -> Vec<String> {
     missing
 }
 
-/// Each answer that a sheet can meet and none of these cells has. A sheet
-/// lends the entries that are due and spoils no store; 33 needs nearly 2^64
-/// looks, and one publisher at a time never shares a raise.
+/// Each answer that a sheet can meet and none of these cells has, and what
+/// none shows of the end of an old store's versions. A sheet lends the entries
+/// that are due and spoils no store; 33 needs nearly 2^64 looks, and one
+/// publisher at a time never shares a raise.
 pub fn missing_of_sheets(cells: &[Cell]) -> Vec<String> {
     let mut wanted = needed(|kind, code| match code {
         1 | 5 | 33 => false,
@@ -100,7 +125,16 @@ pub fn missing_of_sheets(cells: &[Cell]) -> Vec<String> {
         let lacked = calls_lacked_by(kind);
         wanted.extend(lacked.map(|call| Cell::lacked(kind, call).answer()));
     }
-    missing(cells, wanted)
+    let mut missing = missing(cells, wanted);
+    missing.extend(missing_crossings(cells));
+    missing
+}
+
+/// What no cell shows of the end of an old store's versions.
+fn missing_crossings(cells: &[Cell]) -> impl Iterator<Item = String> + '_ {
+    let unseen = |crossing: &Crossing| !cells.contains(&Cell::crossing(*crossing));
+    let unseen = CROSSINGS.into_iter().filter(unseen);
+    unseen.map(|crossing| format!("old: {crossing}"))
 }
 
 fn needed(can: fn(Kind, u64) -> bool) -> Vec<Answer> {
@@ -138,12 +172,20 @@ mod tests {
         assert!(lacks("rest, checkpoint: spoiled by Step alone"));
         assert!(!lacks("rest, enter: spoiled by Step alone"));
         assert!(!lacks("rest, store: 6") && !lacks("rest, claim: 31"));
+        assert!(lacks("new, store: 6") && !lacks("old, store: 6"));
+        assert!(lacks("new, sync: 32") && !lacks("old, sync: 32"));
+        assert!(lacks("new, sync: spoiled by MarkZero alone"));
+        assert!(!lacks("old, sync: spoiled by MarkZero alone"));
+        assert!(lacks("old: SYNC with the mark 0") && lacks("old: RAISE to 0"));
         let cell = Cell::new(Some(Kind::Rest), Name::Defer, Some(34), 43);
         assert_eq!(missing_of_calls(&[cell]).len() + 1, missing.len());
+        let raised = Cell::crossing(Crossing::Raised);
+        assert_eq!(missing_of_calls(&[raised]).len() + 2, missing.len());
         let sheets = missing_of_sheets(&[]);
         let lacks = |what: &str| sheets.iter().any(|line| line == what);
         assert!(lacks("rest, enter: 0") && lacks("new, defer: 0") && !lacks("rest, defer: 0"));
         assert!(lacks("rest, defer: 44") && lacks("no kind, pick: 1") && !lacks("rest, pick: 1"));
+        assert!(lacks("old: a return with the mark 0"));
     }
 
     #[test]
@@ -156,6 +198,10 @@ mod tests {
                     assert!(index < CELLS && indexes.insert(index));
                 }
             }
+        }
+        for crossing in CROSSINGS {
+            let index = Cell::crossing(crossing).index();
+            assert!(index < CELLS && indexes.insert(index));
         }
     }
 }

@@ -4,8 +4,9 @@
 use crate::cards::Card;
 use crate::pieces::LARGEST;
 use crate::seen::Cell;
-use second::call::Call;
+use second::call::{Call, Reply};
 use second::card;
+use second::crossing::End;
 use second::rules::Rules;
 use second::sheet::{lines, play, read, Sheet};
 use second::store::{Kind, Pitch};
@@ -115,6 +116,7 @@ pub fn compare(
 /// implementation's are the program's too.
 pub fn note(table: &[Pitch], text: &[u8], seen: &mut dyn FnMut(Cell)) {
     let mut sheet = Sheet::new(table, Rules::AS_WRITTEN);
+    let mut end = None;
     for line in lines(text) {
         let before = sheet.kind();
         let Some(call) = read(line) else {
@@ -129,6 +131,14 @@ pub fn note(table: &[Pitch], text: &[u8], seen: &mut dyn FnMut(Cell)) {
             (Some(reply), _) => {
                 let code = reply.numbers().code;
                 seen(Cell::new(kind, call.name(), None, code));
+                if reply == Reply::Made {
+                    end = kind.map(End::fresh);
+                }
+                let crossing = end.as_mut().and_then(|end| end.hear(&call, &reply));
+                crossing
+                    .into_iter()
+                    .map(Cell::crossing)
+                    .for_each(&mut *seen);
             }
             (None, Some(kind)) => seen(Cell::lacked(kind, call.name())),
             (None, None) => unreachable!("before a made store every call is read"),

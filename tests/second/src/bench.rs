@@ -74,8 +74,13 @@ impl Play {
         }
     }
 
+    /// The store is put together by hand from here on: no list is heard.
+    pub fn no_list(&mut self) {
+        self.demand3 = None;
+    }
+
     /// ENTER r until these places have been said.
-    fn enters(&mut self, r: u16, places: &[u64]) {
+    pub fn enters(&mut self, r: u16, places: &[u64]) {
         for place in places {
             self.says(Call::Enter { r }, &format!("at {place}"));
         }

@@ -111,8 +111,8 @@ impl Name {
             return &[1];
         }
         match (self, kind) {
-            (Name::Store, Kind::New | Kind::Old) => &[2, 3, 4, 5, 6, 40, 41, 42, 100],
-            (Name::Store, Kind::Rest) => &[2, 3, 4, 5, 40, 41, 42, 100],
+            (Name::Store, Kind::New) => &[2, 3, 4, 5, 6, 40, 41, 42, 100],
+            (Name::Store, Kind::Old | Kind::Rest) => &[2, 3, 4, 5, 40, 41, 42, 100],
             (Name::Enter, _) => &[1, 10, 20, 101],
             (Name::Look, _) => &[1, 10, 13, 20, 102],
             (Name::Leave, _) => &[1, 10, 20, 103],
@@ -120,7 +120,8 @@ impl Name {
             (Name::Claim, Kind::Old) => &[1, 11, 12, 21, 31, 30, 104],
             (Name::Write, _) => &[1, 11, 14, 21, 105],
             (Name::Swap, _) => &[1, 11, 21, 106],
-            (Name::Sync, _) => &[1, 11, 21, 32, 107],
+            (Name::Sync, Kind::New | Kind::Rest) => &[1, 11, 21, 32, 107],
+            (Name::Sync, Kind::Old) => &[1, 11, 21, 107],
             (Name::Raise, _) => &[1, 11, 21, 108, 109],
             (Name::Walk, Kind::New | Kind::Rest) => &[1, 11, 21, 33, 110, 111, 113],
             (Name::Walk, Kind::Old) => &[1, 11, 21, 33, 110, 111, 112, 113],

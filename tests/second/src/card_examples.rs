@@ -1,5 +1,5 @@
 //! Cards, each with what a sheet prints beside it, worked out by hand from
-//! requests 1, 2 and 3 of document 02.
+//! requests 1, 2, 3 and 5 of document 02.
 
 use crate::card;
 use crate::examples::{Example, Line, Table};
@@ -12,7 +12,6 @@ const BEFORE: &[Line] = &[
     (b"(store new 64 17 33 0)", "refused 3"),
     (b"(store old 64 16 33 0)", "refused 4"),
     (b"(store new 1 1 2 18446744073709551615)", "refused 6"),
-    (b"(store old 1 1 2 9223372036854775808)", "refused 6"),
     (b"(store rest 65 64 33 0)", "refused 2"),
     (b"(store rest 17 17 33 0)", "refused 3"),
     (b"(store rest 2 3 33 0)", "refused 3"),
@@ -28,6 +27,7 @@ fn refused(name: &'static str, card: Option<Vec<u8>>, number: u64) -> Example {
     for store in [
         "(store new 1 1 2 0)",
         "(store old 64 16 32 7)",
+        "(store old 1 1 2 18446744073709551615)",
         "(store rest 16 16 32 18446744073709551615)",
     ] {
         table = table.says(store.as_bytes(), &due);

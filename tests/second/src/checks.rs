@@ -2,6 +2,7 @@
 //! numbers, the shelf and demand 3, and the alterations' names.
 
 use crate::call::{calls, Call, Name, Numbers, Reply, NAMES};
+use crate::crossing::{Crossing, End};
 use crate::damage::{Clause, CLAUSES};
 use crate::demand3::Demand3;
 use crate::events::{Event, Events};
@@ -382,7 +383,7 @@ fn makings_are_refused_in_the_order_of_the_rows() {
     let mut entries = vec![0; 64];
     let mut words = [5; WORDS];
     let mut refused = |sizes, version, table: &[Pitch]| {
-        let make = making(Kind::Old, sizes, version);
+        let make = making(Kind::New, sizes, version);
         lent::call(&mut words, &mut entries, table, &make, AS_WRITTEN)
     };
     let steep = tables::with_step(3, 15_001, &mut Random::from_seed(1));
@@ -391,13 +392,31 @@ fn makings_are_refused_in_the_order_of_the_rows() {
     assert_eq!(refused((64, 17, 33), u64::MAX, &[]), Reply::Refused(3));
     assert_eq!(refused((64, 16, 33), u64::MAX, &[]), Reply::Refused(4));
     assert_eq!(refused((64, 16, 3), u64::MAX, &[]), Reply::Refused(5));
-    assert_eq!(refused(good, 1 << 63, &[]), Reply::Refused(6));
-    assert_eq!(refused(good, 1 << 63, &[95_001; 31]), Reply::Refused(6));
+    assert_eq!(refused(good, u64::MAX, &[]), Reply::Refused(6));
+    assert_eq!(refused(good, u64::MAX, &[95_001; 31]), Reply::Refused(6));
     assert_eq!(refused(good, 0, &[]), Reply::Refused(40));
     assert_eq!(refused(good, 0, &[95_001; 31]), Reply::Refused(40));
     assert_eq!(refused(good, 0, &[95_001; 32]), Reply::Refused(41));
     assert_eq!(refused(good, 0, &steep), Reply::Refused(42));
-    assert_eq!(refused(good, (1 << 63) - 1, &first()), Reply::Made);
+    assert_eq!(refused(good, u64::MAX - 1, &first()), Reply::Made);
+}
+
+/// An old store has any first version, and 6 in no row.
+#[test]
+fn old_makings_take_every_first_version() {
+    let mut entries = vec![0; 64];
+    let mut words = [5; WORDS];
+    for version in [0, (1 << 63) - 1, 1 << 63, u64::MAX - 1, u64::MAX] {
+        let mut refused = |sizes, table: &[Pitch]| {
+            let make = making(Kind::Old, sizes, version);
+            lent::call(&mut words, &mut entries, table, &make, AS_WRITTEN)
+        };
+        assert_eq!(refused((64, 16, 3), &[]), Reply::Refused(5));
+        assert_eq!(refused((64, 16, 2), &[]), Reply::Refused(40));
+        assert_eq!(refused((64, 16, 2), &[95_001; 32]), Reply::Refused(41));
+        assert_eq!(refused((64, 16, 2), &first()), Reply::Made);
+        assert_eq!(words[5], version);
+    }
 }
 
 /// A rest store has as many publishers as readers, up to 16.
@@ -553,6 +572,44 @@ fn clauses_are_told_apart() {
     assert!(!damaged(|s| s.participant[0].excess = 9).any());
 }
 
+/// No version and no mark spoils an old store; what else does is as before.
+#[test]
+fn versions_and_marks_of_an_old_store_are_good() {
+    let (words, _) = made(Kind::Old, (2, 2, 2), 0);
+    let fresh = unpack(&words).expect("a known kind");
+    let damaged = |rules, version, place, mark| {
+        let mut store = fresh.clone();
+        store.version = version;
+        (store.publisher[1].place, store.publisher[1].walk.mark) = (place, mark);
+        store.clauses(64, rules)
+    };
+    let numbers = [0, 1, (1 << 63) - 1, 1 << 63, u64::MAX - 1, u64::MAX];
+    for version in numbers {
+        for mark in numbers {
+            for place in 34..=38 {
+                assert!(!damaged(AS_WRITTEN, version, place, mark).any());
+            }
+        }
+    }
+    let altered =
+        |alteration, version, mark| damaged(Rules::altered(alteration), version, 35, mark).any();
+    for (alteration, version, mark) in [
+        (Alteration::OldVersionSigned, 1 << 63, 1),
+        (Alteration::OldVersionAsNew, u64::MAX, 1),
+        (Alteration::OldMarkSigned, 1, 1 << 63),
+        (Alteration::OldMarkZeroSpoiled, 1, 0),
+    ] {
+        assert!(altered(alteration, version, mark), "{}", alteration.name());
+        assert!(!altered(alteration, (1 << 63) - 1, (1 << 63) - 1));
+    }
+    let mut waits = fresh.clone();
+    (waits.publisher[1].place, waits.publisher[1].walk.waits) = (35, 1);
+    assert!(waits.clauses(64, AS_WRITTEN).only(Clause::WaitsAboveLooks));
+    for clause in [Clause::Version, Clause::MarkZero, Clause::MarkAboveLast] {
+        assert!(clause.of(Kind::New) && !clause.of(Kind::Old), "{clause:?}");
+    }
+}
+
 /// A slot deferred with this mark.
 fn deferred(slot: u64, mark: u64) -> Deferred {
     Deferred { slot, mark }
@@ -603,7 +660,7 @@ fn clauses_of_a_rest_store_are_told_apart() {
 #[test]
 fn alterations_have_names_of_their_own() {
     let all = Alteration::all();
-    assert!(all.len() > 220, "{} alterations", all.len());
+    assert!(all.len() > 230, "{} alterations", all.len());
     for (n, &alteration) in all.iter().enumerate() {
         assert_eq!(Alteration::by_name(&alteration.name()), Some(alteration));
         assert!(all[..n]
@@ -943,6 +1000,72 @@ fn demand_3_knows_what_a_kind_lacks() {
     assert!(told(Kind::Old, &[picks(0, 0)]).is_err());
 }
 
+/// In an old store no RAISE of a list is shared.
+#[test]
+fn a_shared_raise_of_an_old_store_is_found() {
+    let list = |kind, reply| {
+        let raise = [(Call::Raise { p: 0 }, reply)];
+        told(kind, &[&publication(0, 1, 55, 0)[..], &raise].concat())
+    };
+    assert_eq!(list(Kind::Old, Reply::Raised), Ok(()));
+    assert_eq!(list(Kind::Old, Reply::Refused(21)), Ok(()));
+    assert!(list(Kind::Old, Reply::Shared).is_err());
+    assert_eq!(list(Kind::New, Reply::Shared), Ok(()));
+}
+
+/// What a list shows of the end of the versions, each where it happens.
+#[test]
+fn crossings_are_told_apart() {
+    let (sync, raise) = (Call::Sync { p: 0 }, Call::Raise { p: 0 });
+    let (enter, walk) = (Call::Enter { r: 1 }, Call::Walk { p: 0, b: 1 });
+    let look = (Call::Look { r: 1, k: 0 }, Reply::Pitch(0));
+    let returned = (walk, Reply::Returned { looks: 2, waits: 0 });
+    let list = [
+        (sync, Reply::Synced(u64::MAX), None),
+        (raise, Reply::Raised, None),
+        (returned.0, returned.1, None),
+        (enter, Reply::At(1), None),
+        (sync, Reply::Refused(21), None),
+        (sync, Reply::Synced(0), Some(Crossing::Synced)),
+        (walk, Reply::Waiting(0), None),
+        (walk, Reply::Quiet, None),
+        (raise, Reply::Refused(21), None),
+        (raise, Reply::Raised, Some(Crossing::Raised)),
+        (enter, Reply::At(4), Some(Crossing::Arrived)),
+        (look.0, look.1, None),
+        (Call::Leave { r: 1 }, Reply::Left, None),
+        (enter, Reply::At(1), None),
+        (enter, Reply::At(4), None),
+        (walk, Reply::Waiting(1), Some(Crossing::Waited)),
+        (returned.0, returned.1, Some(Crossing::Returned)),
+        (sync, Reply::Synced(1), None),
+        (raise, Reply::Raised, None),
+        (walk, Reply::Waiting(1), None),
+        (returned.0, returned.1, Some(Crossing::ReturnedAgain)),
+    ];
+    for kind in KINDS {
+        let mut end = End::fresh(kind);
+        for (call, reply, due) in list {
+            let due = due.filter(|_| kind == Kind::Old);
+            assert_eq!(end.hear(&call, &reply), due, "{kind} {call}");
+        }
+    }
+    let mut end = End::fresh(Kind::Old);
+    let opened = [(enter, Reply::At(1)), (enter, Reply::At(4)), look];
+    let crossed = [(sync, Reply::Synced(0)), (raise, Reply::Raised)];
+    let shown: Vec<_> = [
+        &opened[..],
+        &crossed,
+        &[look, (Call::Leave { r: 1 }, Reply::Left), look],
+    ]
+    .concat()
+    .iter()
+    .filter_map(|(call, reply)| end.hear(call, reply))
+    .collect();
+    let due = [Crossing::Synced, Crossing::Raised, Crossing::Looked];
+    assert_eq!(shown, due);
+}
+
 /// What lists of a rest store show is seen where it happens.
 #[test]
 fn events_are_noted() {
@@ -1004,7 +1127,11 @@ fn some_sizes(kind: Kind, random: &mut Random) -> (u16, u16, u16) {
 /// demand 3.
 fn fault_of_a_list(kind: Kind, rules: Rules, random: &mut Random) -> Option<String> {
     let sizes = some_sizes(kind, random);
-    let (mut words, mut entries) = made_by(rules, kind, sizes, random.below(3));
+    let version = match kind {
+        Kind::New | Kind::Rest => random.below(3),
+        Kind::Old => random.below(6).wrapping_sub(3),
+    };
+    let (mut words, mut entries) = made_by(rules, kind, sizes, version);
     let mut demand3 = demand3(kind, sizes, rules);
     let mut scheduler = Scheduler::new(random);
     for _ in 0..1000 {
@@ -1060,11 +1187,39 @@ fn random_lists_show_every_event() {
         }
         events.extend(demand3.events());
     }
-    let unseen: Vec<String> = Event::all()
-        .filter(|event| !events.contains(event))
+    assert_eq!(unseen(Kind::Rest, &events), Vec::<String>::new());
+}
+
+/// The events of this kind that are not among these.
+fn unseen(kind: Kind, events: &Events) -> Vec<String> {
+    Event::all()
+        .filter(|event| event.kind() == kind && !events.contains(event))
         .map(|event| event.to_string())
-        .collect();
-    assert_eq!(unseen, Vec::<String>::new());
+        .collect()
+}
+
+/// Random lists show all that can happen in an old store about 2^63 and at
+/// the end of its versions.
+#[test]
+fn random_lists_cross_the_end() {
+    let mut random = Random::from_seed(6);
+    let mut events = Events::new();
+    for _ in 0..60 {
+        let sizes = some_sizes(Kind::Old, &mut random);
+        let near = random.pick(&[1 << 63, 0]);
+        let version = random.below(3).wrapping_add(near).wrapping_sub(3);
+        let (mut words, mut entries) = made(Kind::Old, sizes, version);
+        let mut demand3 = demand3(Kind::Old, sizes, AS_WRITTEN);
+        let mut scheduler = Scheduler::new(&mut random);
+        for _ in 0..1500 {
+            let call = scheduler.next(&words, &mut random);
+            let reply = lent::call(&mut words, &mut entries, &[], &call, AS_WRITTEN);
+            assert_eq!(demand3.hear(&call, &reply), Ok(()));
+            assert_eq!(demand3.recorded(&words), Ok(()));
+        }
+        events.extend(demand3.events());
+    }
+    assert_eq!(unseen(Kind::Old, &events), Vec::<String>::new());
 }
 
 /// Alterations that break demand 3 of a new store.
@@ -1087,8 +1242,9 @@ const BREAK_NEW: [Alteration; 16] = [
     Alteration::ShelfFeathered,
 ];
 
-/// Alterations that break demand 3 of a old store.
-const BREAK_OLD: [Alteration; 11] = [
+/// Alterations that break demand 3 of an old store, or spoil it, or share its
+/// RAISE.
+const BREAK_OLD: [Alteration; 17] = [
     Alteration::ReleasesAt37,
     Alteration::CurrentIsFree,
     Alteration::SwapKeepsHeld,
@@ -1100,6 +1256,12 @@ const BREAK_OLD: [Alteration; 11] = [
     Alteration::WaitNotALook,
     Alteration::OldLooksAreB,
     Alteration::ShelfFeathered,
+    Alteration::OldTakesSeveral,
+    Alteration::OldMarkStops,
+    Alteration::OldMarkModulo63,
+    Alteration::OldMarkZeroSpoiled,
+    Alteration::OldNoneBeforeZero,
+    Alteration::OldVersionAsNew,
 ];
 
 /// Alterations that break demand 3 of a rest store.

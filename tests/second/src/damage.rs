@@ -1,8 +1,8 @@
 //! When a store is spoiled. Each clause of document 01, and of request 3, is
-//! one `Clause`.
+//! one `Clause`. Of an old store no version and no mark is spoiled.
 
 use crate::rules::{Alteration, Rules};
-use crate::store::{Kind, Publisher, Reader, Store, MOST_DEFERRED, TABLE};
+use crate::store::{Kind, Publisher, Reader, Store, MOST_DEFERRED, OLD_LAST_BEFORE, TABLE};
 
 #[derive(Clone, Copy, PartialEq, Eq, Debug)]
 pub enum Clause {
@@ -67,11 +67,16 @@ impl Clause {
         match self {
             Clause::Publishers | Clause::Slots | Clause::EntriesLength | Clause::Current => true,
             Clause::ReaderPlace | Clause::Picked | Clause::PublisherPlace => true,
-            Clause::Held | Clause::MarkZero | Clause::WaitsAboveLooks => true,
-            Clause::Readers | Clause::Version | Clause::MarkAboveLast => match kind {
+            Clause::Held | Clause::WaitsAboveLooks => true,
+            Clause::Readers => match kind {
                 Kind::New | Kind::Old => true,
                 Kind::Rest => false,
             },
+            Clause::MarkZero => match kind {
+                Kind::New | Kind::Rest => true,
+                Kind::Old => false,
+            },
+            Clause::Version | Clause::MarkAboveLast => kind == Kind::New,
             Clause::Next | Clause::Published => kind == Kind::New,
             Clause::Indicator0 | Clause::Indicator1 => kind == Kind::Old,
             Clause::Unequal | Clause::Step | Clause::Count => kind == Kind::Rest,
@@ -144,10 +149,12 @@ impl Store {
         );
         found.note(Clause::Current, self.current >= self.slots, rules);
         let last = match self.kind {
-            Kind::Old if rules.has(Alteration::OldLastUnsigned) => Kind::New.last(),
+            Kind::Old if rules.has(Alteration::OldVersionSigned) => Some(OLD_LAST_BEFORE),
+            Kind::Old if rules.has(Alteration::OldVersionAsNew) => Kind::New.last(),
             Kind::New | Kind::Old | Kind::Rest => self.kind.last(),
         };
-        found.note(Clause::Version, self.version > last, rules);
+        let too_large = last.is_some_and(|last| self.version > last);
+        found.note(Clause::Version, too_large, rules);
         let unequal = self.kind == Kind::Rest && self.readers != self.publishers;
         found.note(Clause::Unequal, unequal, rules);
     }
@@ -206,15 +213,9 @@ impl Store {
             35
         };
         let synced = (from..=38).contains(&place);
-        let highest = if rules.has(Alteration::MarkPastLast) {
-            self.kind.last().saturating_add(1)
-        } else if self.kind == Kind::Rest && rules.has(Alteration::RestMarkBelowLast) {
-            self.kind.last() - 1
-        } else {
-            self.kind.last()
-        };
-        found.note(Clause::MarkZero, synced && walk.mark == 0, rules);
-        found.note(Clause::MarkAboveLast, synced && walk.mark > highest, rules);
+        let (least, most) = self.marks(rules);
+        found.note(Clause::MarkZero, synced && walk.mark < least, rules);
+        found.note(Clause::MarkAboveLast, synced && walk.mark > most, rules);
         found.note(
             Clause::WaitsAboveLooks,
             synced && walk.waits > walk.looks,
@@ -229,6 +230,21 @@ impl Store {
         };
         let applies = has_next && walks && walk.next >= self.readers;
         found.note(Clause::Next, applies, rules);
+    }
+
+    /// The least and the highest mark. Of an old store every number is a mark.
+    fn marks(&self, rules: Rules) -> (u64, u64) {
+        let least = match self.kind {
+            Kind::New | Kind::Rest => 1,
+            Kind::Old => u64::from(rules.has(Alteration::OldMarkZeroSpoiled)),
+        };
+        let most = match self.kind {
+            Kind::New if rules.has(Alteration::MarkPastLast) => self.kind.highest() + 1,
+            Kind::Old if rules.has(Alteration::OldMarkSigned) => OLD_LAST_BEFORE,
+            Kind::Rest if rules.has(Alteration::RestMarkBelowLast) => self.kind.highest() - 1,
+            Kind::New | Kind::Old | Kind::Rest => self.kind.highest(),
+        };
+        (least, most)
     }
 
     fn has_publisher_place(&self, place: u64, rules: Rules) -> bool {

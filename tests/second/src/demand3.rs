@@ -7,6 +7,7 @@
 //! CHECKPOINT or DEFER that drops it.
 
 use crate::call::{Call, Reply};
+use crate::crossing::{Crossing, End};
 use crate::events::Events;
 use crate::layout::{pair_at, publisher_at, reader_at, step_at, CURRENT, WORDS};
 use crate::making::Making;
@@ -46,6 +47,10 @@ pub struct Demand3 {
     pub(crate) holders: Vec<Holder>,
     /// The participants, if it is a rest store.
     pub(crate) moments: Moments,
+    /// The end of the versions, if it is an old store, and what the last call
+    /// showed of it.
+    pub(crate) end: End,
+    pub(crate) crossing: Option<Crossing>,
     pub(crate) events: Events,
     /// Slots that a checkpoint has freed.
     pub(crate) freed_slots: BTreeSet<u64>,
@@ -70,6 +75,8 @@ impl Demand3 {
                 Kind::New | Kind::Old => 0,
                 Kind::Rest => usize::from(making.readers),
             }),
+            end: End::fresh(making.kind),
+            crossing: None,
             events: Events::new(),
             freed_slots: BTreeSet::new(),
             returns: 0,
@@ -93,9 +100,14 @@ impl Demand3 {
         self.freed
     }
 
-    /// What the list has shown of a rest store.
+    /// What the list has shown of a rest store, or of an old one.
     pub fn events(&self) -> &Events {
         &self.events
+    }
+
+    /// What the last call has shown of the end of an old store's versions.
+    pub fn crossing(&self) -> Option<Crossing> {
+        self.crossing
     }
 
     /// One call of the list with its reply. Refused ones move nothing.
@@ -139,12 +151,13 @@ impl Demand3 {
             Call::Sync { p } => {
                 self.holders[usize::from(p)].open_at_sync = Some(self.open_sections());
             }
+            Call::Raise { .. } => self.hear_raise(reply)?,
             Call::Walk { p, .. } => self.hear_walk(usize::from(p), reply)?,
             Call::Release { p } => self.holders[usize::from(p)].former = None,
             Call::Pick { r } => self.hear_pick(usize::from(r), reply)?,
             Call::Checkpoint { r } => self.hear_checkpoint(usize::from(r), reply)?,
             Call::Defer { p } => self.hear_defer(usize::from(p), reply)?,
-            Call::Make { .. } | Call::Look { .. } | Call::Write { .. } | Call::Raise { .. } => {}
+            Call::Make { .. } | Call::Look { .. } | Call::Write { .. } => {}
         }
         Ok(())
     }
@@ -219,6 +232,15 @@ impl Demand3 {
         holder.former = Some(self.current);
         self.current = holder.last_claim.ok_or("SWAP without a CLAIM")?;
         self.swaps += 1;
+        Ok(())
+    }
+
+    /// In an old store nobody else raises the version between a publisher's
+    /// SYNC and its RAISE, so that no RAISE is shared.
+    fn hear_raise(&self, reply: &Reply) -> Result<(), String> {
+        if self.kind == Kind::Old && *reply != Reply::Raised {
+            return Err("a RAISE of an old store was shared".to_string());
+        }
         Ok(())
     }
 

@@ -1,10 +1,12 @@
-//! What can happen in a list of a rest store, told by calls and replies. The
-//! lists of a run must show all of it.
+//! What can happen in a list of a rest store, and in one of an old store that
+//! comes past 2^63 - 1 or crosses the end. It is told by calls and replies.
+//! The lists of a run must show all of it.
 
 use crate::call::{Call, Reply};
+use crate::crossing::{Crossing, CROSSINGS};
 use crate::demand3::Demand3;
 use crate::moments::Freeing;
-use crate::store::{Kind, MOST_DEFERRED, MOST_PUBLISHERS};
+use crate::store::{Kind, MOST_DEFERRED, MOST_PUBLISHERS, OLD_LAST_BEFORE};
 use std::collections::BTreeSet;
 use std::fmt;
 
@@ -12,6 +14,10 @@ macro_rules! events {
     ($($name:ident $text:literal)*) => {
         #[derive(Clone, Copy, PartialEq, Eq, PartialOrd, Ord, Debug)]
         pub enum Event {
+            /// An old store's list that crosses the end.
+            Crossed(Crossing),
+            /// An old store's SYNC above the last version of before.
+            SyncedAboveSigned,
             /// A slot freed in a store of so many participants.
             FreedAmong(usize),
             $(#[doc = $text] $name,)*
@@ -56,15 +62,31 @@ events! {
 
 impl Event {
     pub fn all() -> impl Iterator<Item = Event> {
+        let crossings = CROSSINGS.into_iter().map(Event::Crossed);
+        let among = (1..=MOST_PUBLISHERS).map(Event::FreedAmong);
         let listed = LISTED.iter().map(|entry| entry.0);
-        (1..=MOST_PUBLISHERS).map(Event::FreedAmong).chain(listed)
+        let of_old = crossings.chain([Event::SyncedAboveSigned]);
+        of_old.chain(among).chain(listed)
+    }
+
+    /// The kind of store whose lists must show it.
+    pub fn kind(self) -> Kind {
+        match self {
+            Event::Crossed(_) | Event::SyncedAboveSigned => Kind::Old,
+            _ => Kind::Rest,
+        }
     }
 }
 
 impl fmt::Display for Event {
     fn fmt(&self, f: &mut fmt::Formatter<'_>) -> fmt::Result {
-        if let Event::FreedAmong(participants) = self {
-            return write!(f, "a slot freed among {participants} participants");
+        match self {
+            Event::Crossed(crossing) => return write!(f, "{crossing}"),
+            Event::SyncedAboveSigned => return write!(f, "SYNC with the mark 2^63"),
+            Event::FreedAmong(participants) => {
+                return write!(f, "a slot freed among {participants} participants");
+            }
+            _ => {}
         }
         let listed = LISTED.iter().find(|entry| entry.0 == *self);
         f.write_str(listed.expect("every event is listed").1)
@@ -77,9 +99,25 @@ pub type Events = BTreeSet<Event>;
 impl Demand3 {
     /// Notes what this call shows, which is not yet heard.
     pub(crate) fn note_events(&mut self, call: &Call, reply: &Reply) {
-        if self.kind != Kind::Rest || !self.knows(call) {
+        self.crossing = None;
+        if !self.knows(call) {
             return;
         }
+        match self.kind {
+            Kind::New => {}
+            Kind::Old => self.note_old(call, reply),
+            Kind::Rest => self.note_rest(call, reply),
+        }
+    }
+
+    fn note_old(&mut self, call: &Call, reply: &Reply) {
+        self.crossing = self.end.hear(call, reply);
+        self.events.extend(self.crossing.map(Event::Crossed));
+        let above = *reply == Reply::Synced(OLD_LAST_BEFORE + 1);
+        self.note(Event::SyncedAboveSigned, above);
+    }
+
+    fn note_rest(&mut self, call: &Call, reply: &Reply) {
         match (*call, reply.accepted()) {
             (Call::Look { r, .. }, true) => {
                 let pick = self.sections[usize::from(r)].pick;

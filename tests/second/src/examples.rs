@@ -359,9 +359,14 @@ const WIDTHS_OF_STORES: &[Line] = &[
     (b"(enter 63)", "refused 1"),
     (b"(store new 64 16 32 18446744073709551614)", "made"),
     (b"(enter 63)", "at 1"),
-    (b"(store old 64 16 32 18446744073709551615)", "refused 6"),
-    (b"(store old 64 16 32 9223372036854775808)", "refused 6"),
+    (b"(store new 64 16 32 18446744073709551615)", "refused 6"),
     (b"(enter 63)", "at 2"),
+    (b"(store old 64 16 32 18446744073709551616)", "unread"),
+    (b"(enter 63)", "at 3"),
+    (b"(store old 64 16 32 18446744073709551615)", "made"),
+    (b"(enter 63)", "at 1"),
+    (b"(store old 64 16 32 9223372036854775808)", "made"),
+    (b"(enter 63)", "at 1"),
     (b"(store old 64 16 32 9223372036854775807)", "made"),
     (b"(enter 63)", "at 1"),
     (b"(enter 63)", "at 4"),
@@ -567,32 +572,67 @@ fn long_lines() -> Example {
     table.named("long lines")
 }
 
-/// From one version below the last to the last, and a fresh store after it.
-fn last_version(name: &'static str, kind: &str, last: u64) -> Example {
-    let store = |version| format!("(store {kind} 1 1 2 {version})");
-    let mut table = Table::default().says(store(last - 1).as_bytes(), "made");
-    table = table.publishes(0, 1, 1, 0);
-    table = table.says(b"(sync 0)", &format!("synced {last}"));
-    table = match kind {
-        "new" => table.say(&[(b"(raise 0)", "raised"), (b"(walk 0 1)", "returned 1 0")]),
-        _ => table.say(&[
-            (b"(walk 0 1)", "quiet"),
-            (b"(raise 0)", "raised"),
-            (b"(walk 0 1)", "returned 2 0"),
-        ]),
-    };
-    table = table.says(b"(release 0)", "freed 0 1");
-    table = table.publishes(0, 0, -1, 1);
-    table = table.says(b"(sync 0)", "refused 32");
-    table = table.says(store(0).as_bytes(), "made");
-    let places: &[u64] = match kind {
-        "new" => &[1, 2, 3, 4, 5],
-        _ => &[1, 4, 5],
-    };
-    for place in places {
+/// A new store from one version below the last to the last, and a fresh store
+/// after it.
+fn last_version() -> Example {
+    let mut table = Table::default().says(b"(store new 1 1 2 18446744073709551613)", "made");
+    table = table.publishes(0, 1, 1, 0).say(&[
+        (b"(sync 0)", "synced 18446744073709551614"),
+        (b"(raise 0)", "raised"),
+        (b"(walk 0 1)", "returned 1 0"),
+        (b"(release 0)", "freed 0 1"),
+    ]);
+    table = table.publishes(0, 0, -1, 1).say(&[
+        (b"(sync 0)", "refused 32"),
+        (b"(store new 1 1 2 0)", "made"),
+    ]);
+    for place in 1..=5 {
         table = table.says(b"(enter 0)", &format!("at {place}"));
     }
-    table.says(b"(look 0 31)", "pitch 90000").named(name)
+    table
+        .says(b"(look 0 31)", "pitch 90000")
+        .named("the last new version")
+}
+
+/// An old store from this version over the mark to the next. A section that is
+/// open at the RAISE holds up the return, and a reader that loaded before it
+/// arrives after it.
+fn past_version(name: &'static str, version: u64, mark: u64, next: u64) -> Example {
+    let (of_version, of_mark) = (version % 2, mark % 2);
+    let store = format!("(store old 2 1 2 {version})");
+    let waiting = format!("waiting {of_version}");
+    let mut table = Table::default().says(store.as_bytes(), "made").say(&[
+        (b"(enter 0)", "at 1"),
+        (b"(enter 0)", "at 4"),
+        (b"(enter 0)", "at 5"),
+        (b"(enter 1)", "at 1"),
+    ]);
+    table = table.publishes(0, 1, 7, 0);
+    table = table.says(b"(sync 0)", &format!("synced {mark}")).say(&[
+        (b"(walk 0 1)", "quiet"),
+        (b"(raise 0)", "raised"),
+        (b"(look 0 31)", "pitch 90000"),
+    ]);
+    table = table.says(b"(walk 0 1)", &waiting).say(&[
+        (b"(leave 0)", "left"),
+        (b"(enter 1)", "at 4"),
+        (b"(enter 1)", "at 5"),
+        (b"(look 1 0)", "pitch 7"),
+    ]);
+    table = table.says(b"(walk 0 9)", &waiting).say(&[
+        (b"(enter 0)", "at 1"),
+        (b"(leave 1)", "left"),
+        (b"(enter 0)", "at 4"),
+        (b"(walk 0 1)", "returned 4 2"),
+        (b"(release 0)", "freed 0 1"),
+    ]);
+    table = table.publishes(0, 0, -7, 1);
+    table = table.says(b"(sync 0)", &format!("synced {next}"));
+    table = table.say(&[(b"(walk 0 1)", "quiet"), (b"(raise 0)", "raised")]);
+    table = table.says(b"(walk 0 1)", &format!("waiting {of_mark}"));
+    table
+        .say(&[(b"(leave 0)", "left"), (b"(walk 0 1)", "returned 3 1")])
+        .named(name)
 }
 
 /// Pitches that a WRITE takes, and such as it refuses.
@@ -675,8 +715,10 @@ fn publications() -> Vec<Example> {
         new.say(NEW_AFTER).named("a new publication"),
         old.say(OLD_AFTER).named("an old publication"),
         pitches(),
-        last_version("the last new version", "new", 18_446_744_073_709_551_614),
-        last_version("the last old version", "old", 9_223_372_036_854_775_807),
+        last_version(),
+        past_version("past the end of an old store", u64::MAX, 0, 1),
+        past_version("to the end of an old store", u64::MAX - 1, u64::MAX, 0),
+        past_version("past 2^63", (1 << 63) - 1, 1 << 63, (1 << 63) + 1),
     ]
 }
 

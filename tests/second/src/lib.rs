@@ -8,6 +8,7 @@
 pub mod call;
 pub mod card;
 pub mod card_examples;
+pub mod crossing;
 pub mod damage;
 pub mod demand3;
 pub mod edits;
@@ -36,5 +37,7 @@ pub mod walk;
 mod bench;
 #[cfg(test)]
 mod checks;
+#[cfg(test)]
+mod end_bench;
 #[cfg(test)]
 mod rest_bench;

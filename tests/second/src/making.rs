@@ -5,7 +5,7 @@ use crate::first_table;
 use crate::rules::{Alteration, Rules};
 use crate::store::{
     Kind, Participant, Pitch, Publisher, Reader, Store, MOST_PUBLISHERS, MOST_READERS, MOST_SLOTS,
-    NOT_READING, TABLE,
+    NOT_READING, OLD_LAST_BEFORE, TABLE,
 };
 
 /// What a making is given, besides the lent slices.
@@ -72,7 +72,8 @@ pub fn make(
 }
 
 fn refuse(making: &Making, length: usize, table: &[Pitch], rules: Rules) -> Result<(), Refusal> {
-    let late_version = making.version > first_version_limit(making.kind, rules);
+    let late_version =
+        first_version_limit(making.kind, rules).is_some_and(|limit| making.version > limit);
     let wrong_length = length != usize::from(making.slots) * TABLE;
     if rules.has(Alteration::MakingVersionFirst) && late_version {
         return Err(Refusal(6));
@@ -137,11 +138,15 @@ fn refuse_unequal(making: &Making, rules: Rules) -> Result<(), Refusal> {
     }
 }
 
-fn first_version_limit(kind: Kind, rules: Rules) -> u64 {
-    if rules.has(Alteration::MakingBelowLast) {
-        kind.last() - 1
-    } else {
-        kind.last()
+/// The highest first version; none if there is no limit.
+fn first_version_limit(kind: Kind, rules: Rules) -> Option<u64> {
+    match kind {
+        Kind::New if rules.has(Alteration::NewNever6) => None,
+        Kind::Old if rules.has(Alteration::Old6AboveSigned) => Some(OLD_LAST_BEFORE),
+        Kind::New | Kind::Old | Kind::Rest if rules.has(Alteration::MakingBelowLast) => {
+            kind.last().map(|last| last - 1)
+        }
+        Kind::New | Kind::Old | Kind::Rest => kind.last(),
     }
 }
 

@@ -3,7 +3,8 @@
 use crate::call::{Answer, Refusal, Reply};
 use crate::rules::{Alteration, Rules};
 use crate::store::{
-    entry_index, Kind, Pitch, Publisher, Store, HIGH_BEFORE, LOW_BEFORE, PITCH_HIGH, PITCH_LOW,
+    entry_index, Kind, Pitch, Publisher, Store, HIGH_BEFORE, LOW_BEFORE, OLD_LAST_BEFORE,
+    PITCH_HIGH, PITCH_LOW,
 };
 
 /// Whether WRITE takes this pitch.
@@ -174,18 +175,18 @@ impl Store {
 
     pub fn sync(&mut self, p: u16, rules: Rules) -> Answer {
         let p = self.publisher_named(p)?;
-        if rules.has(Alteration::LastBeforeTurn) && self.version == self.kind.last() {
+        if rules.has(Alteration::LastBeforeTurn) && self.at_last(rules) {
             return Err(Refusal(32));
         }
         self.turn(p, 34)?;
-        if self.version == self.kind.last() && !rules.has(Alteration::SyncAtLast) {
+        if self.at_last(rules) && !rules.has(Alteration::SyncAtLast) {
             return Err(Refusal(32));
         }
+        let mark = self.next_mark(rules);
         let publisher = &mut self.publisher[p];
         publisher.place = 35;
         let walk = &mut publisher.walk;
-        let more = u64::from(!rules.has(Alteration::MarkIsVersion));
-        walk.mark = self.version.wrapping_add(more);
+        walk.mark = mark;
         if !(self.kind == Kind::Old && rules.has(Alteration::OldSyncKeepsNext)) {
             walk.next = 0;
         }
@@ -196,6 +197,40 @@ impl Store {
             walk.waits = 0;
         }
         Ok(Reply::Synced(walk.mark))
+    }
+
+    /// Whether the version is the last. An old store has no last version.
+    fn at_last(&self, rules: Rules) -> bool {
+        let last = match self.kind {
+            Kind::Old if rules.has(Alteration::Old32AtSigned) => Some(OLD_LAST_BEFORE),
+            Kind::Old if rules.has(Alteration::Old32AtEnd) => Some(u64::MAX),
+            Kind::New | Kind::Old | Kind::Rest => self.kind.last(),
+        };
+        last == Some(self.version)
+    }
+
+    /// The version + 1, modulo 2^64.
+    fn next_mark(&self, rules: Rules) -> u64 {
+        let old = self.kind == Kind::Old;
+        if rules.has(Alteration::MarkIsVersion) {
+            return self.version;
+        }
+        if old && rules.has(Alteration::OldMarkStops) {
+            return self.version.saturating_add(1);
+        }
+        let mark = self.version.wrapping_add(1);
+        match old && rules.has(Alteration::OldMarkModulo63) {
+            true => mark % (1 << 63),
+            false => mark,
+        }
+    }
+
+    /// The mark - 1, modulo 2^64.
+    fn one_before(&self, mark: u64, rules: Rules) -> u64 {
+        match self.kind == Kind::Old && rules.has(Alteration::OldNoneBeforeZero) {
+            true => mark.saturating_sub(1),
+            false => mark.wrapping_sub(1),
+        }
     }
 
     pub fn raise(&mut self, p: u16, rules: Rules) -> Answer {
@@ -211,7 +246,7 @@ impl Store {
         let before = if rules.has(Alteration::RaiseComparesMark) {
             mark
         } else {
-            mark.wrapping_sub(1)
+            self.one_before(mark, rules)
         };
         let behind = self.version < mark && rules.has(Alteration::RaisesWhenBehind);
         if self.version == before || behind {

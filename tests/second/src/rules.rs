@@ -28,6 +28,8 @@ alterations! {
     Making65Readers "making takes 65 readers"
     MakingOneSlot "making takes 1 slot"
     MakingBelowLast "making refuses the last version"
+    NewNever6 "6 is missing"
+    Old6AboveSigned "6 is given for an old store's first version above 2^63 - 1"
     RefusedMakingClears "a refused making clears the words"
     FreshEntriesZero "fresh entries are 0"
     FreshFeathered "fresh entries are 90000, whatever the first table says"
@@ -76,7 +78,8 @@ alterations! {
     // The damage test.
     KindsBeforeInWords "the kind numbers of the format before, 1 and 2, pass in word 0"
     NameBeforeSpoiled "10 and 11 are tested before 1"
-    OldLastUnsigned "the old store's last version is 2^64 - 2 in the damage test"
+    OldVersionSigned "an old store's version above 2^63 - 1 is spoiled"
+    OldVersionAsNew "an old store's version above 2^64 - 2 is spoiled"
     LongerEntriesPass "longer entries pass the damage test"
     OldPlaceTwo "an old reader may be at place 2"
     NewPlace36 "a new publisher may be at place 36"
@@ -84,7 +87,9 @@ alterations! {
     PublishedTestedAtFour "the published version is tested at place 4 too"
     HeldAlwaysTested "the held slot is tested at place 0 too"
     WalkTestedAt34 "the mark and the waits are tested at 34 too"
-    MarkPastLast "a mark may be one above the last version"
+    MarkPastLast "a new store's mark may be one above the last version"
+    OldMarkZeroSpoiled "an old store's mark of 0 is spoiled"
+    OldMarkSigned "an old store's mark above 2^63 - 1 is spoiled"
     NextTestedAt38 "next is tested at 38 too"
     NewIndicatorsTested "a new store's indicators are tested"
     SpoiledBeyondSizes "records beyond the sizes are tested"
@@ -141,13 +146,18 @@ alterations! {
     SwapRepliesOwn "SWAP replies with its own slot"
     SyncAtLast "SYNC is allowed at the last version"
     LastBeforeTurn "SYNC tests 32 before 21"
+    Old32AtSigned "32 is given at an old store's version 2^63 - 1"
+    Old32AtEnd "32 is given at an old store's version 2^64 - 1"
     MarkIsVersion "the mark is the version"
+    OldMarkStops "an old store's mark stops at 2^64 - 1"
+    OldMarkModulo63 "an old store's mark is modulo 2^63"
     SyncKeepsLooks "SYNC leaves looks"
     SyncKeepsWaits "SYNC leaves waits"
     OldSyncKeepsNext "an old SYNC leaves next"
     OldRaisesAt35 "an old RAISE is allowed at 35"
     RaiseComparesMark "RAISE compares the version with mark, not mark - 1"
     RaisesWhenBehind "RAISE raises from any version below mark"
+    OldNoneBeforeZero "an old RAISE takes 0 for one before the mark 0"
     SharedStays "a shared RAISE stays at its place"
     ReleasesAt37 "RELEASE is allowed at 37"
     ReleasesSaturate "releases stop at 2^64 - 1"
@@ -294,7 +304,7 @@ fn hyphened(name: &str) -> String {
     out
 }
 
-/// The rules of document 01, with at most one altered.
+/// The rules of documents 01 and 02, with at most one altered.
 #[derive(Clone, Copy, PartialEq, Eq, Debug)]
 pub struct Rules(Option<Alteration>);
 

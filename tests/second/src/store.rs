@@ -39,6 +39,8 @@ pub const STEP_MOST: Pitch = 15_000;
 pub const MOST_READERS: usize = 64;
 pub const MOST_PUBLISHERS: usize = 16;
 pub const MOST_SLOTS: usize = 32;
+/// The last version that an old store had before request 5.
+pub const OLD_LAST_BEFORE: u64 = (1 << 63) - 1;
 /// The most slots that a participant of a rest store may have deferred.
 pub const MOST_DEFERRED: usize = 8;
 
@@ -86,13 +88,19 @@ impl Kind {
         KINDS.into_iter().find(before)
     }
 
-    /// The last version.
-    pub fn last(self) -> u64 {
+    /// The last version. An old store has none: its versions and marks run
+    /// modulo 2^64.
+    pub fn last(self) -> Option<u64> {
         match self {
-            Kind::New => u64::MAX - 1,
-            Kind::Old => (1 << 63) - 1,
-            Kind::Rest => u64::MAX,
+            Kind::New => Some(u64::MAX - 1),
+            Kind::Old => None,
+            Kind::Rest => Some(u64::MAX),
         }
+    }
+
+    /// The highest version that a store of this kind can have.
+    pub fn highest(self) -> u64 {
+        self.last().unwrap_or(u64::MAX)
     }
 }
 

@@ -70,7 +70,7 @@ fn shows(alteration: Alteration) -> bool {
     use Alteration as A;
     let hidden = match alteration {
         // No sheet spoils a store or lends entries of a wrong length.
-        A::Untested(_) | A::NameBeforeSpoiled | A::OldLastUnsigned => true,
+        A::Untested(_) | A::NameBeforeSpoiled => true,
         A::OldPlaceTwo | A::NewPlace36 | A::MarkPastLast => true,
         A::PickedAlwaysTested | A::HeldAlwaysTested => true,
         A::LongerEntriesPass | A::MakingLengthFirst => true,

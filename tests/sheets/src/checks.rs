@@ -85,6 +85,10 @@ fn a_run_that_saw_nothing_lacks_everything() {
     assert!(lacks("the reply unread") && lacks("the reply quiet"));
     assert!(lacks("refusal 1") && !lacks("refusal 5") && !lacks("refusal 33"));
     assert!(lacks("old claim: refused 31") && !lacks("new claim: refused 31"));
+    assert!(lacks("new sync: refused 32") && !lacks("old sync: refused 32"));
+    assert!(lacks("new store: refused 6") && !lacks("old store: refused 6"));
+    assert!(lacks("old: SYNC with the mark 0") && lacks("old: RAISE to 0"));
+    assert!(lacks("old: a return after the one with the mark 0"));
     assert!(lacks("new raise: shared") && !lacks("old raise: shared"));
     assert!(lacks("walk before a made store: refused 1"));
     assert!(lacks("defer before a made store: refused 1"));
@@ -125,6 +129,38 @@ fn what_was_seen_is_not_missing() {
     }
     assert_eq!(missing.len() + found.len(), Seen::default().missing().len());
     assert_eq!((seen.sheets, seen.lines), (1, 5));
+}
+
+/// What a sheet shows of the end of an old store's versions. Another store
+/// begins anew, a refused one does not.
+#[test]
+fn crossings_are_seen() {
+    let lacks = |store: &str, between: &str| {
+        let publishes = "(write 0 1)\n".repeat(32) + "(swap 0)\n(sync 0)\n(walk 0 1)\n";
+        let ends = "(raise 0)\n(walk 0 1)\n(release 0)\n";
+        let text = format!("{store}(claim 0 1)\n{publishes}{between}{ends}");
+        let mut seen = Seen::default();
+        seen.note(&FIRST, text.as_bytes(), &play(text.as_bytes()));
+        let missing = seen.missing();
+        [
+            "old: SYNC with the mark 0",
+            "old: RAISE to 0",
+            "old: a return with the mark 0",
+        ]
+        .map(|what| missing.iter().any(|line| line == what))
+    };
+    let old = "(store old 1 1 2 18446744073709551615)\n";
+    assert_eq!(lacks(old, ""), [false; 3]);
+    assert_eq!(lacks(old, "(store new 0 1 2 0)\n"), [false; 3]);
+    assert_eq!(lacks(old, "(store old 1 1 2 0)\n"), [false, true, true]);
+    assert_eq!(
+        lacks("(store old 1 1 2 18446744073709551614)\n", ""),
+        [true; 3]
+    );
+    assert_eq!(
+        lacks("(store new 1 1 2 18446744073709551614)\n", ""),
+        [true; 3]
+    );
 }
 
 #[test]

@@ -6,6 +6,7 @@ use crate::pieces::{Way, NAMES};
 use crate::shapes::SHAPES;
 use crate::writer::Written;
 use second::call::{calls, calls_lacked_by, calls_of, Call, Name, Reply};
+use second::crossing::{Crossing, End, CROSSINGS};
 use second::rules::Rules;
 use second::sheet::{lines, read, Sheet};
 use second::store::{Kind, Pitch, KINDS};
@@ -96,10 +97,11 @@ impl Seen {
         };
         self.add(ended.to_string(), 1);
         let mut sheet = Sheet::new(table, Rules::AS_WRITTEN);
+        let mut end = None;
         for (line, printed) in lines(text).zip(lines(output)) {
             self.lines += 1;
             self.note_printed(printed);
-            self.note_line(&mut sheet, line);
+            self.note_line(&mut sheet, &mut end, line);
         }
     }
 
@@ -113,7 +115,8 @@ impl Seen {
         }
     }
 
-    fn note_line(&mut self, sheet: &mut Sheet, line: &[u8]) {
+    /// The end of the versions is that of the made store.
+    fn note_line(&mut self, sheet: &mut Sheet, end: &mut Option<End>, line: &[u8]) {
         let before = sheet.kind();
         let (Some(call), Some(reply)) = (read(line), sheet.reply(line)) else {
             if before.is_none() {
@@ -126,6 +129,13 @@ impl Seen {
             kind = Kind::from_number(u64::from(number));
             self.note_store(before, kind, reply);
             self.note_sizes(kind, &call, reply);
+            if reply == Reply::Made {
+                *end = kind.map(End::fresh);
+            }
+        }
+        let crossing = end.as_mut().and_then(|end| end.hear(&call, &reply));
+        if let Some(crossing) = crossing {
+            self.add(crossing_name(crossing), 1);
         }
         self.add(call_name(kind, call.name(), &answer_name(reply)), 1);
     }
@@ -165,6 +175,7 @@ impl Seen {
         let tried = cards.filter(|&name| name != FORBIDDEN || !is_root());
         needed.extend(tried.map(card_name));
         needed.extend(OTHERS.iter().map(|other| other.to_string()));
+        needed.extend(CROSSINGS.map(crossing_name));
         needed.extend(needed_of_calls());
         needed.retain(|what| self.count(what) == 0);
         needed
@@ -211,6 +222,10 @@ fn way_name(way: &str) -> String {
     format!("a sheet by {way}")
 }
 
+fn crossing_name(crossing: Crossing) -> String {
+    format!("old: {crossing}")
+}
+
 fn call_name(kind: Option<Kind>, call: Name, answer: &str) -> String {
     match kind {
         Some(kind) => format!("{kind} {call}: {answer}"),
@@ -250,10 +265,10 @@ fn needed_of_calls() -> Vec<String> {
 /// busy in an old store, so that its RAISE is never shared.
 fn answers(name: Name, kind: Kind) -> &'static str {
     match (name, kind) {
-        (Name::Store, Kind::New | Kind::Old) => {
+        (Name::Store, Kind::New) => {
             "refused 2, refused 3, refused 4, refused 6, refused 40, refused 41, refused 42, made"
         }
-        (Name::Store, Kind::Rest) => {
+        (Name::Store, Kind::Old | Kind::Rest) => {
             "refused 2, refused 3, refused 4, refused 40, refused 41, refused 42, made"
         }
         (Name::Enter, _) => "refused 10, refused 20, at",
@@ -267,7 +282,8 @@ fn answers(name: Name, kind: Kind) -> &'static str {
         }
         (Name::Write, _) => "refused 11, refused 14, refused 21, written",
         (Name::Swap, _) => "refused 11, refused 21, swapped",
-        (Name::Sync, _) => "refused 11, refused 21, refused 32, synced",
+        (Name::Sync, Kind::New | Kind::Rest) => "refused 11, refused 21, refused 32, synced",
+        (Name::Sync, Kind::Old) => "refused 11, refused 21, synced",
         (Name::Raise, Kind::New | Kind::Rest) => "refused 11, refused 21, raised, shared",
         (Name::Raise, Kind::Old) => "refused 11, refused 21, raised",
         (Name::Walk, Kind::New | Kind::Rest) => "refused 11, refused 21, waiting, spent, returned",

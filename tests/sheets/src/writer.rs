@@ -8,7 +8,7 @@ use second::layout::{pack, publisher_at, step_at, PUBLISHERS, WORDS};
 use second::random::Random;
 use second::rules::Rules;
 use second::sheet::{read, Sheet};
-use second::store::{Kind, KINDS};
+use second::store::{Kind, KINDS, OLD_LAST_BEFORE};
 use second::turns::{call_by, call_named, in_turn, Actor, RestPoints, Scheduler};
 
 /// The sheet with a line of several hundred thousand bytes.
@@ -459,7 +459,10 @@ fn small_rest_store(random: &mut Random) -> Call {
 }
 
 fn first_version(kind: Kind, random: &mut Random) -> u64 {
-    let last = kind.last();
+    let last = match kind {
+        Kind::New | Kind::Rest => kind.highest(),
+        Kind::Old => return old_first_version(random),
+    };
     match random.below(10) {
         0 => last,
         1 => last - 1,
@@ -470,8 +473,20 @@ fn first_version(kind: Kind, random: &mut Random) -> u64 {
     }
 }
 
-/// Puts one of the arguments out of its range. A rest store has no first
-/// version above the last; its sizes are put apart.
+/// One time in eight within 3 of 2^64, and as often about 2^63.
+fn old_first_version(random: &mut Random) -> u64 {
+    match random.below(16) {
+        0 | 1 => u64::MAX - random.below(3),
+        2 | 3 => OLD_LAST_BEFORE - 1 + random.below(4),
+        4 => u64::MAX - random.below(8),
+        5 | 6 => random.below(100),
+        7 => random.word(),
+        _ => 0,
+    }
+}
+
+/// Puts one of the arguments out of its range. No first version of an old or a
+/// rest store is; the sizes of a rest store are put apart.
 fn out_of_range(kind: Kind, store: &mut Call, random: &mut Random) {
     let Call::Make {
         readers,
@@ -492,6 +507,7 @@ fn out_of_range(kind: Kind, store: &mut Call, random: &mut Random) {
         (_, 1) => *publishers = random.pick(&[0, 17, 18, 256, 65_535]),
         (_, 2) => *slots = random.pick(&[0, 1, 33, 34, 256, 65_535]),
         (Kind::Rest, _) => *publishers = random.pick(&[*readers + 1, 1, 2, 16]),
-        (Kind::New | Kind::Old, _) => *version = random.pick(&[kind.last() + 1, u64::MAX]),
+        (Kind::Old, _) => *slots = random.pick(&[0, 1, 33]),
+        (Kind::New, _) => *version = u64::MAX,
     }
 }

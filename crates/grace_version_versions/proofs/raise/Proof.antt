@@ -1,6 +1,7 @@
 -- `raise` meets its contract: the refusals are rows of the step; at 35 the shared raise is the step. The mark of an undamaged store is not 0, so there is one before it. Assumes nothing.
 use borrow.Author.Needs.{needs}
 use native.Mathlib.Omega.{arith}
+use Prim.Native.Nat.{_≤_}
 use mathlib.Core.Path.{_≡_, refl, sym, _∙_}
 use mathlib.Core.Bool.{true, false}
 use mathlib.Core.Logic.{⊎-elim}
@@ -8,8 +9,9 @@ use borrow.Author.Tests.{le-leb, lt-leb, eq-eqb, ne-eqb}
 use Rattle.statement.specs.Machine.{state}
 use Rattle.publication_law.specs.Table.{damaged, step}
 use Rattle.publication_law.specs.Calls.{step-damaged, undamaged, damaged-head, damaged-readers, damaged-publishers, raise-is}
-use Rattle.publication_law.specs.InBounds.{in-bounds-of, Synchronising, synchronising-of}
-use Rattle.grace_version_law.specs.Steps.{fixed, rules, versions}
+use Rattle.publication_law.specs.InBounds.{in-bounds-of, mark-fits-of}
+use Rattle.publication_law.specs.KindLaw.{up-to-mark-low}
+use Rattle.grace_version_law.specs.Steps.{LAST, fixed, rules, versions}
 use Rattle.grace_version_law.specs.Safety.{law}
 use Rattle.calls.specs.declared.Call.the-variants.{Raise}
 use Rattle.grace_version_versions.proofs.raise.Statement.{statement}
@@ -35,10 +37,10 @@ store-damaged c =
     (⊎-elim (λ a. damaged-readers rules _ (sym (a .2 .ensures es) ∙ a .3 .taken)) (λ a. damaged-publishers rules _ (sym (a .5 .ensures es) ∙ a .6 .taken)))
     (c .if1 .came)
 
-walker : (c : tie.At-match-keys1) → Synchronising (c .before .publisher-at .result)
-walker c =
+mark-low : (c : tie.At-match-keys1) → 1 ≤ c .before .publisher-at .result .walk .mark
+mark-low c =
     let e = rw (c .before .publisher-at .ensures) at (c .match .keys1) in
-    rw (c .before .publisher-at .ensures) (synchronising-of rules law _ (no-damage (c .before .before .before .before .before .before)) _ (rw (c .before .before .before .before .publishers-of .ensures) at (c .before .before .before .if4 .left)) (omega (arith, e)))
+    rw (c .before .publisher-at .ensures) (up-to-mark-low LAST _ (mark-fits-of rules law _ (no-damage (c .before .before .before .before .before .before)) _ (rw (c .before .before .before .before .publishers-of .ensures) at (c .before .before .before .if4 .left)) (omega (arith, e))))
 
 head-is-damaged-requires : tie.Need-head-is-damaged-requires
 head-is-damaged-requires c κs = search needs
@@ -71,7 +73,7 @@ publisher-at-requires : tie.Need-publisher-at-requires
 publisher-at-requires c κs = omega (arith, in-bounds-of rules law _ (no-damage (c .before .before .before .before)), c .before .before .publishers-of .ensures)
 
 sub-raise-version : tie.Need-sub-raise-version
-sub-raise-version c = walker (c .before .before) .mark-low
+sub-raise-version c = mark-low (c .before .before)
 
 raise-version-requires : tie.Need-raise-version-requires
 raise-version-requires c κs = (in-bounds-of rules law _ (no-damage (c .before .before .before .before .before .before .before .before)), rw (c .before .before .before .before .before .before .publishers-of .ensures) at (c .before .before .before .before .before .if4 .left), c .before .before .before .publisher-at .ensures)

@@ -8,7 +8,6 @@ use Rattle.calls.specs.Numbers.{KIND-NEW, KIND-OLD, KIND-REST, READERS-MAX, PUB
 use Rattle.calls.specs.ReplyNumbers.{pitchNumber}
 use Rattle.layout.specs.Layout.{WORDS}
 use Rattle.grace_version_law.specs.Steps as new-store
-use Rattle.two_phase_law.specs.Steps as old-store
 use Rattle.qsbr_law.specs.Steps as rest-store
 use Rattle.reply_numbers.specs.Numbers.{limits}
 use Rattle.reply_numbers.proofs.limit.Statement.{statement}
@@ -18,7 +17,7 @@ use Rattle.reply_numbers.proofs.limit.Lts as lts
 use Rattle.reply_numbers.proofs.pitch_number.Reads as pitch-number-reads
 
 reply-numbers-are : (a b d e : ℕ) → a ≡ pitchNumber PITCH-LOW → b ≡ pitchNumber PITCH-HIGH → d ≡ pitchNumber FEATHERED → e ≡ pitchNumber STEP-MAX
-    → WORDS ∷ KIND-NEW ∷ KIND-OLD ∷ READERS-MAX ∷ PUBLISHERS-MAX ∷ SLOTS-MIN ∷ SLOTS-MAX ∷ TABLE ∷ a ∷ b ∷ d ∷ NOT-READING ∷ new-store.LAST ∷ old-store.LAST ∷ e ∷ PITCH-BYTES ∷ KIND-REST ∷ rest-store.LAST ∷ DEFERRED-MAX ∷ [] ≡ limits
+    → WORDS ∷ KIND-NEW ∷ KIND-OLD ∷ READERS-MAX ∷ PUBLISHERS-MAX ∷ SLOTS-MIN ∷ SLOTS-MAX ∷ TABLE ∷ a ∷ b ∷ d ∷ NOT-READING ∷ new-store.LAST ∷ e ∷ PITCH-BYTES ∷ KIND-REST ∷ rest-store.LAST ∷ DEFERRED-MAX ∷ [] ≡ limits
 reply-numbers-are a b d e is-low is-high is-feathered is-step = rw (is-low, is-high, is-feathered, is-step) refl
 
 pitch-number-requires : tie.Need-pitch-number-requires

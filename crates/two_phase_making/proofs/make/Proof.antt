@@ -1,6 +1,10 @@
--- `make` meets its contract: the shared making, at this kind. Assumes nothing.
+-- `make` meets its contract: the shared making, at this kind. A version is a word, so none is too large. Assumes nothing.
 use borrow.Author.Needs.{needs}
-use mathlib.Core.Path.{refl}
+use native.Mathlib.Omega.{arith}
+use Prim.Native.Nat.{_≤_}
+use mathlib.Core.Path.{sym}
+use borrow.Author.Tests.{le-ltb}
+use Rattle.calls.specs.Numbers.{NUMBER-MAX}
 use Rattle.statement.specs.Machine.{state, given}
 use Rattle.publication_law.specs.Calls.{making-is}
 use Rattle.two_phase_law.specs.Steps.{versions, rules}
@@ -25,7 +29,8 @@ same-length-2 c = search needs
 
 returns : tie.Need-returns
 returns c = let a = c .before .before .before .before .before .before .before .before .args in
-    let did = c .before .before .before .before .make-store .ensures versions refl in
+    let low : a .version ≤ NUMBER-MAX = omega (arith, c .before .before .before .before .before .before .before .before .fits .version) in
+    let did = c .before .before .before .before .make-store .ensures versions (sym (le-ltb NUMBER-MAX (a .version) low)) in
     making-is rules (given (a .readers) (a .publishers) (a .slots) (a .version) (a .table .now)) (state (a .words .now) (a .entries .now)) _ _ _ (did .0) (c .reply-to .ensures) (did .1)
 
 pub make-spec : {M : Type 1} → statement M

@@ -1,4 +1,4 @@
--- `raise` meets its contract: the refusals are rows of the step; at 36 the shared raise is the step. The mark of an undamaged store is not 0, so there is one before it. Assumes nothing.
+-- `raise` meets its contract: the refusals are rows of the step; at 36 the shared raise is the step, at one before the mark modulo 2^64. Assumes nothing.
 use borrow.Author.Needs.{needs}
 use native.Mathlib.Omega.{arith}
 use mathlib.Core.Path.{_≡_, refl, sym, _∙_}
@@ -8,15 +8,16 @@ use borrow.Author.Tests.{le-leb, lt-leb, eq-eqb, ne-eqb}
 use Rattle.statement.specs.Machine.{state}
 use Rattle.publication_law.specs.Table.{damaged, step}
 use Rattle.publication_law.specs.Calls.{step-damaged, damaged-head, damaged-publishers, raise-is}
-use Rattle.publication_law.specs.InBounds.{in-bounds-of, Synchronising, synchronising-of}
+use Rattle.publication_law.specs.InBounds.{in-bounds-of}
 use Rattle.two_phase_law.specs.Steps.{fixed, rules, versions}
 use Rattle.two_phase_law.specs.Safety.{law}
-use Rattle.two_phase_law.specs.Calls.{scan-damaged, scan-undamaged}
+use Rattle.two_phase_law.specs.Calls.{scan-damaged, scan-undamaged, before-is}
 use Rattle.calls.specs.declared.Call.the-variants.{Raise}
 use Rattle.two_phase_versions.proofs.raise.Statement.{statement}
 use Rattle.two_phase_versions.proofs.raise.Tie as tie
 use Rattle.two_phase_versions.proofs.raise.Reads as reads
 use Rattle.two_phase_versions.proofs.raise.Lts as lts
+use Rattle.std.proofs.num.wrapping_sub_u64.Reads as wrapping-sub-u64-reads
 use Rattle.layout.proofs.publisher_at.Reads as publisher-at-reads
 use Rattle.layout.proofs.publishers_of.Reads as publishers-of-reads
 use Rattle.publication_grace.proofs.raise_version.Reads as raise-version-reads
@@ -35,11 +36,6 @@ store-damaged c =
     ⊎-elim (λ t. damaged-head rules _ (sym (c .before .head-is-damaged .ensures es refl) ∙ t .taken))
     (⊎-elim (λ a. scan-damaged _ (sym (a .2 .ensures es) ∙ a .3 .taken)) (λ a. damaged-publishers rules _ (sym (a .5 .ensures es) ∙ a .6 .taken)))
     (c .if1 .came)
-
-walker : (c : tie.At-match-keys1) → Synchronising (c .before .publisher-at .result)
-walker c =
-    let e = rw (c .before .publisher-at .ensures) at (c .match .keys1) in
-    rw (c .before .publisher-at .ensures) (synchronising-of rules law _ (no-damage (c .before .before .before .before .before .before)) _ (rw (c .before .before .before .before .publishers-of .ensures) at (c .before .before .before .if4 .left)) (omega (arith, e)))
 
 head-is-damaged-requires : tie.Need-head-is-damaged-requires
 head-is-damaged-requires c κs = search needs
@@ -71,8 +67,8 @@ returns-2 c = rw (no-damage (c .before .before .before), le-leb _ _ (rw (c .befo
 publisher-at-requires : tie.Need-publisher-at-requires
 publisher-at-requires c κs = omega (arith, in-bounds-of rules law _ (no-damage (c .before .before .before .before)), c .before .before .publishers-of .ensures)
 
-sub-raise-version : tie.Need-sub-raise-version
-sub-raise-version c = walker (c .before .before) .mark-low
+wrapping-sub-u64-requires : tie.Need-wrapping-sub-u64-requires
+wrapping-sub-u64-requires c κs = search needs
 
 raise-version-requires : tie.Need-raise-version-requires
 raise-version-requires c κs = (in-bounds-of rules law _ (no-damage (c .before .before .before .before .before .before .before .before)), rw (c .before .before .before .before .before .before .publishers-of .ensures) at (c .before .before .before .before .before .if4 .left), c .before .before .before .publisher-at .ensures)
@@ -82,7 +78,7 @@ same-length-3 c = search needs
 
 -- what raise_version replies
 returns-3 : tie.Need-returns-3
-returns-3 c = raise-is fixed _ (no-damage (c .before .before .before .before .before .before .before .before .before .before .before)) _ _ _ (rw (c .before .before .before .before .before .before .before .before .before .publishers-of .ensures) at (c .before .before .before .before .before .before .before .before .if4 .left)) (c .before .before .before .before .before .before .publisher-at .ensures) (eq-eqb _ 36 (c .before .before .before .before .before .match .keys1)) (c .before .before .raise-version .ensures versions (c .before .before .before .before .before .before .before .before .before .before .before .before .before .before .before .before .before .before .before .before .before .args .entries .now) refl)
+returns-3 c = raise-is fixed _ (no-damage (c .before .before .before .before .before .before .before .before .before .before .before)) _ _ _ (rw (c .before .before .before .before .before .before .before .before .before .publishers-of .ensures) at (c .before .before .before .before .before .before .before .before .if4 .left)) (c .before .before .before .before .before .before .publisher-at .ensures) (eq-eqb _ 36 (c .before .before .before .before .before .match .keys1)) (c .before .before .raise-version .ensures versions (c .before .before .before .before .before .before .before .before .before .before .before .before .before .before .before .before .before .before .before .before .before .args .entries .now) (before-is _ _ (omega arith) (c .before .before .before .wrapping-sub-u64 .ensures)))
 
 same-length-4 : tie.Need-same-length-4
 same-length-4 c = search needs
@@ -105,7 +101,7 @@ raise-spec =
     same-length-2
     returns-2
     publisher-at-requires
-    sub-raise-version
+    wrapping-sub-u64-requires
     raise-version-requires
     same-length-3
     returns-3

@@ -1,4 +1,4 @@
--- `sync` meets its contract: a damaged store is refused; else the shared synchronise is the step, since no undamaged version is above the last. Assumes nothing.
+-- `sync` meets its contract: a damaged store is refused; else the shared synchronise is the step, up to the version 2^64 - 1. Assumes nothing.
 use borrow.Author.Needs.{needs}
 use native.Mathlib.Omega.{arith}
 use mathlib.Core.Path.{_≡_, refl, sym, _∙_}
@@ -6,9 +6,9 @@ use mathlib.Core.Bool.{true, false}
 use mathlib.Core.Logic.{⊎-elim}
 use Rattle.statement.specs.Machine.{state}
 use Rattle.publication_law.specs.Table.{damaged}
-use Rattle.publication_law.specs.Calls.{step-damaged, step-undamaged, damaged-head, damaged-publishers, last-is, mark-is}
-use Rattle.publication_law.specs.InBounds.{in-bounds-of, version-low}
-use Rattle.two_phase_law.specs.Steps.{LAST, rules, versions}
+use Rattle.publication_law.specs.Calls.{step-damaged, step-undamaged, damaged-head, damaged-publishers}
+use Rattle.publication_law.specs.InBounds.{in-bounds-of}
+use Rattle.two_phase_law.specs.Steps.{rules, versions}
 use Rattle.two_phase_law.specs.Safety.{law}
 use Rattle.two_phase_law.specs.Calls.{scan-damaged, scan-undamaged}
 use Rattle.calls.specs.declared.Call.the-variants.{Sync}
@@ -49,9 +49,6 @@ same-length c = search needs
 returns : tie.Need-returns
 returns c = step-damaged rules _ (Sync _) (store-damaged c)
 
-sub-start-sync : tie.Need-sub-start-sync
-sub-start-sync c = search needs
-
 start-sync-requires : tie.Need-start-sync-requires
 start-sync-requires c κs = in-bounds-of rules law _ (no-damage (c .before))
 
@@ -60,7 +57,7 @@ same-length-2 c = search needs
 
 -- what start_sync replies
 returns-2 : tie.Need-returns-2
-returns-2 c = c .before .before .start-sync .ensures versions (c .before .before .before .before .before .before .before .before .before .before .before .before .before .before .args .entries .now) (last-is LAST _ (omega arith) (version-low rules law _ (no-damage (c .before .before .before .before)) LAST refl)) (mark-is LAST _ (omega arith) (version-low rules law _ (no-damage (c .before .before .before .before)) LAST refl)) ∙ step-undamaged rules _ (Sync _) (no-damage (c .before .before .before .before))
+returns-2 c = c .before .before .start-sync .ensures versions (c .before .before .before .before .before .before .before .before .before .before .before .before .before .before .args .entries .now) refl refl ∙ step-undamaged rules _ (Sync _) (no-damage (c .before .before .before .before))
 
 pub sync-spec : {M : Type 1} → statement M
 sync-spec =
@@ -71,7 +68,6 @@ sync-spec =
     publishers-are-damaged-requires
     same-length
     returns
-    sub-start-sync
     start-sync-requires
     same-length-2
     returns-2)
