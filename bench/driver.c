@@ -220,9 +220,11 @@ int main(int argc, char **argv)
     const uint16_t readers = (uint16_t)atoi(argv[2]), publishers = (uint16_t)atoi(argv[3]), slots = (uint16_t)atoi(argv[4]);
     const long calls = atol(argv[5]);
     entries_len = (size_t)slots * TABLE;
-    for (uint64_t version = 0; version < 20; version++) {
+    /* The version of an old store runs past 2^64 - 1 in the list. */
+    const uint64_t first = kind == RAHUVYTE_KIND_OLD ? UINT64_MAX : 19;
+    for (uint64_t i = 20; i > 0; i--) {
         draw_table();
-        BOTH(make, table, TABLE, kind, readers, publishers, slots, version);
+        BOTH(make, table, TABLE, kind, readers, publishers, slots, first - (i - 1));
     }
     state = strtoull(argv[6], NULL, 10) * 2 + 1;
     for (long i = 0; i < calls; i++)

@@ -203,11 +203,13 @@ int main(int argc, char **argv)
     slots = (uint16_t)atoi(argv[4]);
     state = strtoull(argv[6], NULL, 10) * 2 + 1;
     entries_len = RAHUVYTE_ENTRIES(slots);
-    if (c_make(words, RAHUVYTE_WORDS, entries, entries_len, table, RAHUVYTE_TABLE, kind, readers, publishers, slots, 0).code != RAHUVYTE_MADE) {
+    /* The version of an old store runs past 2^64 - 1 on the sheet. */
+    const uint64_t first = kind == RAHUVYTE_KIND_OLD ? UINT64_MAX : 0;
+    if (c_make(words, RAHUVYTE_WORDS, entries, entries_len, table, RAHUVYTE_TABLE, kind, readers, publishers, slots, first).code != RAHUVYTE_MADE) {
         fprintf(stderr, "sheet_lines: there is no such store\n");
         return 2;
     }
-    printf("(store %s %d %d %d 0)\n", kind == RAHUVYTE_KIND_NEW ? "new" : argv[1], readers, publishers, slots);
+    printf("(store %s %d %d %d %llu)\n", kind == RAHUVYTE_KIND_NEW ? "new" : argv[1], readers, publishers, slots, (unsigned long long)first);
     for (long i = 1; i < lines; i++)
         line();
     return fclose(stdout) == EOF;

@@ -150,7 +150,7 @@ enum {
     RAHUVYTE_CLAIMED = 104,  /* (slot) */
     RAHUVYTE_WRITTEN = 105,  /* (pitches written so far) */
     RAHUVYTE_SWAPPED = 106,  /* (the slot that was current until now) */
-    RAHUVYTE_SYNCED = 107,   /* (mark: the version plus 1) */
+    RAHUVYTE_SYNCED = 107,   /* (mark: the version plus 1, in an old store modulo 2^64) */
     RAHUVYTE_RAISED = 108,
     RAHUVYTE_SHARED = 109,
     RAHUVYTE_WAITING = 110,  /* (new: the reader waited for; old: the indicator, 0 or 1) */

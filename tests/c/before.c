@@ -1,4 +1,4 @@
-/* Stores and callers of the releases before. Their stores have 425 words; before 0.3.0 their pitches had 16 bits, and their kinds other numbers.
+/* Stores and callers of the releases before. Up to 0.3.0 their stores have 425 words; before 0.3.0 their pitches had 16 bits, and their kinds other numbers.
    A store of 425 words gets 1 from each call, whoever calls. So does a caller compiled with a header of then, which lends 425 words, at making too.
    Lent with the words of today, a store and a making from before 0.3.0 still get 1, for the number of their kind. Nothing is changed, and no byte touched beyond what
    is lent. 0.1.0 packed the same words as 0.2.0.

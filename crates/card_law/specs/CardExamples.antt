@@ -77,6 +77,7 @@ pub printings : AllPrinted (
     ∷ (text "", text "(store new 1 1 2 18446744073709551615)\n", text "(1 refused 6)\n")
     -- `old` takes every first version
     ∷ (text "", text "(store old 1 1 2 18446744073709551615)\n", text "(1 refused 40)\n")
+    ∷ (lines 32 (text "90000"), text "(store old 1 1 2 18446744073709551615)\n", text "(1 made)\n")
     -- `rest` has as many publishers as readers, up to 16, and takes every first version
     ∷ (text "", text "(store rest 65 65 2 0)\n", text "(1 refused 2)\n")
     ∷ (text "", text "(store rest 17 17 2 0)\n", text "(1 refused 3)\n")
@@ -86,4 +87,4 @@ pub printings : AllPrinted (
     ∷ [])
 unfolding
     withReaders freshWords anyBelow tables making kindOfNumber anyMaking digitsBefore decimal upToSpace afterSpace digits plain angle wordNamed lineOf played joinedLines linesFrom afterLines printedFor sheet cardOf sheetOn
-printings = (refl, (refl, (refl, (refl, (refl, (refl, (refl, (refl, (refl, (refl, (refl, (refl, (refl, (refl, (refl, (refl, (refl, (refl, (refl, tt)))))))))))))))))))
+printings = (refl, (refl, (refl, (refl, (refl, (refl, (refl, (refl, (refl, (refl, (refl, (refl, (refl, (refl, (refl, (refl, (refl, (refl, (refl, (refl, tt))))))))))))))))))))

@@ -1,6 +1,6 @@
 -- Demands 1 and 3 on the steps, and the companions, for words of any kind: `store n` has the making of the kind with number n and the steps that
 -- the kind word tells, which are the steps that the contracts of `kinds` cite. Assumes nothing.
-use Prim.Native.Nat.{ℕ, _+_, _*_, _<_, _≤_}
+use Prim.Native.Nat.{ℕ, _+_, _-_, _*_, _%_, _<_, _≤_}
 use native.Mathlib.Omega.{arith}
 use mathlib.Core.Path.{_≡_, refl, sym, _∙_}
 use mathlib.Core.Logic.{_≢_}
@@ -13,7 +13,7 @@ use Rattle.calls.specs.declared.Call.the-variants.{Enter, Look, Leave, Claim, W
 use Rattle.calls.specs.declared.Reply.the-variants.{At, Walked, Refused}
 use Rattle.calls.specs.declared.WalkReply.the-variants.{Waiting, Spent}
 use Rattle.calls.specs.ReplyNumbersLaws.{PitchFitsWord, Representable}
-use Rattle.calls.specs.Numbers.{FORMAT, DAMAGED, PLACE-PUBLISHED, PLACE-LOADED-AGAIN, PLACE-OPEN}
+use Rattle.calls.specs.Numbers.{FORMAT, NUMBER-MAX, DAMAGED, BAD-VERSION, VERSION-IS-LAST, PLACE-PUBLISHED, PLACE-LOADED-AGAIN, PLACE-OPEN, PLACE-SYNCHRONISING, PLACE-RAISED}
 use Rattle.calls.specs.Events.{accepted}
 use Rattle.calls.specs.Tally.{tallyOf}
 use Rattle.layout.specs.Layout.{WORDS, kindWord, readers, publishers, slots, indicator, withReader}
@@ -45,9 +45,10 @@ use Rattle.two_phase_law.specs.Readers as old-readers
 use Rattle.qsbr_law.specs.Promises as rest-promises
 use Rattle.qsbr_law.specs.Surely as rest-surely
 use Rattle.qsbr_law.specs.Facts as rest-facts
+use Rattle.layout.specs.declared.Publisher.{Publisher}
 use Rattle.kinds_law.specs.Kinds.{Kind, tableOf, kindNumber, kindOfNumber, anyStep, anyMaking, store}
 use Rattle.kinds_law.specs.Kinds.Kind.{new, old, rest}
-use Rattle.kinds_law.specs.Calls.{number-is, step-named, step-unknown, making-unknown, any-making-leaves}
+use Rattle.kinds_law.specs.Calls.{number-is, step-named, making-named, step-unknown, making-unknown, any-making-leaves}
 use Rattle.guarantees.specs.ByKind.{storeOf, traits, kind-promises, kind-demand3, GraceKind, graceTraits, grace-promises, alike, by-number, publishesOf, chosen-leaves, chosen-frame, chosen-representable, chosen-representable-making}
 
 -- Demand 3: after every list of calls from every accepted making, of whatever kind, looks, returns, slots and picks are as document 01 tells them.
@@ -173,6 +174,13 @@ finds-free-slot = finds-free-slot-alike (storeOf new) (store (kindNumber new)) (
 pub never-shared : NeverShared (store (kindNumber old))
 never-shared = never-shared-alike (storeOf old) (store (kindNumber old)) (alike old) old-never-shared
 
+-- Nor does it give 32, on any words of its kind, or 6, to a making with a first version of 64 bits.
+pub never-32-old : (s : State) (p : ℕ) → kindWord (s .words) ≡ kindNumber old → anyStep s (Sync p) .reply ≢ Refused VERSION-IS-LAST
+never-32-old s p is = rw (step-named old s (Sync p) is) (old-promises.old-sync-not-32 s p)
+
+pub never-6-old : (z : Given) (s : State) → z .version ≤ NUMBER-MAX → anyMaking (kindNumber old) z s .reply ≢ Refused BAD-VERSION
+never-6-old z s low = rw (making-named old z s) (old-promises.old-making-not-6 z s low)
+
 -- What a WALK says, on words of each kind: reply and record are those of the looks made; waiting names the one that did not pass, spent says that all b looks passed.
 pub walk-facts-new : (s : State) (p b : ℕ) → kindWord (s .words) ≡ kindNumber new → accepted (anyStep s (Walk p b) .reply) ≡ true
     → let result = new-store.looksOf s (publisher s p .walk) b in WalkFacts s p result (new-promises.WalkLooks s p b result) (anyStep s (Walk p b))
@@ -181,6 +189,10 @@ walk-facts-new s p b is = rw (step-named new s (Walk p b) is) (new-promises.new-
 pub walk-facts-old : (s : State) (p b : ℕ) → kindWord (s .words) ≡ kindNumber old → accepted (anyStep s (Walk p b) .reply) ≡ true
     → let result = old-store.looksOf s (publisher s p) b in WalkFacts s p result (LookFacts (indicator (s .words) (old-store.lookedAt (publisher s p))) (publisher s p) b result) (anyStep s (Walk p b))
 walk-facts-old s p b is = rw (step-named old s (Walk p b) is) (old-promises.old-walk-facts s p b)
+
+-- Old: a walk looks at the indicator of its mark's own parity at 35, and at the other one at 37.
+pub looked-at-old : (y : Publisher) → (y .place ≡ PLACE-SYNCHRONISING → old-store.lookedAt y ≡ y .walk .mark % 2) × (y .place ≡ PLACE-RAISED → old-store.lookedAt y ≡ 1 - y .walk .mark % 2)
+looked-at-old y = (old-promises.old-looks-first y, old-promises.old-looks-second y)
 
 -- What an accepted ENTER and an accepted LEAVE leave of the reader and, old, of the indicators, on words of each kind.
 pub enter-facts-new : (s : State) (r : ℕ) → kindWord (s .words) ≡ kindNumber new → accepted (anyStep s (Enter r) .reply) ≡ true → new-readers.EnterFacts s r (anyStep s (Enter r))

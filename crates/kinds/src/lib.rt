@@ -149,7 +149,7 @@ pub fn swap(words: &mut [u64], entries: &[Pitch], p: u16) -> Reply
     }
 }
 
-// SYNC p: 34 to 35, with the mark one above the version. Rest lacks it.
+// SYNC p: 34 to 35, with the mark one above the version, of old modulo 2^64. Rest lacks it.
 pub fn sync(words: &mut [u64], entries: &[Pitch], p: u16) -> Reply
     ensures { λ a. ⌜ outcome a (state (now (words .exit)) (now (entries .entry)))
         ≡ anyStep (state (now (words .entry)) (now (entries .entry))) (Sync p) ⌝ }

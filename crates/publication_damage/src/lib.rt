@@ -22,7 +22,7 @@ use layout::readers_of;
 use layout::slots_of;
 use layout::version_of;
 
-// Whether the head damages a store of this kind, with so many entries, whose last version is given.
+// Whether the head damages a store of this kind, with so many entries, whose versions go up to last.
 pub fn head_damaged_of_kind(words: &[u64], entries: usize, kind: u64, last: u64) -> bool
     ensures { λ b. ⌜ ((K : DamageRules) (es : List ℤ) → K .number ≡ kind →
         K .versions .tooLarge (version (now (words .entry))) ≡ ltb last (version (now (words .entry))) →

@@ -17,7 +17,7 @@ use Rattle.calls.specs.declared.Call.the-variants.{Enter, Look, Leave, Claim, W
 use Rattle.calls.specs.declared.Reply.{Reply}
 use Rattle.calls.specs.declared.Reply.the-variants.{Made, At, Left, Synced, Walked, Freed, Refused}
 use Rattle.calls.specs.declared.WalkReply.the-variants.{Spent, Returned}
-use Rattle.calls.specs.Numbers.{TABLE, READERS-MAX, NUMBER-MAX, MODULUS, PLACE-OPEN, PLACE-IDLE, PLACE-CLAIMED, PLACE-WRITTEN, PLACE-SWAPPED, PLACE-RETURNED, DAMAGED}
+use Rattle.calls.specs.Numbers.{TABLE, READERS-MAX, NUMBER-MAX, MODULUS, PLACE-OPEN, PLACE-IDLE, PLACE-CLAIMED, PLACE-WRITTEN, PLACE-SWAPPED, PLACE-RETURNED, DAMAGED, VERSION-IS-LAST}
 use Rattle.calls.specs.ReplyNumbersLaws.{Representable}
 use Rattle.calls.specs.Events.{accepted}
 use Rattle.calls.specs.Events.Event.{_⇒_}
@@ -69,10 +69,10 @@ pub record KindShows (R : SectionRules) (traits : GraceTraits) : Type 1 where
   pub successor-is : traits .successor ≡ R .damage .versions .markAt
   pub raises-in : (phase : Phase) → traits .every .raisesIn phase ≡ R .raisesAt (firstPlace phase)
   pub walks-in : (phase : Phase) → traits .every .walksIn phase ≡ R .walksAt (firstPlace phase)
-  -- versions up to the greatest fit, and at one that is not the last a SYNC is not refused
+  -- versions up to the greatest fit, and no other; of those that fit the last is the one said
   pub greatest-fits : (ver : ℕ) → ver ≤ traits .every .greatest → R .damage .versions .tooLarge ver ≡ false
   pub fits-to-greatest : (ver : ℕ) → R .damage .versions .tooLarge ver ≡ false → ver ≤ traits .every .greatest
-  pub not-last : (ver : ℕ) → R .damage .versions .tooLarge ver ≡ false → traits .isLast ver ≡ false → R .damage .versions .isLast ver ≡ false
+  pub last-is : (ver : ℕ) → R .damage .versions .tooLarge ver ≡ false → R .damage .versions .isLast ver ≡ traits .isLast ver
   pub KindInvariant : Ghost → State → Type 0
   pub start-own : (z : Given) (s : State) → MakingClear false (R .damage .versions) z s → KindInvariant (ghost₀ (z .readers) (z .table)) (made (R .damage .number) (R .freshReader) z s)
   pub fresh-is : (z : Given) → R .freshReader ≡ blankReader (traits .every .freshPublished z)
@@ -314,7 +314,11 @@ module _ (R : SectionRules) (traits : GraceTraits) (L : KindShows R traits) wher
     shared-calls = shared-calls-of R s undamaged-now
 
     syncs-on : (p : ℕ) → p < z .publishers → g .tally .phase p ≡ swapped → traits .isLast (version (s .words)) ≡ false → accepted (step (tableBy R) s (Sync p) .reply) ≡ true
-    syncs-on p pn ph more = rw (accepts (Sync p) refl (named-publisher (R .damage) z g s (i .shared .every) p pn, (negated _ (eq-eqb (publisher s p .place) 34 (placed (R .damage) z g s (i .shared .every) p swapped ph)), (L .not-last (version (s .words)) (i .shared .every .no-damage .head .version-fits) more, tt)))) refl
+    syncs-on p pn ph more = rw (accepts (Sync p) refl (named-publisher (R .damage) z g s (i .shared .every) p pn, (negated _ (eq-eqb (publisher s p .place) 34 (placed (R .damage) z g s (i .shared .every) p swapped ph)), (L .last-is (version (s .words)) (i .shared .every .no-damage .head .version-fits) ∙ more, tt)))) refl
+
+    syncs-not-at-last-on : (p : ℕ) → p < z .publishers → g .tally .phase p ≡ swapped → traits .isLast (version (s .words)) ≡ true → step (tableBy R) s (Sync p) .reply ≡ Refused VERSION-IS-LAST
+    unfolding step
+    syncs-not-at-last-on p pn ph last = rw (undamaged-now, named-publisher (R .damage) z g s (i .shared .every) p pn, eq-eqb (publisher s p .place) 34 (placed (R .damage) z g s (i .shared .every) p swapped ph), L .last-is (version (s .words)) (i .shared .every .no-damage .head .version-fits) ∙ last) refl
 
     -- Whether RAISE and WALK are in turn is told by the phase.
     turn-told : (f : ℕ → Bool) → ((pl : ℕ) → pl ≤ PLACE-SWAPPED → f pl ≡ false) → (p : ℕ) → p < publishers (s .words) → f (firstPlace (g .tally .phase p)) ≡ f (publisher s p .place)
@@ -401,6 +405,7 @@ module _ (R : SectionRules) (traits : GraceTraits) (L : KindShows R traits) wher
       leaves = λ r rn four. rw (accepts (Leave r) refl (named-reader (R .damage) z g s (i .shared .every) r rn, (le-ltb (reader s r .place) 4 (omega (arith, i .shared .every .phases .places r)), tt))) refl;
       idle-only-if = idle-empty (R .damage) z g s (i .shared) (L .none-retired);
       syncs = syncs-on;
+      syncs-not-at-last = syncs-not-at-last-on;
       raises = raises-on;
       walks = walks-on;
       frees = frees-on;

@@ -127,7 +127,7 @@ swap s p = outcome (Swapped (current (s .words))) (state
     (withCurrent (withPublisher (s .words) p (publisher s p atPlace PLACE-SWAPPED held≔ current (s .words))) (publisher s p .held))
     (s .entries))
 
--- SYNC p: 34 to 35; mark = version + 1; next, looks and waits become 0. Replies with the mark. 32 version is the last.
+-- SYNC p: 34 to 35; mark = version + 1 (old: modulo 2^64); next, looks and waits become 0. Replies with the mark. 32 version is the last.
 abbrev pub syncTests : Versions → State → ℕ → List Test
 syncTests vs s p =
     noSuchPublisher s p ∷ publisherTurn (not (eqb (publisher s p .place) PLACE-SWAPPED)) ∷ (vs .isLast (version (s .words)) gives VERSION-IS-LAST) ∷ []
@@ -139,7 +139,7 @@ abbrev pub sync : Versions → State → ℕ → Outcome
 sync vs s p = outcome (Synced (vs .markAt (version (s .words))))
     (putPublisher s p (publisher s p atPlace PLACE-SYNCHRONISING walk≔ newWalk (publisher s p .walk) (vs .markAt (version (s .words)))))
 
--- RAISE p (at which place is each kind's own): if version = mark - 1 it becomes mark, reply raised; otherwise reply shared. Place 37 either way.
+-- RAISE p (at which place is each kind's own): if version = mark - 1 (old: modulo 2^64) it becomes mark, reply raised; otherwise reply shared. Place 37 either way.
 abbrev pub raiseTests : (ℕ → Bool) → State → ℕ → List Test
 raiseTests raisesAt s p = noSuchPublisher s p ∷ publisherTurn (not (raisesAt (publisher s p .place))) ∷ []
 

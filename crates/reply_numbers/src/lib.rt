@@ -1,6 +1,6 @@
 // The numbers that C gets: a reply as three of them, and those that the header names, one after another, for its test.
 // The public functions are total. specs/: the header's numbers as lists.
-// The last versions come from the laws of the kinds.
+// The last versions of new and rest come from the laws of the kinds.
 ghost use mathlib.Core.Path.{_≡_};
 ghost use Prim.Native.Nat.{_<_};
 ghost use lib.ListN.{length, getD};

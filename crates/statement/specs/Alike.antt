@@ -103,6 +103,7 @@ module _ (M N : Machine) where
       leaves = λ r. rw (e (Leave r)) (known .leaves r);
       idle-only-if = known .idle-only-if;
       syncs = λ p. rw (e (Sync p)) (known .syncs p);
+      syncs-not-at-last = λ p. rw (e (Sync p)) (known .syncs-not-at-last p);
       raises = λ p. rw (e (Raise p)) (known .raises p);
       walks = λ p b. rw (e (Walk p b)) (known .walks p b);
       frees = λ p. rw (e (Release p)) (known .frees p);

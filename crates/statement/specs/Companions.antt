@@ -12,7 +12,7 @@ use Rattle.calls.specs.declared.Call.the-variants.{Enter, Look, Leave, Claim, W
 use Rattle.calls.specs.declared.Reply.{Reply}
 use Rattle.calls.specs.declared.Reply.the-variants.{Made, At, Left, Claimed, Written, Swapped, Walked, Freed, Refused}
 use Rattle.calls.specs.declared.WalkReply.the-variants.{Returned}
-use Rattle.calls.specs.Numbers.{READERS-MAX, PUBLISHERS-MAX, SLOTS-MIN, SLOTS-MAX, TABLE, NUMBER-MAX, MODULUS, PLACE-OPEN, PLACE-PICKED, DAMAGED, BUSY}
+use Rattle.calls.specs.Numbers.{READERS-MAX, PUBLISHERS-MAX, SLOTS-MIN, SLOTS-MAX, TABLE, NUMBER-MAX, MODULUS, PLACE-OPEN, PLACE-PICKED, DAMAGED, BUSY, VERSION-IS-LAST}
 use Rattle.calls.specs.FirstTable.{outOfRange, steep, entryOf}
 use Rattle.calls.specs.Events.{Event, accepted}
 use Rattle.calls.specs.Events.Event.{_⇒_}
@@ -28,7 +28,7 @@ use Rattle.statement.specs.Machine.{State, outcome, Given, Machine, Fres
 pub record Traits : Type 0 where
   -- the first table of a store made so
   pub firstTable : Given → List ℤ
-  -- the greatest version
+  -- the greatest version; of rest it is the last epoch
   pub greatest : ℕ
   -- the calls that it lacks
   pub lacks : Call → Bool
@@ -49,7 +49,7 @@ pub record GraceTraits : Type 0 where
   pub every : Traits
   -- how many looks of a walk pass before it returns
   pub passes : Given → ℕ
-  -- the version at which no SYNC is accepted; where versions run modulo 2^64 there is none
+  -- the last version, at which no SYNC is accepted; where versions run modulo 2^64 none is
   pub isLast : ℕ → Bool
   -- the mark of a synchronise at a version: the version's successor
   pub successor : ℕ → ℕ
@@ -183,9 +183,10 @@ pub record GraceStateCompanions (M : Machine) (traits : GraceTraits) (z : Given)
   pub leaves : (r : ℕ) → r < z .readers → PLACE-OPEN ≤ u .place r → M .step s (Leave r) .reply ≡ Left
   -- who is told idle is told to hold nothing; with idle-if the two are one
   pub idle-only-if : (p : ℕ) → u .phase p ≡ idle → (slot : ℕ) → holds t p slot ≡ false
-  -- its next call is accepted after its SWAP too: it synchronises unless the version is the last,
+  -- its next call is accepted after its SWAP too: it synchronises unless the version is the last (32),
   -- raises and walks each in its phases, a WALK unless its looks could pass 2^64 - 1 (33), and releases what it held
   pub syncs : (p : ℕ) → p < z .publishers → u .phase p ≡ swapped → traits .isLast (version (s .words)) ≡ false → accepted (M .step s (Sync p) .reply) ≡ true
+  pub syncs-not-at-last : (p : ℕ) → p < z .publishers → u .phase p ≡ swapped → traits .isLast (version (s .words)) ≡ true → M .step s (Sync p) .reply ≡ Refused VERSION-IS-LAST
   pub raises : (p : ℕ) → p < z .publishers → traits .every .raisesIn (u .phase p) ≡ true → accepted (M .step s (Raise p) .reply) ≡ true
   pub walks : (p b : ℕ) → p < z .publishers → traits .every .walksIn (u .phase p) ≡ true → publisherAt (s .words) p .walk .looks + b ≤ NUMBER-MAX → accepted (M .step s (Walk p b) .reply) ≡ true
   pub frees : (p : ℕ) → p < z .publishers → u .phase p ≡ returned

@@ -129,8 +129,8 @@ heldSlots =
 
 -- At a place from 35 to 38 a mark of 0, which gets this reply; a mark above the greatest, or waits above looks; the greatest mark with as many waits as looks.
 abbrev pub walking : ℕ → Reply → ℕ → List Case
-walking greatest reply place =
-    on (publisherTo 0 (publisherAs place 1 0 0 0 0) ∷ []) (Enter 0) reply
+walking greatest atZero place =
+    on (publisherTo 0 (publisherAs place 1 0 0 0 0) ∷ []) (Enter 0) atZero
     ∷ on (publisherTo 0 (publisherAs place 1 (greatest + 1) 0 0 0) ∷ []) (Enter 0) (Refused 1)
     ∷ on (publisherTo 0 (publisherAs place 1 1 0 4 5) ∷ []) (Enter 0) (Refused 1)
     ∷ on (publisherTo 0 (publisherAs place 1 greatest 0 5 5) ∷ []) (Enter 0) (At 1)
@@ -158,4 +158,4 @@ unread =
 
 -- All of them, of a kind with this greatest version and this reply at a mark of 0 that retires no slots.
 abbrev pub sharedCases : ℕ → Reply → List Case
-sharedCases greatest reply = sizes ++ (headNumbers greatest ++ (placeCases ++ (heldSlots ++ (walking greatest reply 35 ++ (walking greatest reply 37 ++ (walking greatest reply 38 ++ (before35 ∷ (beyond ++ unread))))))))
+sharedCases greatest atZero = sizes ++ (headNumbers greatest ++ (placeCases ++ (heldSlots ++ (walking greatest atZero 35 ++ (walking greatest atZero 37 ++ (walking greatest atZero 38 ++ (before35 ∷ (beyond ++ unread))))))))

@@ -104,7 +104,7 @@ writeRows M = shows M (givenFeathered 1 1 2 0) []
 
 -- SYNC at the greatest version, at place 33 and at 34: 21 before 32, or before it is synced.
 abbrev pub syncRows : Machine → ℕ → Reply → Example
-syncRows M greatest reply = shows M (givenFeathered 1 1 2 greatest) (claimAndWrite 0 1 (pos 100)) (Sync 0 ∷ Swap 0 ∷ Sync 0 ∷ []) (Made ∷ Refused 21 ∷ Swapped 0 ∷ reply ∷ [])
+syncRows M greatest atGreatest = shows M (givenFeathered 1 1 2 greatest) (claimAndWrite 0 1 (pos 100)) (Sync 0 ∷ Swap 0 ∷ Sync 0 ∷ []) (Made ∷ Refused 21 ∷ Swapped 0 ∷ atGreatest ∷ [])
 
 -- States put together by hand: a fresh store, and what is changed in it.
 abbrev pub freshOf : Machine → Given → State
@@ -140,5 +140,5 @@ walkRows M =
 
 -- All of them, of a kind with this greatest version, this reply to a SYNC at it and so many ENTERs to place 5.
 abbrev pub sharedRows : Machine → ℕ → Reply → ℕ → List Example
-sharedRows M greatest reply n =
-    makingRows M greatest ++ (tableEnds M greatest ++ (makingEnds M ++ (damagedRows M ++ (walkRows M ++ (lookRows M ∷ claimRows M ∷ writeRows M ∷ syncRows M greatest reply ∷ nameRows M ∷ enterRows M n ∷ [])))))
+sharedRows M greatest atGreatest n =
+    makingRows M greatest ++ (tableEnds M greatest ++ (makingEnds M ++ (damagedRows M ++ (walkRows M ++ (lookRows M ∷ claimRows M ∷ writeRows M ∷ syncRows M greatest atGreatest ∷ nameRows M ∷ enterRows M n ∷ [])))))
