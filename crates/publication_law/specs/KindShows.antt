@@ -181,7 +181,7 @@ module _ (R : SectionRules) (traits : GraceTraits) (L : KindShows R traits) wher
   pub act-laws-of : ActLaws (λ s. traits .every .publishes) (tableBy R)
   act-laws-of = record { numbers-above-1 = λ s c _. numbers-above-1 s c; making-numbers = λ z s. refl; acts = act-facts; writes = writes-right }
 
-  all-numbers : (s : State) (c : Call) → allAbove 0 (rows (tableBy R) s c) ≡ true
+  pub all-numbers : (s : State) (c : Call) → allAbove 0 (rows (tableBy R) s c) ≡ true
   all-numbers s c = all-above DAMAGED 0 (omega arith) (tableBy R .tests s c) (numbers-above-1 s c)
 
   -- An accepted call names what the store has.

@@ -11,7 +11,7 @@ use lib.Dec.{eqb}
 use borrow.Author.Tests.{eqb-true, eqb-false, eq-eqb, ne-eqb, leb-false, not-false}
 use Rattle.base.specs.Base.{choose, upd}
 use Rattle.base.specs.Rows.{anyBelow}
-use Rattle.base.specs.RowLaws.{clash, and-false, within, none-below, same, allAbove, AllClear}
+use Rattle.base.specs.RowLaws.{clash, and-false, within, none-below, AllClear}
 use Rattle.calls.specs.declared.Call.{Call}
 use Rattle.calls.specs.declared.Call.the-variants.{Enter, Look, Leave, Claim, Write, Swap, Sync, Raise, Walk, Release, Pick, Checkpoint, Defer}
 use Rattle.calls.specs.declared.Reply.the-variants.{Shared}
@@ -26,18 +26,22 @@ use Rattle.statement.specs.Machine.{State, state, Outcome, Fresh, afterAll}
 use Rattle.statement.specs.NeverShared.{NeverShared}
 use Rattle.publication_law.specs.Steps.{publisher, walk, walked, placeAfter}
 use Rattle.publication_law.specs.DamageLaws.{Undamaged}
-use Rattle.publication_law.specs.Moves.{MovesReader, MovesPublisher, publisher-moves, publisher-moves-head}
+use Rattle.publication_law.specs.Moves.{MovesReader, MovesPublisher, publisher-moves, publisher-moves-head, publisher-written}
 use Rattle.publication_law.specs.Clear.{claim-clear}
 use Rattle.publication_law.specs.Calls.{undamaged-facts}
 use Rattle.publication_law.specs.Decide.{decided, raise-split}
 use Rattle.publication_law.specs.Table.{rows, step}
-use Rattle.two_phase_law.specs.Steps.{versions, damageRules, lookedAt, looksOf, rules, TwoPhase}
+use Rattle.publication_law.specs.KindShows.{all-numbers}
+use Rattle.two_phase_law.specs.Steps.{versions, damageRules, lookedAt, looksOf, fixed, rules, TwoPhase}
+use Rattle.two_phase_law.specs.Traits.{traits}
 use Rattle.two_phase_law.specs.Counts.{LookFacts, walk-places, turn-low, look-facts}
-use Rattle.two_phase_law.specs.Safety.{law, enter-moves, leave-moves}
+use Rattle.two_phase_law.specs.Safety.{law, enter-moves, leave-moves, kind-shows}
 use Rattle.two_phase_law.specs.Promises.{old-promises}
 
 pub record OneBusy (s : State) : Type 0 where
+  -- while a publisher is at another place than 0, every other one is at 0
   pub others-idle : (p q : ℕ) → p < publishers (s .words) → q < publishers (s .words) → q ≢ p → publisher s p .place ≢ PLACE-IDLE → publisher s q .place ≡ PLACE-IDLE
+  -- at 35 and 36 its mark is the version's successor
   pub mark-next : (p : ℕ) → p < publishers (s .words) → PLACE-SYNCHRONISING ≤ publisher s p .place → publisher s p .place ≤ PLACE-QUIET → publisher s p .walk .mark ≡ versions .markAt (version (s .words))
 
 module _ (s : State) (i : OneBusy s) where
@@ -50,9 +54,6 @@ module _ (s : State) (i : OneBusy s) where
 
   -- A publisher's step, while every other one is idle, at a mark that is the successor of the version then wherever it comes to 35 or 36.
   module _ (w′ : List ℕ) (es′ : List ℤ) (p : ℕ) (y : Publisher) (cur ver rel : ℕ) (m : MovesPublisher (s .words) w′ p y cur ver rel) where
-    at-p : publisherAt w′ p ≡ y
-    at-p = ap (λ (f : ℕ → Publisher). f p) (m .publishers-are) ∙ rw (same p) refl
-
     at-other : (q : ℕ) → q ≢ p → publisherAt w′ q ≡ publisher s q
     at-other q ne = ap (λ (f : ℕ → Publisher). f q) (m .publishers-are) ∙ rw (ne-eqb q p ne) refl
 
@@ -68,7 +69,7 @@ module _ (s : State) (i : OneBusy s) where
         others a b an bn ne busy false e = absurd (busy (rw (at-other a (eqb-false a p e)) (idle a an (eqb-false a p e))))
 
         marked : (a : ℕ) → a < publishers (s .words) → PLACE-SYNCHRONISING ≤ publisherAt w′ a .place → publisherAt w′ a .place ≤ PLACE-QUIET → (test : Bool) → eqb a p ≡ test → publisherAt w′ a .walk .mark ≡ versions .markAt ver
-        marked a an low high true e = let is : publisherAt w′ a ≡ y = ap (publisherAt w′) (eqb-true a p e) ∙ at-p in rw is (next (rw is at low) (rw is at high))
+        marked a an low high true e = let is : publisherAt w′ a ≡ y = ap (publisherAt w′) (eqb-true a p e) ∙ publisher-written m in rw is (next (rw is at low) (rw is at high))
         marked a an low high false e = let none : publisherAt w′ a .place ≡ PLACE-IDLE = rw (at-other a (eqb-false a p e)) (idle a an (eqb-false a p e)) in absurd (omega arith)
 
   -- Beside a publisher that is busy, and beside one that may claim, every other one is idle.
@@ -123,22 +124,7 @@ module _ (s : State) (i : OneBusy s) where
 
   step-keeps : (c : Call) → OneBusy (step rules s c .after)
   unfolding step
-  step-keeps c = decided (λ (o : Outcome). OneBusy (o .after)) (rows rules s c) (rules .act s c) s (numbered c) (act-keeps c) i
-    where
-      numbered : (c : Call) → allAbove 0 (rows rules s c) ≡ true
-      numbered (Enter r) = refl
-      numbered (Look r k) = refl
-      numbered (Leave r) = refl
-      numbered (Claim p slot) = refl
-      numbered (Write p v) = refl
-      numbered (Swap p) = refl
-      numbered (Sync p) = refl
-      numbered (Raise p) = refl
-      numbered (Walk p b) = refl
-      numbered (Release p) = refl
-      numbered (Pick r) = refl
-      numbered (Checkpoint r) = refl
-      numbered (Defer p) = refl
+  step-keeps c = decided (λ (o : Outcome). OneBusy (o .after)) (rows rules s c) (rules .act s c) s (all-numbers fixed traits kind-shows s c) (act-keeps c) i
 
   -- So the version is one before the mark of a RAISE.
   raise-not-shared : (p : ℕ) → step rules s (Raise p) .reply ≢ Shared

@@ -438,6 +438,21 @@ pub fn falls(name: &str, example: Example, alterations: &[Alteration]) {
     }
 }
 
+/// An example with its name, and what it falls under.
+pub type Listed = (&'static str, Example, &'static [Alteration]);
+
+pub fn all_stand(examples: &[Listed]) {
+    for (name, example, _) in examples {
+        assert_eq!(example(Rules::AS_WRITTEN), Vec::<String>::new(), "{name}");
+    }
+}
+
+pub fn all_fall(examples: &[Listed]) {
+    for (name, example, alterations) in examples {
+        falls(name, *example, alterations);
+    }
+}
+
 /// Calls and replies print as on the sheet.
 #[test]
 fn the_sheet_prints_as_in_document_01() {

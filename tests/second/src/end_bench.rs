@@ -2,7 +2,7 @@
 //! worked out by hand from request 5. Each must stand as written, and must
 //! fall under a rule altered against it.
 
-use crate::bench::{falls, Example, Play};
+use crate::bench::{all_fall, all_stand, Listed, Play};
 use crate::call::Call;
 use crate::layout::{publisher_at, INDICATOR_0, INDICATOR_1, RELEASES, VERSION};
 use crate::rules::{Alteration, Rules};
@@ -132,11 +132,9 @@ fn raises_by_hand(rules: Rules) -> Vec<String> {
     wrong
 }
 
-type List = (&'static str, Example, &'static [Alteration]);
-
 use Alteration as A;
 
-const LISTS: [List; 6] = [
+const LISTS: [Listed; 6] = [
     (
         "past the end",
         past_the_end,
@@ -193,14 +191,10 @@ const LISTS: [List; 6] = [
 
 #[test]
 fn lists_stand_as_written() {
-    for (name, list, _) in LISTS {
-        assert_eq!(list(Rules::AS_WRITTEN), Vec::<String>::new(), "{name}");
-    }
+    all_stand(&LISTS);
 }
 
 #[test]
 fn lists_fall_under_altered_rules() {
-    for (name, list, alterations) in LISTS {
-        falls(name, list, alterations);
-    }
+    all_fall(&LISTS);
 }

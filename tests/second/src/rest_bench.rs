@@ -1,7 +1,7 @@
 //! Short lists of a rest store, worked out by hand from request 3. Each must
 //! stand as written, and must fall under a rule altered against it.
 
-use crate::bench::{falls, Example, Play};
+use crate::bench::{all_fall, all_stand, Listed, Play};
 use crate::call::Call;
 use crate::layout::{pair_at, publisher_at, reader_at, step_at, RELEASES, VERSION};
 use crate::rules::{Alteration, Rules};
@@ -220,7 +220,7 @@ fn last_epoch(rules: Rules) -> Vec<String> {
 
 use Alteration as A;
 
-const LISTS: [(&str, Example, &[Alteration]); 10] = [
+const LISTS: [Listed; 10] = [
     (
         "one participant",
         one_participant,
@@ -342,14 +342,10 @@ const LISTS: [(&str, Example, &[Alteration]); 10] = [
 
 #[test]
 fn lists_stand_as_written() {
-    for (name, list, _) in LISTS {
-        assert_eq!(list(Rules::AS_WRITTEN), Vec::<String>::new(), "{name}");
-    }
+    all_stand(&LISTS);
 }
 
 #[test]
 fn lists_fall_under_altered_rules() {
-    for (name, list, alterations) in LISTS {
-        falls(name, list, alterations);
-    }
+    all_fall(&LISTS);
 }
