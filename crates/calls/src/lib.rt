@@ -1,5 +1,6 @@
 // The vocabulary of the store: calls, replies, limits, places, refusal numbers and codes, as document 01 names them.
 // specs/: what the calls alone tell, document 01's plain shelf, a reply's numbers for C.
+#![tactic(auto)]
 
 // A pitch, in thousandths of a degree.
 pub type Pitch = i32;
@@ -156,7 +157,7 @@ pub const CODE_FREED: u64 = 114;
 pub const CODE_PICKED: u64 = 115;
 
 // Reader calls name a reader r, publisher calls a publisher p.
-#[derive(Drop)]
+#[derive(Clone, Copy)]
 pub enum Call {
     Enter(u16),
     // r, and the entry k
@@ -179,7 +180,7 @@ pub enum Call {
 }
 
 // What a walk replies.
-#[derive(Drop)]
+#[derive(Clone, Copy)]
 pub enum WalkReply {
     // the reader (new) or the indicator (old) that it waits for
     Waiting(u64),
@@ -189,7 +190,7 @@ pub enum WalkReply {
     Returned(u64, u64),
 }
 
-#[derive(Drop)]
+#[derive(Clone, Copy)]
 pub enum Reply {
     Made,
     // the place, or a checkpoint's step
@@ -217,7 +218,7 @@ pub enum Reply {
 
 // A reply as C gets it, three numbers of 64 bits; `numbers_of` in specs/ says which.
 #[repr(C)]
-#[derive(Drop)]
+#[derive(Clone, Copy)]
 pub struct ReplyNumbers {
     pub code: u64,
     pub first: u64,

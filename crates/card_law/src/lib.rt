@@ -1,5 +1,7 @@
 // The card: the file that a site brings its first table on, from its bytes to its entries.
 // Code: how much a program reads of one. specs/: the definitions, and what is proved about them.
+#![tactic(auto)]
+
 use calls::TABLE;
 
 // A program reads so many bytes of the file.

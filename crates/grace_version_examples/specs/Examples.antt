@@ -11,7 +11,7 @@ use Rattle.statement.specs.Examples.{Example, AllHold, lead_to, enters, publicat
 use Rattle.statement.specs.Examples.Example.{shows, unchanged}
 use Rattle.publication_law.specs.Table.{damaged, step, making}
 use Rattle.grace_version_law.specs.Steps.{rules, GraceVersion, onward, looks_from}
-use Rattle.grace_version_law.specs.Promises.{new_walk_zero}
+use Rattle.grace_version_law.proofs.Promises.{new_walk_zero}
 
 -- P1: the sheet of document 01.
 abbrev pub P1 : Example

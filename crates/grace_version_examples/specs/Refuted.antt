@@ -17,13 +17,13 @@ use Rattle.statement.specs.Demand3.{Demand3}
 use Rattle.statement.specs.Companions.{MakesFresh}
 use Rattle.statement.specs.Examples.{lent_for, enters, publication, given_feathered}
 use Rattle.statement.specs.Refute.{some_leave, not_left, ReturnsFrom, returns_from_4}
-use Rattle.publication_law.specs.Steps.{publisher, made}
+use Rattle.publication_law.specs.Steps.{publisher}
 use Rattle.publication_law.specs.Table.{damaged, step, making, machine}
 use Rattle.publication_law.specs.SectionRules.{SectionRules, table_by}
 use Rattle.publication_law.specs.Varied.{varied}
 use Rattle.grace_version_law.specs.Steps.{onward, walk_result, looks_from, fixed, rules, GraceVersion}
 use Rattle.grace_version_law.specs.Traits.{traits}
-use Rattle.grace_version_law.specs.Promises.{new_demand3}
+use Rattle.grace_version_law.proofs.Promises.{new_demand3}
 
 -- One reader, one publisher, two slots, version 0.
 small : Given

@@ -2,7 +2,5 @@ pub mod Steps
 pub mod Traits
 pub mod KindInvariant
 pub mod Walks
-pub mod Safety
 pub mod Promises
-pub mod Calls
 pub mod Readers

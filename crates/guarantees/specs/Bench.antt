@@ -28,10 +28,11 @@ use Rattle.qsbr_examples.specs.DamageCases as rest-cases
 use Rattle.qsbr_examples.specs.Carried as carried
 use Rattle.kinds_law.specs.Kinds.{Kind, kind_number, store}
 use Rattle.kinds_law.specs.Kinds.Kind.{new, old, rest}
-use Rattle.kinds_law.specs.Calls.{step_named}
+use Rattle.kinds_law.proofs.Calls.{step_named}
 use Rattle.sheet_law.specs.Example.{P1_sheet, P1_printed}
 use Rattle.card_law.specs.Card.{sheet_on}
-use Rattle.card_law.specs.CardSheet.{P1_card, p1_from_bytes}
+use Rattle.card_law.specs.CardSheet.{P1_card}
+use Rattle.card_law.proofs.CardSheet.{p1_from_bytes}
 use Rattle.guarantees.specs.ByKind.{store_of, alike}
 
 -- P1 to P4, P6 to P12 of the new store; P5, P6 and P9 to P11 of the old; of each one whole publication and what ENTER loads; the order of a new walk's readers; and the examples of rest.

@@ -15,19 +15,19 @@ use Rattle.statement.specs.Demand3.{Demand3}
 use Rattle.statement.specs.Frame.{Frame}
 use Rattle.statement.specs.Companions.{Traits, GraceTraits}
 use Rattle.statement.specs.Alike.{Alike}
-use Rattle.publication_law.specs.Table.{step, making, machine}
-use Rattle.publication_law.specs.Calls.{undamaged_facts}
-use Rattle.publication_law.specs.Frames.{same_framed}
+use Rattle.publication_law.specs.Table.{machine}
+use Rattle.publication_law.proofs.Calls.{undamaged_facts}
+use Rattle.publication_law.proofs.Frames.{same_framed}
 use Rattle.publication_law.specs.Promises.{EveryPromises, Promises}
 use Rattle.grace_version_law.specs.Traits as new-traits
-use Rattle.grace_version_law.specs.Promises as new-law
+use Rattle.grace_version_law.proofs.Promises as new-law
 use Rattle.two_phase_law.specs.Traits as old-traits
-use Rattle.two_phase_law.specs.Promises as old-law
+use Rattle.two_phase_law.proofs.Promises as old-law
 use Rattle.qsbr_law.specs.Traits as rest-traits
-use Rattle.qsbr_law.specs.Promises as rest-law
+use Rattle.qsbr_law.proofs.Promises as rest-law
 use Rattle.kinds_law.specs.Kinds.{Kind, table_of, kind_number, step_of, making_of, store}
 use Rattle.kinds_law.specs.Kinds.Kind.{new, old, rest}
-use Rattle.kinds_law.specs.Calls.{number_is, step_named, making_named, making_unknown}
+use Rattle.kinds_law.proofs.Calls.{number_is, step_named, making_named, making_unknown}
 
 -- A kind by itself.
 abbrev pub store_of : Kind → Machine
@@ -56,10 +56,12 @@ pub data GraceKind : Kind → Type 0 where
 abbrev pub grace_traits : (kind : Kind) → GraceKind kind → GraceTraits
 grace_traits new grace_new = new-traits.traits
 grace_traits old grace_old = old-traits.traits
+grace_traits rest x' = elim x' [ ]
 
 pub grace_promises : (kind : Kind) (grace : GraceKind kind) → Promises (table_of kind) (grace_traits kind grace)
 grace_promises new grace_new = new-law.new_promises
 grace_promises old grace_old = old-law.old_promises
+grace_promises rest x' = elim x' [ ]
 
 -- The store of a kind's number is alike.
 pub alike : (kind : Kind) → Alike (store_of kind) (store (kind_number kind))

@@ -24,25 +24,28 @@ use Rattle.statement.specs.Alike.{fresh_alike, after_alike, events_alike, demand
 use Rattle.publication_law.specs.DamageLaws.{zero_damaged}
 use Rattle.publication_law.specs.Steps.{reader, publisher}
 use Rattle.publication_law.specs.Table.{damaged, step}
-use Rattle.publication_law.specs.TableLaws.{lacked_refused}
-use Rattle.publication_law.specs.Calls.{undamaged_facts}
+use Rattle.publication_law.proofs.TableLaws.{lacked_refused}
+use Rattle.publication_law.proofs.Calls.{undamaged_facts}
 use Rattle.publication_law.specs.SharedFacts.{LookReplies, ClaimFacts, WriteFacts, SwapFacts, ReleaseFacts, ClaimRefusal}
 use Rattle.publication_law.specs.Promises.{SyncFacts, RaiseFacts, WalkFacts}
 use Rattle.grace_version_law.specs.Steps as new-store
 use Rattle.grace_version_law.specs.Promises as new_promises
+use Rattle.grace_version_law.proofs.Promises as new_promises-laws
 use Rattle.grace_version_law.specs.Readers as new-readers
+use Rattle.grace_version_law.proofs.Readers as new-readers-laws
 use Rattle.two_phase_law.specs.Steps as old-store
 use Rattle.two_phase_law.specs.Counts.{LookFacts}
-use Rattle.two_phase_law.specs.Promises as old_promises
-use Rattle.two_phase_law.specs.NeverShared.{old_never_shared}
+use Rattle.two_phase_law.proofs.Promises as old_promises
+use Rattle.two_phase_law.proofs.NeverShared.{old_never_shared}
 use Rattle.two_phase_law.specs.Readers as old-readers
-use Rattle.qsbr_law.specs.Promises as rest_promises
-use Rattle.qsbr_law.specs.Surely as rest-surely
-use Rattle.qsbr_law.specs.Facts as rest-facts
+use Rattle.two_phase_law.proofs.Readers as old-readers-laws
+use Rattle.qsbr_law.proofs.Promises as rest_promises
+use Rattle.qsbr_law.proofs.Surely as rest-surely
+use Rattle.qsbr_law.proofs.Facts as rest-facts
 use Rattle.layout.specs.declared.Publisher.{Publisher}
 use Rattle.kinds_law.specs.Kinds.{Kind, table_of, kind_number, kind_of_number, any_step, any_making, store}
 use Rattle.kinds_law.specs.Kinds.Kind.{new, old, rest}
-use Rattle.kinds_law.specs.Calls.{number_is, step_named, making_named, step_unknown, making_unknown, any_making_leaves}
+use Rattle.kinds_law.proofs.Calls.{number_is, step_named, making_named, step_unknown, making_unknown, any_making_leaves}
 use Rattle.guarantees.specs.ByKind.{store_of, traits, kind_promises, kind_demand3, GraceKind, grace_traits, grace_promises, alike, by_number, publishes_of, chosen_leaves, chosen_frame, chosen_representable, chosen_representable_making}
 
 -- Demand 3: after every list of calls from every accepted making, of whatever kind, looks, returns, slots and picks are as document 01 tells them.
@@ -162,7 +165,7 @@ claim_refusals kind s p slot n sound e = rw (← number_is kind) ((kind_promises
 
 -- With more slots than publishers, an idle publisher of the new store always finds a free slot, and its claim of that slot is accepted.
 pub finds_free_slot : FindsFreeSlot (store (kind_number new))
-finds_free_slot = finds_free_slot_alike (store_of new) (store (kind_number new)) (alike new) new_promises.new_finds_free_slot
+finds_free_slot = finds_free_slot_alike (store_of new) (store (kind_number new)) (alike new) new_promises-laws.new_finds_free_slot
 
 -- In the old store no RAISE is shared, after every list of calls from fresh: each accepted one raises the version.
 pub never_shared : NeverShared (store (kind_number old))
@@ -178,7 +181,7 @@ never_6_old z s low = rw (making_named old z s) (old_promises.old_making_not_6 z
 -- What a WALK says, on words of each kind: reply and record are those of the looks made; waiting names the one that did not pass, spent says that all b looks passed.
 pub walk_facts_new : (s : State) (p b : ℕ) → kind_word s.words ≡ kind_number new → accepted (any_step s (Walk p b)).reply ≡ true
     → let result = new-store.looks_of s (publisher s p).walk b in WalkFacts s p result (new_promises.WalkLooks s p b result) (any_step s (Walk p b))
-walk_facts_new s p b is = rw (step_named new s (Walk p b) is) (new_promises.new_walk_facts s p b)
+walk_facts_new s p b is = rw (step_named new s (Walk p b) is) (new_promises-laws.new_walk_facts s p b)
 
 pub walk_facts_old : (s : State) (p b : ℕ) → kind_word s.words ≡ kind_number old → accepted (any_step s (Walk p b)).reply ≡ true
     → let result = old-store.looks_of s (publisher s p) b in WalkFacts s p result (LookFacts (indicator s.words (old-store.looked_at (publisher s p))) (publisher s p) b result) (any_step s (Walk p b))
@@ -190,16 +193,16 @@ looked_at_old y = (old_promises.old_looks_first y, old_promises.old_looks_second
 
 -- What an accepted ENTER and an accepted LEAVE leave of the reader and, old, of the indicators, on words of each kind.
 pub enter_facts_new : (s : State) (r : ℕ) → kind_word s.words ≡ kind_number new → accepted (any_step s (Enter r)).reply ≡ true → new-readers.EnterFacts s r (any_step s (Enter r))
-enter_facts_new s r is = rw (step_named new s (Enter r) is) (new-readers.new_enter_facts s r)
+enter_facts_new s r is = rw (step_named new s (Enter r) is) (new-readers-laws.new_enter_facts s r)
 
 pub leave_facts_new : (s : State) (r : ℕ) → kind_word s.words ≡ kind_number new → accepted (any_step s (Leave r)).reply ≡ true → new-readers.LeaveFacts s r (any_step s (Leave r))
-leave_facts_new s r is = rw (step_named new s (Leave r) is) (new-readers.new_leave_facts s r)
+leave_facts_new s r is = rw (step_named new s (Leave r) is) (new-readers-laws.new_leave_facts s r)
 
 pub enter_facts_old : (s : State) (r : ℕ) → kind_word s.words ≡ kind_number old → accepted (any_step s (Enter r)).reply ≡ true → old-readers.EnterFacts s r (any_step s (Enter r))
-enter_facts_old s r is = rw (step_named old s (Enter r) is) (old-readers.old_enter_facts s r)
+enter_facts_old s r is = rw (step_named old s (Enter r) is) (old-readers-laws.old_enter_facts s r)
 
 pub leave_facts_old : (s : State) (r : ℕ) → kind_word s.words ≡ kind_number old → accepted (any_step s (Leave r)).reply ≡ true → old-readers.LeaveFacts s r (any_step s (Leave r))
-leave_facts_old s r is = rw (step_named old s (Leave r) is) (old-readers.old_leave_facts s r)
+leave_facts_old s r is = rw (step_named old s (Leave r) is) (old-readers-laws.old_leave_facts s r)
 
 -- Document 02, request 4: on every undamaged new store ENTER of a reader at 3 goes to 4 and publishes the second loaded version, always, and moves nothing else;
 -- where the two loaded versions are equal, that is the number that was published, and it stays. An undamaged store's kind word is its kind's.
@@ -208,11 +211,11 @@ module _ (s : State) (r : ℕ) (no_damage : damaged (table_of new) s ≡ false) 
   own_step = step_named new s (Enter r) ((undamaged_facts (table_of new) s no_damage).head.kind_is ∙ number_is new)
 
   pub publishes_second : any_step s (Enter r) ≡ outcome (At place_open) (state (with_reader s.words r (reader s r place≔ place_open published≔ (reader s r).second)) s.entries)
-  publishes_second = own_step ∙ new-readers.new_publishes_second s r no_damage below turn
+  publishes_second = own_step ∙ new-readers-laws.new_publishes_second s r no_damage below turn
 
   pub equal_same_number : (reader s r).first ≡ (reader s r).second
       → ((reader s r).second ≡ (reader s r).published) × ((reader (any_step s (Enter r)).after r).published ≡ (reader s r).published)
-  equal_same_number equal = rw own_step (new-readers.new_equal_same_number s r no_damage below turn equal)
+  equal_same_number equal = rw own_step (new-readers-laws.new_equal_same_number s r no_damage below turn equal)
 
 -- What an accepted call names is there, on words of each kind.
 pub named : (kind : Kind) (s : State) (c : Call) → kind_word s.words ≡ kind_number kind → accepted (any_step s c).reply ≡ true → Named (readers s.words) (publishers s.words) (slots s.words) c
@@ -257,7 +260,7 @@ pub waits_for : (s : State) (f : Fresh (store (kind_number new)) s) (cs : List C
 waits_for s f cs p b r =
     let like = alike new in
     let f' = fresh_alike (store_of new) (store (kind_number new)) like s f in
-    rw (after_alike (store_of new) (store (kind_number new)) like s f cs, events_alike (store_of new) (store (kind_number new)) like s f cs, like.steps s f' cs (Walk p b)) (new_promises.new_waits_for s f' cs p b r)
+    rw (after_alike (store_of new) (store (kind_number new)) like s f cs, events_alike (store_of new) (store (kind_number new)) like s f cs, like.steps s f' cs (Walk p b)) (new_promises-laws.new_waits_for s f' cs p b r)
 
 -- A WALK with no looks that replies spent leaves the whole state as it was.
 pub walk_zero : (kind : Kind) (grace : GraceKind kind) (s : State) (p : ℕ) → kind_word s.words ≡ kind_number kind → (any_step s (Walk p 0)).reply ≡ Walked Spent → (any_step s (Walk p 0)).after ≡ s

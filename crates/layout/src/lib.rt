@@ -2,6 +2,8 @@
 // and the records that are read out of them and written back by value.
 // specs/: the views of the words, and their laws, by which the crates above reason about records;
 // only worked examples compute through the views.
+#![tactic(auto)]
+
 ghost use Rattle.std.specs.Prelude.{◌≡◌, ◌<◌, length, replicate};
 ghost use Rattle.calls.specs.Numbers.{readers_max, publishers_max, deferred_max};
 ghost use Rattle.layout.specs.Layout.{words_length, indicator_count, kind_word, readers, publishers, slots, current, version, releases, indicator, with_current, with_version, with_releases, with_indicator, reader_at, publisher_at, retirement_at, retired_at, with_reader, with_publisher, with_retirement, with_retired, with_readers, blank_reader, fresh_words};
@@ -80,7 +82,7 @@ const SLOT: usize = 0;
 
 const AWAITED: usize = 1;
 
-#[derive(Drop)]
+#[derive(Clone, Copy)]
 pub struct Reader {
     pub place: u64,
     pub first: u64,
@@ -90,7 +92,7 @@ pub struct Reader {
 }
 
 // A publisher's walk is four numbers.
-#[derive(Drop)]
+#[derive(Clone, Copy)]
 pub struct WalkRecord {
     pub mark: u64,
     pub next: u64,
@@ -98,7 +100,7 @@ pub struct WalkRecord {
     pub waits: u64,
 }
 
-#[derive(Drop)]
+#[derive(Clone, Copy)]
 pub struct Publisher {
     pub place: u64,
     pub held: u64,
@@ -106,21 +108,21 @@ pub struct Publisher {
 }
 
 // Beside a publisher's record: the step of its checkpoint, and how many slots it has retired that are not yet free.
-#[derive(Drop)]
+#[derive(Clone, Copy)]
 pub struct Retirement {
     pub step: u64,
     pub count: u64,
 }
 
 // A retired slot, and the mark that it waits for.
-#[derive(Drop)]
+#[derive(Clone, Copy)]
 pub struct Retired {
     pub slot: u64,
     pub mark: u64,
 }
 
 // A walk's numbers after its looks, and its reply.
-#[derive(Drop)]
+#[derive(Clone, Copy)]
 pub struct WalkResult {
     pub walk: WalkRecord,
     pub reply: WalkReply,

@@ -22,7 +22,6 @@ pub mod TallyLaws
 pub mod GraceInvariantLaws
 pub mod Single
 pub mod Moves
-pub mod Keeps
 pub mod Served
 pub mod GraceKeeps
 -- Laws of table and damage test, for the code and for the proofs above.
@@ -30,14 +29,10 @@ pub mod DamageLaws
 pub mod InBounds
 pub mod Clear
 pub mod Decide
-pub mod Calls
 pub mod Looks
-pub mod Frames
 pub mod TableLaws
 pub mod SharedFacts
--- What a kind must show, and what is promised of every kind that does.
-pub mod Detector
+-- What a kind must show, and what is promised of every kind that does; the theorems stand in proofs/.
 pub mod KindShows
 pub mod Varied
 pub mod Promises
-pub mod FreeSlot

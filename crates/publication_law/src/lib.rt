@@ -3,3 +3,4 @@
 // the invariant of slots and sections, that each shared step keeps it,
 // and what is promised of every kind that keeps its part.
 // It holds no code.
+#![tactic(auto)]

@@ -1,5 +1,7 @@
 // The table that a store starts with: whether it may be one, and every slot filled with it.
 // The contracts cite FirstTable of calls.
+#![tactic(auto)]
+
 ghost use Rattle.std.specs.Prelude.{◌+◌, ◌*◌, ◌<◌, ◌≤◌, ◌≡◌, false, ◌++◌, length, take};
 ghost use Rattle.calls.specs.Numbers.{table_length};
 ghost use Rattle.calls.specs.FirstTable.{out_of_range, any_out_of_range, steep, any_steep, tables};

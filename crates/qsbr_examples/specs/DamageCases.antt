@@ -1,7 +1,7 @@
 -- 'Spoiled means' of the rest store, clause by clause, by computation: what is changed by hand in a fresh store, one call there, and its reply. Assumes nothing.
 -- Most calls are PICK 0 and CLAIM 0 1, which the fresh store accepts; one that gets 20 or 21, and not 1, shows too that a state is not damaged. Each state here that gets 1 is damaged by one clause alone, but for no participants;
 -- beside each clause stands a near state that is not damaged.
-use Rattle.std.specs.Prelude.{ℕ, ◌+◌, ◌≡◌, refl, List, [], ◌∷◌, ◌++◌}
+use Rattle.std.specs.Prelude.{ℕ, ◌≡◌, refl, List, [], ◌∷◌, ◌++◌}
 use Rattle.std.proofs.Common.{sym, subst}
 use Rattle.base.specs.Rows.{any_below}
 use Rattle.calls.specs.declared.Call.TheVariants.{Claim, Pick, Checkpoint, Defer}

@@ -14,7 +14,7 @@ use Rattle.statement.specs.Examples.Example.{shows, unchanged, makes}
 use Rattle.statement.specs.Precedence.{fresh_of}
 use Rattle.publication_law.specs.Table.{damaged, step, making}
 use Rattle.qsbr_law.specs.Steps.{rules, Qsbr, staying}
-use Rattle.qsbr_law.specs.Promises.{rest_promises}
+use Rattle.qsbr_law.proofs.Promises.{rest_promises}
 
 -- n CHECKPOINTs of participant r. A whole checkpoint is two more than there are participants.
 abbrev pub checkpoints : ℕ → ℕ → List Call

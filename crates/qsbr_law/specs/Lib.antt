@@ -4,14 +4,8 @@ pub mod Traits
 -- Its invariant, and that each call keeps it.
 pub mod Freeing
 pub mod KindInvariant
-pub mod Epochs
 pub mod ToldEpochs
 pub mod Moves
-pub mod Safety
--- The theorems.
-pub mod Frames
-pub mod Promises
 pub mod Facts
-pub mod Surely
 -- Laws for its code.
 pub mod Calls

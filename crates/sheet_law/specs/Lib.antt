@@ -10,4 +10,3 @@ pub mod ByTable
 pub mod Canonical
 pub mod Replies
 pub mod Only
-pub mod Widths

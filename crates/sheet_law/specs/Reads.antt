@@ -4,7 +4,7 @@ use Rattle.std.specs.Prelude.{ℕ, ◌+◌, ◌<◌, ◌≡◌, refl, Bool, true
 use Rattle.std.proofs.Common.{arith, sym, ap, ◌∙◌, length-take, take_all, lt-ltb, ltb-true, ltb-false}
 use mathlib.Core.List.{List, ◌++◌, flatten}
 use Rattle.lines_law.specs.Lines.{fed, printed, ending}
-use Rattle.lines_law.specs.LineLaws as lines
+use Rattle.lines_law.proofs.LineLaws as lines
 use Rattle.sheet_law.specs.declared.Line.TheVariants.{Unread}
 use Rattle.sheet_law.specs.Reading.{line_max, line_of}
 use Rattle.sheet_law.specs.Sheet.{unmade, lines_played, sheet_reader, sheet, start}

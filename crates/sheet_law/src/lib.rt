@@ -1,5 +1,7 @@
 // What a run sheet is: what its lines say, what is printed for each, and the whole sheet, bytes in to bytes out.
 // Code: what a line gives, as values. specs/: the definitions, and what is proved about them.
+#![tactic(auto)]
+
 use calls::{Call, Pitch};
 
 // A line has at most 80 bytes, without its newline.
@@ -12,20 +14,20 @@ pub const PRINTED_MAX: usize = 74;
 pub const NARROW_MAX: u64 = 65535;
 
 // A decimal, or what is none.
-#[derive(Drop)]
+#[derive(Clone, Copy)]
 pub enum Number {
     Decimal(u64),
     NoNumber,
 }
 
-#[derive(Drop)]
+#[derive(Clone, Copy)]
 pub enum Angle {
     SignedDecimal(Pitch),
     NoAngle,
 }
 
 // The words that begin a line.
-#[derive(Drop)]
+#[derive(Clone, Copy)]
 pub enum Keyword {
     Store,
     Enter,
@@ -44,14 +46,14 @@ pub enum Keyword {
     Unknown,
 }
 
-#[derive(Drop)]
+#[derive(Clone, Copy)]
 pub enum Command {
     // the kind's number, readers, publishers, slots, first version
     Make(u16, u16, u16, u16, u64),
     Run(Call),
 }
 
-#[derive(Drop)]
+#[derive(Clone, Copy)]
 pub enum Line {
     Read(Command),
     Unread,

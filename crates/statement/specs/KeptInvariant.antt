@@ -134,7 +134,7 @@ module _ (M : Machine) (traits : Traits) (kept : KeptInvariant M traits) (z : Gi
 
   pub kept_after : (g : Ghost) (s : State) → kept.Inv z g s → (cs : List Call) → kept.Inv z (after_events g (events M s cs)) (after_all M s cs)
   kept_after g s i [] = i
-  kept_after g s i (d ∷ cs) = kept_after _ _ (kept.keep z g s i d) cs
+  kept_after g s i (d ∷ cs) = kept_after (after_event g (d ⇒ (M.step s d).reply)) (M.step s d).after (kept.keep z g s i d) cs
 
 -- A reader that a synchronise waits for is waited for until it leaves.
 record Still (g : Ghost) (p r : ℕ) : Type 0 where
@@ -272,7 +272,7 @@ module _ (M : Machine) (traits : GraceTraits) (kept : GraceKeptInvariant M trait
     every = companions M traits.every kept.every s f cs;
     state_companions = rw (← all_model (ghost₀ f.arguments.readers (traits.every.first_table f.arguments)) (events M s cs), ← all_told (ghost₀ f.arguments.readers (traits.every.first_table f.arguments)) (events M s cs), ← all_tally (ghost₀ f.arguments.readers (traits.every.first_table f.arguments)) (events M s cs)) (kept.state_companions _ _ _ (ending M traits.every kept.every s f cs));
     returns_after = λ pre post p b looks waits e. let there = to M traits.every kept.every s f cs pre (Walk p b) (Walked (Returned looks waits)) post e in
-        rw (← all_tally (ghost₀ f.arguments.readers (traits.every.first_table f.arguments)) pre) (kept.back _ _ there.at_state there.inv p b looks waits (sym there.reply_is)).in_order;
+        rw (← all_tally (ghost₀ f.arguments.readers (traits.every.first_table f.arguments)) pre) (kept.back _ _ there.at_state there.inv p b looks waits (sym there.reply_is)).in_order_lem;
     releases_after = λ pre post p a e ok. let there = to M traits.every kept.every s f cs pre (Release p) a post e in
         rw (← all_tally (ghost₀ f.arguments.readers (traits.every.first_table f.arguments)) pre) (kept.release _ _ there.at_state there.inv p (rw there.reply_is at ok));
     looks_are = λ pre post p b looks waits e. let there = to M traits.every kept.every s f cs pre (Walk p b) (Walked (Returned looks waits)) post e in

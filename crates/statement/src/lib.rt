@@ -3,3 +3,4 @@
 // and once for every kind, that they follow from an invariant that each step keeps,
 // and hold of machines that are alike.
 // It holds no code.
+#![tactic(auto)]

@@ -12,7 +12,7 @@ use Rattle.statement.specs.Examples.{Example, AllHold, lead_to, enters, publicat
 use Rattle.statement.specs.Examples.Example.{shows, unchanged}
 use Rattle.publication_law.specs.Table.{damaged, step, making}
 use Rattle.two_phase_law.specs.Steps.{rules, TwoPhase, onward, look_at}
-use Rattle.two_phase_law.specs.Promises.{old_walk_zero}
+use Rattle.two_phase_law.proofs.Promises.{old_walk_zero}
 
 -- P5: reader loads 0; a whole publication runs; reader arrives at indicator 0; next SYNC has mark 2, WALK 1: waiting 0.
 abbrev pub P5 : Example

@@ -2,3 +2,4 @@
 // and Two-Phase as published, with several publishers, refuted by one run.
 // They take seconds to compute, so they stand apart from the law, of which each must-fail edit is a check of its own.
 // It holds no code.
+#![tactic(auto)]

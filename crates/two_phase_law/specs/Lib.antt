@@ -2,8 +2,6 @@ pub mod Steps
 pub mod Traits
 pub mod KindInvariant
 pub mod Counts
-pub mod Safety
-pub mod Promises
 pub mod NeverShared
 pub mod Calls
 pub mod Readers

@@ -1,0 +1,5 @@
+pub mod Safety
+pub mod Promises
+pub mod NeverShared
+pub mod Calls
+pub mod Readers
