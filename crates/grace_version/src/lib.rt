@@ -1,6 +1,8 @@
 // The new store, GraceVersion, by value: making and the ten calls as methods
 // that take the store and hand it back with the reply, entries lent beside it.
 // Each is a thin shell over the call in place, with the same equation.
+#![tactic(auto)]
+
 ghost use Rattle.std.specs.Prelude.{◌≡◌, replicate};
 ghost use Rattle.calls.specs.declared.Call.TheVariants.{Enter, Look, Leave, Claim, Write, Swap, Sync, Raise, Walk, Release};
 ghost use Rattle.layout.specs.Layout.{words_length};

@@ -1,6 +1,8 @@
 // The new store's damage test, and its last version.
 // It reads only the records in use, and a record's further words only at the places that need them.
 // Its contracts cite grace_version_law.
+#![tactic(auto)]
+
 ghost use Rattle.std.specs.Prelude.{◌≡◌, ◌<◌, ◌≤◌, List, ℤ, length};
 ghost use Rattle.base.specs.Rows.{any_true, any_below};
 ghost use Rattle.calls.specs.Numbers.{readers_max, publishers_max};

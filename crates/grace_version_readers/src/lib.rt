@@ -1,5 +1,7 @@
 // ENTER, LOOK and LEAVE of the new store, in place on the lent words.
 // Each is total, and its contract is the step of grace_version_law.
+#![tactic(auto)]
+
 ghost use Rattle.std.specs.Prelude.{◌≡◌, false, List, ◌<◌, ℤ, length};
 ghost use Rattle.calls.specs.Numbers.{readers_max};
 ghost use Rattle.calls.specs.declared.Call.TheVariants.{Enter, Look, Leave};

@@ -1,4 +1,6 @@
 // WALK of the new store, in place on the lent words. It is total, and its contract is the step of grace_version_law.
+#![tactic(auto)]
+
 ghost use Rattle.std.specs.Prelude.{◌≡◌, ◌+◌, ◌<◌, ◌≤◌, length};
 ghost use Rattle.calls.specs.declared.Call.TheVariants.{Walk};
 ghost use Rattle.calls.specs.Numbers.{readers_max, number_max};

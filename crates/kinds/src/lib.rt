@@ -2,6 +2,8 @@
 // In place on the lent words and entries. A call that the kind lacks gets 1.
 // Each is total, and its contract is the step (or the making) of kinds_law. `run` takes any call as a value.
 // It knows nothing of a store but its length and its kind word.
+#![tactic(auto)]
+
 ghost use Rattle.std.specs.Prelude.{◌≡◌};
 ghost use Rattle.calls.specs.declared.Call.TheVariants.{Enter, Look, Leave, Claim, Write, Swap, Sync, Raise, Walk, Release, Pick, Checkpoint, Defer};
 ghost use Rattle.statement.specs.Machine.{state, outcome, given};

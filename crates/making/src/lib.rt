@@ -1,5 +1,7 @@
 // What the kinds share of making: for any words, any entries, any first table and any numbers.
 // A kind of participants tests by itself that it has as many publishers as readers. The contracts cite publication_law.
+#![tactic(auto)]
+
 ghost use Rattle.std.specs.Prelude.{◌≡◌, false, List, ℕ, ℤ, length, eqb};
 ghost use Rattle.base.specs.Base.{choose};
 ghost use Rattle.base.specs.Rows.{first_of};
@@ -99,6 +101,7 @@ pub fn make_store(
     if n != 0 {
         return n;
     }
+    fill(entries, slots, table);
     put_fresh(
         words,
         kind,
@@ -108,7 +111,6 @@ pub fn make_store(
         version,
         published,
     );
-    fill(entries, slots, table);
     0
 }
 

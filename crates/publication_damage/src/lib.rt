@@ -1,5 +1,7 @@
 // What the kinds share of the damage test: the head, for any words and any number of entries.
 // The contract cites publication_law.
+#![tactic(auto)]
+
 ghost use Rattle.std.specs.Prelude.{◌≡◌, List, ℤ, length, ltb};
 ghost use Rattle.base.specs.Rows.{any_true};
 ghost use Rattle.layout.specs.Layout.{version};

@@ -1,6 +1,8 @@
 // LOOK and WRITE of words that are not damaged, which the kinds share: the calls that read or store an entry.
 // A kind tests for damage first, and asks nothing of its own callers.
 // The contracts cite publication_law.
+#![tactic(auto)]
+
 ghost use Rattle.std.specs.Prelude.{◌≡◌, ◌*◌, length};
 ghost use Rattle.calls.specs.Numbers.{table_length};
 ghost use Rattle.layout.specs.Layout.{slots};

@@ -2,6 +2,8 @@
 // a publisher's wait for a grace period.
 // A kind tests for damage first, and asks nothing of its own callers.
 // The contracts cite publication_law.
+#![tactic(auto)]
+
 ghost use Rattle.std.specs.Prelude.{◌≡◌, ◌+◌, ◌%◌, ◌<◌, List, ℤ, nat_lt};
 ghost use Rattle.calls.specs.Numbers.{number_modulus};
 ghost use Rattle.layout.specs.Layout.{publishers, version, publisher_at};

@@ -1,8 +1,9 @@
 // The four numbers of a publisher's walk as a record that is lent by `&mut`:
 // each look of a WALK, of either kind, is counted in it.
-// `count_look` takes the record apart and is proved by hand;
-// every caller uses `look_counted`, whose parameters are plain.
+// `count_look` takes the record apart where it is lent; every caller uses `look_counted`, whose parameters are plain.
 // The contracts cite publication_law.
+#![tactic(auto)]
+
 ghost use Rattle.std.specs.Prelude.{◌≡◌};
 ghost use Rattle.layout.specs.Layout.{no_walk};
 ghost use Rattle.layout.specs.Records.{◌mark≔◌, ◌next≔◌, ◌looks≔◌, ◌waits≔◌};

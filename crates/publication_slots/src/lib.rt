@@ -1,6 +1,8 @@
 // CLAIM, SWAP and RELEASE of words that are not damaged: the calls that move a slot. Every kind has the first two, new and old the third.
 // A kind tests for damage first, and asks nothing of its own callers.
 // The contracts cite publication_law.
+#![tactic(auto)]
+
 ghost use Rattle.std.specs.Prelude.{◌≡◌, ℕ, ◌<◌, ◌≤◌, true, ◌&&◌, List, length, ℤ};
 ghost use Rattle.base.specs.Rows.{any_below};
 ghost use Rattle.calls.specs.Numbers.{publishers_max, deferred_max};

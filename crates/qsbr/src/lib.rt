@@ -1,6 +1,8 @@
 // The rest store, Qsbr, by value: making and the seven calls as methods
 // that take the store and hand it back with the reply, entries lent beside it.
 // Each is a thin shell over the call in place, with the same equation.
+#![tactic(auto)]
+
 ghost use Rattle.std.specs.Prelude.{◌≡◌, replicate};
 ghost use Rattle.calls.specs.declared.Call.TheVariants.{Look, Claim, Write, Swap, Pick, Checkpoint, Defer};
 ghost use Rattle.layout.specs.Layout.{words_length};

@@ -1,5 +1,7 @@
 // CHECKPOINT of the rest store, in place on the lent words.
 // It is total, and its contract is the step of qsbr_law.
+#![tactic(auto)]
+
 ghost use Rattle.std.specs.Prelude.{◌≡◌, List, ◌+◌, ◌-◌, ◌<◌, ◌≤◌, ℤ, length, eqb};
 ghost use Rattle.base.specs.Base.{choose};
 ghost use Rattle.calls.specs.declared.Call.TheVariants.{Checkpoint};

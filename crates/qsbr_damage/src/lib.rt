@@ -1,5 +1,7 @@
 // The rest store's damage test: the head, and in one pass each participant's reader, publisher, step, count and retired slots.
 // Its contracts cite qsbr_law.
+#![tactic(auto)]
+
 ghost use Rattle.std.specs.Prelude.{◌≡◌, List, ℕ, ◌<◌, ◌≤◌, ℤ, length, leb};
 ghost use Rattle.base.specs.Rows.{any_true, any_below};
 ghost use Rattle.calls.specs.Numbers.{publishers_max, deferred_max};

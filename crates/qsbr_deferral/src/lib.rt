@@ -1,5 +1,7 @@
 // DEFER of the rest store, in place on the lent words.
 // It is total, and its contract is the step of qsbr_law.
+#![tactic(auto)]
+
 ghost use Rattle.std.specs.Prelude.{◌≡◌, List, ◌<◌, ℤ, length};
 ghost use Rattle.calls.specs.declared.Call.TheVariants.{Defer};
 ghost use Rattle.calls.specs.Numbers.{publishers_max, deferred_max};

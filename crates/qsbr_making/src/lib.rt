@@ -1,4 +1,6 @@
 // Making of the rest store, in place on the lent words and entries. It is total, and its contract is the making of qsbr_law.
+#![tactic(auto)]
+
 ghost use Rattle.std.specs.Prelude.{◌≡◌, eqb};
 ghost use Rattle.base.specs.Base.{choose};
 ghost use Rattle.statement.specs.Machine.{state, outcome, given};

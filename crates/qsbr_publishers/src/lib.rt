@@ -1,5 +1,7 @@
 // CLAIM, WRITE and SWAP of the rest store, in place on the lent words and entries.
 // Each is total, and its contract is the step of qsbr_law.
+#![tactic(auto)]
+
 ghost use Rattle.std.specs.Prelude.{◌≡◌};
 ghost use Rattle.calls.specs.declared.Call.TheVariants.{Claim, Write, Swap};
 ghost use Rattle.statement.specs.Machine.{state, outcome};

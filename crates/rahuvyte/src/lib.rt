@@ -2,6 +2,8 @@
 // the reply three numbers by value. A call that the store's kind lacks gets 1.
 // Each function is total, and its contract is the step (or the making) of kinds_law, through `numbers_of`.
 // The kind word decides whose call is run, here as in kinds (docs/DECISIONS.md says why).
+#![tactic(auto)]
+
 ghost use Rattle.std.specs.Prelude.{◌≡◌};
 ghost use Rattle.calls.specs.declared.Call.TheVariants.{Enter, Look, Leave, Claim, Write, Swap, Sync, Raise, Walk, Release, Pick, Checkpoint, Defer};
 ghost use Rattle.statement.specs.Machine.{state, given};

@@ -1,6 +1,8 @@
 // The numbers that C gets: a reply as three of them, and those that the header names, one after another, for its test.
 // The public functions are total. specs/: the header's numbers as lists.
 // The last versions of new and rest come from the laws of the kinds.
+#![tactic(auto)]
+
 ghost use Rattle.std.specs.Prelude.{◌≡◌, ◌<◌, length, get_or};
 ghost use Rattle.calls.specs.ReplyNumbers.{reply_numbers, pitch_number, walk_numbers, numbers_of};
 ghost use Rattle.reply_numbers.specs.Numbers.{limits, refusals, codes, number_of};

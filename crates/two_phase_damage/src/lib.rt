@@ -1,6 +1,8 @@
 // The old store's damage test.
 // One pass over the readers in use tests them and counts, for each parity, those at 4 or 5 whose loaded version has it.
 // Its contracts cite two_phase_law.
+#![tactic(auto)]
+
 ghost use Rattle.std.specs.Prelude.{◌≡◌, ◌||◌, List, ℕ, ◌<◌, ◌≤◌, ℤ, length};
 ghost use Rattle.base.specs.Rows.{any_true, any_below};
 ghost use Rattle.calls.specs.Numbers.{readers_max, publishers_max};

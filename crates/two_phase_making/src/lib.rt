@@ -1,4 +1,6 @@
 // Making of the old store, in place on the lent words and entries. It is total, and its contract is the making of two_phase_law.
+#![tactic(auto)]
+
 ghost use Rattle.std.specs.Prelude.{◌≡◌};
 ghost use Rattle.statement.specs.Machine.{state, outcome, given};
 ghost use Rattle.publication_law.specs.Table.{making};

@@ -1,5 +1,7 @@
 // CLAIM, WRITE, SWAP and RELEASE of the old store, in place on the lent words and entries.
 // Each is total, and its contract is the step of two_phase_law.
+#![tactic(auto)]
+
 ghost use Rattle.std.specs.Prelude.{◌≡◌};
 ghost use Rattle.calls.specs.declared.Call.TheVariants.{Claim, Write, Swap, Release};
 ghost use Rattle.statement.specs.Machine.{state, outcome};

@@ -1,5 +1,7 @@
 // ENTER, LOOK and LEAVE of the old store, in place on the lent words.
 // Each is total, and its contract is the step of two_phase_law.
+#![tactic(auto)]
+
 ghost use Rattle.std.specs.Prelude.{◌≡◌, ◌<◌};
 ghost use Rattle.calls.specs.Numbers.{place_picked};
 ghost use Rattle.calls.specs.declared.Call.TheVariants.{Enter, Look, Leave};

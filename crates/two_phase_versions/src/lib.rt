@@ -1,5 +1,7 @@
 // What a version decides, of the old store: SYNC and RAISE, in place on the lent words.
 // Each is total, and its contract is the step of two_phase_law.
+#![tactic(auto)]
+
 ghost use Rattle.std.specs.Prelude.{◌≡◌};
 ghost use Rattle.calls.specs.declared.Call.TheVariants.{Sync, Raise};
 ghost use Rattle.statement.specs.Machine.{state, outcome};

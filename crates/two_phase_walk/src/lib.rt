@@ -1,4 +1,6 @@
 // WALK of the old store, in place on the lent words. It is total, and its contract is the step of two_phase_law.
+#![tactic(auto)]
+
 ghost use Rattle.std.specs.Prelude.{◌≡◌, ◌+◌, ◌≤◌};
 ghost use Rattle.calls.specs.declared.Call.TheVariants.{Walk};
 ghost use Rattle.calls.specs.Numbers.{number_max};

@@ -1,0 +1,14 @@
+-- `first_retired_damaged` meets its contract: the loop has found no retired slot before i that is none of the store. Assumes nothing.
+use Prim.Native.Nat.{◌-◌, ◌≤◌}
+use mathlib.Core.Path.{◌≡◌}
+use mathlib.Core.Bool.{false}
+use lib.Dec.{leb}
+use Rattle.base.specs.Rows.{any_below}
+use Rattle.layout.specs.Layout.{retired_at}
+use Rattle.qsbr_damage.proofs.first_retired_damaged.Given as goal
+
+abbrev pub invariant-loop-i : goal.invariant-loop-i
+invariant-loop-i l = (l.i ≤ l.n) × (any_below (λ j. leb l.slots (retired_at l.words l.p j).slot) l.i ≡ false)
+
+abbrev pub decreases-loop-i : goal.decreases-loop-i
+decreases-loop-i l = l.n - l.i
