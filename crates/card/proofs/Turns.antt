@@ -15,9 +15,9 @@ use Rattle.lines_law.specs.Lines.{newline_byte, lines_from, lines_of, after_line
 use Rattle.sheet_law.specs.declared.Angle.{Angle}
 use Rattle.sheet_law.specs.declared.Angle.TheVariants.{SignedDecimal, NoAngle}
 use Rattle.sheet_law.specs.Reading.{angle}
-use Rattle.sheet_law.specs.Widths.{tail}
+use Rattle.sheet_law.proofs.Widths.{tail}
 use Rattle.card_law.specs.Card.{with_line, card_reader, card_lines, card_of, or_no_entries, or_line, bad_line}
-use Rattle.card_law.specs.CardLaws.{none_stays}
+use Rattle.card_law.proofs.CardLaws.{none_stays}
 
 -- The first line of a text, of which i bytes are read.
 module _ (t : List ℕ) (i : ℕ) where

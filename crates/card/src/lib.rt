@@ -1,5 +1,7 @@
 // A card's bytes to its entries, by the definition of card_law.
 // Every function is total.
+#![tactic(auto)]
+
 ghost use Rattle.std.specs.Prelude.{◌+◌, ◌<◌, ◌≤◌, ◌≡◌, ◌∷◌, length, set, take, drop};
 ghost use Rattle.lines_law.specs.Lines.{lines_of};
 ghost use Rattle.card_law.specs.Card.{bad_line, card_of};

@@ -1,18 +1,13 @@
 -- What is fed of a read: the part from a place on. Some of it is taken, no more than there is, and what was fed before and then is what was fed in all, which is what is kept. Assumes nothing.
-use Prim.Native.Nat.{ℕ, ◌+◌, ◌-◌, ◌≤◌, ◌<◌}
-use native.Mathlib.Omega.{arith}
+use Rattle.std.specs.Prelude.{◌≡◌, ℕ, ◌+◌, ◌-◌, ◌<◌, ◌≤◌, false, List, ◌++◌, length, take, drop, ℤ, refl}
+use Rattle.std.proofs.Common.{arith, sym, ap, ◌∙◌, length-drop, take_all}
+use Rattle.std.proofs.Math.Seq.{take-add}
+use Rattle.base.specs.RowLaws.{clash}
 use Rattle.lines_law.specs.Lines.{fed}
-use Rattle.lines_law.specs.LineLaws.{fed_append}
-use Rattle.sheet_law.specs.Widths.{tail}
-use mathlib.Core.Path.{refl, sym, ◌≡◌, ap, ◌∙◌}
-use mathlib.Core.List.{List, ◌++◌}
-use mathlib.Core.Bool.{true, false}
-use lib.IntN.{ℤ}
-use lib.ListN.{length, take, drop, length-drop}
-use lib.Seq.{take_all, take-add}
+use Rattle.lines_law.proofs.LineLaws.{fed_append}
 use Rattle.sheet_law.specs.Printing.{printed_max}
 use Rattle.sheet_law.specs.Sheet.{SheetState, sheet_reader}
-use Rattle.base.specs.RowLaws.{clash}
+use Rattle.sheet_law.proofs.Widths.{tail}
 use Rattle.sheet.specs.Feeds.{Feeds, used_fits, moves}
 use Rattle.run_sheet.specs.ReadFed.{ReadFed}
 
@@ -39,9 +34,6 @@ pub fed_none : (table : List ℤ) (d : SheetState) (l : List ℕ) → d ≡ fed 
 unfolding fed
 fed_none table d l = refl
 
--- What is kept where a write failed after a step, and at the end of the read.
+-- What is kept where a write failed after a step.
 pub stopped : {table : List ℤ} {d e g : SheetState} (l : List ℕ) (from : ℕ) {used : ℕ} {before out : List ℕ} {made : ℕ} → e ≡ fed (sheet_reader table) d (take from l) → from < length l → Feeds table e (take (length l - from) (drop from l)) used g before out made → ReadFed table d l g false
 stopped {table} {d} {e} {g} l from {used} p h f = record { bytes = from + used; within = taken_within l from f h; after = fed_further table d e g l from used p f.after; whole = λ w. clash (sym w) }
-
-pub ended : {table : List ℤ} {d e : SheetState} (l : List ℕ) (from : ℕ) → e ≡ fed (sheet_reader table) d (take from l) → from ≤ length l → length l ≤ from → ReadFed table d l e true
-ended l from p h k = record { bytes = from; within = h; after = p; whole = λ w. omega arith }

@@ -5,7 +5,7 @@ use Rattle.lines_law.specs.Lines.{ending}
 use Rattle.sheet_law.specs.Sheet.{sheet, start}
 use Rattle.sheet.specs.Feeds.{Feeds, Step, Chain, state_after, all_taken, all_printed, fed_sheet}
 use Rattle.card_law.specs.Card.{card_of, card_read, card_kept, sheet_on}
-use Rattle.card_law.specs.CardSheet.{first_entries}
+use Rattle.card_law.proofs.CardSheet.{first_entries}
 use Rattle.run_sheet.specs.TakenFrom.{TakenFrom}
 
 -- Where the bytes that were read are the card's first 4096: however the sheet is cut, and however often the output was full, what all steps printed from the start,

@@ -5,7 +5,7 @@ use Rattle.base.specs.RowLaws.{clash}
 use Rattle.calls.specs.declared.Reply.{Reply}
 use Rattle.statement.specs.Machine.{State, Outcome, outcome}
 use Rattle.lines_law.specs.Lines.{newline_byte, byte, ending, fed, joined, printed, said_at}
-use Rattle.lines_law.specs.LineLaws.{fed_append, printed_append}
+use Rattle.lines_law.proofs.LineLaws.{fed_append, printed_append}
 use Rattle.sheet_law.specs.declared.Command.{Command}
 use Rattle.sheet_law.specs.declared.Line.TheVariants.{Read, Unread}
 use Rattle.sheet_law.specs.Text.{text}

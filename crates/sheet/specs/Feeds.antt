@@ -7,7 +7,7 @@ use Rattle.base.specs.Base.{choose}
 use Rattle.base.specs.RowLaws.{choose_split}
 use Rattle.sheet.specs.declared.Fed.{Fed}
 use Rattle.lines_law.specs.Lines.{newline_byte, byte, ending, fed, printed, said_at}
-use Rattle.lines_law.specs.LineLaws.{fed_append, printed_append}
+use Rattle.lines_law.proofs.LineLaws.{fed_append, printed_append}
 use Rattle.sheet_law.specs.Printing.{printed_max}
 use Rattle.sheet_law.specs.Sheet.{sheet, SheetState, start, sheet_reader}
 use Rattle.sheet_law.specs.Reads.{kept_max, by_bytes}

@@ -2,6 +2,8 @@
 // on the lent words of a store and the lent room for its entries, with the lent first table.
 // `feed` takes the bytes of a read and prints a line for each line that ends in them, as far as the output has room;
 // `finish` is for the end of the input.
+#![tactic(auto)]
+
 ghost use Rattle.std.specs.Prelude.{◌≡◌, [], length, take};
 ghost use Rattle.layout.specs.Layout.{kind_word};
 ghost use Rattle.statement.specs.Machine.{state};

@@ -1,6 +1,8 @@
 // The fields of a run sheet's line, by the definitions of sheet_law:
 // words compared, a text cut at its first space, decimals and pitches read.
 // Every public function is total.
+#![tactic(auto)]
+
 ghost use Rattle.std.specs.Prelude.{◌-◌, ◌<◌, ◌≤◌, ◌≡◌, pos, negsuc, length, take, drop};
 ghost use Rattle.calls.specs.Numbers.{pitch_half, number_max};
 ghost use Rattle.sheet_law.specs.Text.{same_text};

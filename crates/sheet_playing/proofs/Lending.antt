@@ -13,7 +13,7 @@ use Rattle.calls.specs.Numbers.{damaged_number, table_length}
 use Rattle.layout.specs.Layout.{words_length, slots}
 use Rattle.statement.specs.Machine.{State, state, Outcome, outcome, given}
 use Rattle.kinds_law.specs.Kinds.{any_step, any_making}
-use Rattle.kinds_law.specs.Calls.{step_length}
+use Rattle.kinds_law.proofs.Calls.{step_length}
 use Rattle.sheet_law.specs.declared.Command.TheVariants.{Make, Run}
 use Rattle.sheet_law.specs.Sheet.{rejoined, lent, played}
 

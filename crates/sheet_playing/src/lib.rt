@@ -1,5 +1,7 @@
 // One line of a run sheet: whether the store's kind has its call, and its command played on the lent words of the store
 // and the lent room for its entries, with the lent first table, by the definition of sheet_law.
+#![tactic(auto)]
+
 ghost use Rattle.std.specs.Prelude.{◌*◌, ◌≤◌, ◌≡◌, ◌⊎◌};
 ghost use Rattle.calls.specs.Numbers.{table_length};
 ghost use Rattle.layout.specs.Layout.{kind_word};

@@ -7,7 +7,7 @@ use mathlib.Core.List.{List, ◌∷◌}
 use lib.ListN.{length, set, drop}
 use lib.Seq.{drop-cons, lt-length-set, get_or-set_same, drop-set-lt}
 use Rattle.sheet_law.specs.Text.{last_digit, digits_before, decimal}
-use Rattle.sheet_law.specs.Decimals.{spell_last, spell_next}
+use Rattle.sheet_law.proofs.Decimals.{spell_last, spell_next}
 
 unfoldable pub tens : ℕ → ℕ
 tens zero = 1

@@ -1,6 +1,8 @@
 // A reply to its bytes: the line that a run sheet prints for it, by the definition of sheet_law,
 // put into a lent buffer.
 // The public functions take any buffer and any place in it, and write nothing where the longest line would not fit.
+#![tactic(auto)]
+
 ghost use Rattle.std.specs.Prelude.{◌+◌, ◌≤◌, ◌≡◌, leb, length, drop, nat_abs};
 ghost use Rattle.sheet_law.specs.Text.{text, last_digit, decimal};
 ghost use Rattle.sheet_law.specs.Printing.{printed_max, pitch_text, walk_text, reply_text, printed_line};

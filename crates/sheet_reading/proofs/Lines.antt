@@ -6,7 +6,7 @@ use mathlib.Core.Path.{◌≡◌, refl, ap, ◌∙◌}
 use mathlib.Core.Bool.{Bool, true, false, ◌&&◌}
 use mathlib.Core.List.{List, [], ◌∷◌}
 use lib.IntN.{ℤ}
-use Rattle.sheet_law.specs.Widths.{decimal_same, no_decimal}
+use Rattle.sheet_law.proofs.Widths.{decimal_same, no_decimal}
 use lib.ListN.{length, get_or, take, drop}
 use borrow.Author.Tests.{lt-ltb, le-ltb, eq-eqb, ne_eqb}
 use Rattle.calls.specs.declared.Call.{Call}
@@ -19,7 +19,7 @@ use Rattle.sheet_law.specs.declared.Line.TheVariants.{Read, Unread}
 use Rattle.sheet_law.specs.Text.{text, same_text, open_bracket, close_bracket}
 use Rattle.sheet_law.specs.Reading.{narrow_max, up_to_space, after_space, narrow, angle, Naming, named_in, one, two, pitched, kinds, kind_named, keyword, command, inner, line_max, line_of}
 use Rattle.sheet_law.specs.Reading.Naming.{◌names◌}
-use Rattle.sheet_law.specs.Only.{◌else◌, named-only}
+use Rattle.sheet_law.proofs.Only.{◌else◌, named-only}
 
 -- A table of words from its last row up: without rows a word names none; a row with what the rows after it name is the table from that row on.
 pub record NamedBy {A : Type 0} (none : A) (word : List ℕ) (rows : List (Naming A)) (named : A) : Type 0 where

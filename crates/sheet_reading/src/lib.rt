@@ -1,5 +1,7 @@
 // A run sheet's line to a command, by the definition of sheet_law.
 // A word, its arguments, and the whole line; only `parse` is for others.
+#![tactic(auto)]
+
 ghost use Rattle.std.specs.Prelude.{◌≡◌};
 ghost use Rattle.base.specs.Base.{choose};
 ghost use Rattle.sheet_law.specs.Text.{same_text};
