@@ -20,6 +20,9 @@ extern "C" fn print_count() {
 
 /// The descriptor of the card.
 const CARD: i32 = 3;
+/// How Linux says in which way a file is opened.
+const ACCESS: i32 = 3;
+const READ_ONLY: i32 = 0;
 /// The numbers of Linux for a missing file and for a directory.
 const ENOENT: i32 = 2;
 const EISDIR: i32 = 21;
@@ -113,10 +116,13 @@ extern "C" {
 /// # Safety
 /// The path ends with a zero byte.
 #[no_mangle]
-pub unsafe extern "C" fn run_sheet_open(path: *const c_char) -> i32 {
+pub unsafe extern "C" fn run_sheet_open(path: *const c_char, flags: i32) -> i32 {
     let mut files = files();
     if CStr::from_ptr(path) != c"card" || files.stage != Stage::Unopened {
         return files.fails("it opens another file than the card, or the card again");
+    }
+    if flags & ACCESS != READ_ONLY {
+        return files.fails("it opens the card not only to read it");
     }
     if files.card == Card::Missing {
         files.stage = Stage::Closed;
