@@ -5,3 +5,4 @@ pub mod Rows
 pub mod RowLaws
 pub mod Fills
 pub mod Options
+pub mod Ranges

@@ -1,7 +1,9 @@
 -- Laws of tests, of rows and of scans: all that proofs use of them. Assumes nothing.
-use Rattle.std.specs.Prelude.{ℕ, zero, suc, ◌+◌, ◌<◌, ◌≤◌, ◌≡◌, refl, ◌≢◌, ◌⊎◌, Bool, true, false, not, ◌&&◌, ◌||◌, List, [], ◌∷◌, ltb, eqb}
-use Rattle.std.proofs.Common.{arith, add-one, sym, subst, inl, inr, eqb-true, eq-eqb, ne_eqb, ltb-true, ltb-false, lt-ltb, le-ltb}
+use Rattle.std.specs.Prelude.{ℕ, zero, suc, ◌+◌, ◌<◌, ◌≤◌, ◌≡◌, refl, ◌≢◌, ◌⊎◌, Bool, true, false, not, ◌&&◌, ◌||◌, List, [], ◌∷◌, ◌++◌, ltb, eqb}
+use Rattle.std.proofs.Common.{arith, add-one, add-zero, zero-add, ap, ◌∙◌, sym, subst, inl, inr, eqb-true, eq-eqb, ne_eqb, ltb-true, ltb-false, lt-ltb, le-ltb}
 use Rattle.std.proofs.lemmas.Bool.{eqb-false}
+use Rattle.std.specs.List.{list_any, range_with_len}
+use Rattle.std.proofs.lemmas.List.Folds.{list_any-append}
 use Rattle.base.specs.Base.{choose, upd}
 use Rattle.base.specs.Rows.{Test, first_of, any_true, any_below, count_below, outside}
 use Rattle.base.specs.Rows.Test.{◌gives◌}
@@ -183,6 +185,17 @@ any_more f i = rw (add-one i) refl
 pub none_more : (f : ℕ → Bool) (i : ℕ) → any_below f i ≡ false → f i ≡ false → any_below f (i + 1) ≡ false
 unfolding any_below
 none_more f i h e = rw (add-one i, h) e
+
+-- A scan of the numbers in a range is one of those below its end.
+range_more : (a n : ℕ) → range_with_len a (suc n) ≡ range_with_len a n ++ (a + n) ∷ []
+range_more a zero = rw add-zero refl
+range_more a (suc n) = let at : (a + 1) + n ≡ a + suc n = omega arith in rw (range_more (a + 1) n, at) refl
+
+pub any_in_range : (f : ℕ → Bool) (n : ℕ) → list_any f (range_with_len 0 n) ≡ any_below f n
+unfolding any_below
+any_in_range f zero = refl
+any_in_range f (suc n) =
+    ap (list_any f) (range_more 0 n) ∙ rw list_any-append (rw (any_in_range f n, or_none, zero-add) refl)
 
 pub count_zero : (f : ℕ → Bool) (n i : ℕ) → count_below f n ≡ 0 → i < n → f i ≡ false
 unfolding count_below

@@ -16,7 +16,7 @@ entry_of l k = get_or l k (pos 0)
 abbrev pub any_out_of_range : List ℤ → Bool
 any_out_of_range l = any_below (λ k. out_of_range (entry_of l k)) (length l)
 
--- 42 two neighbours, entries k and k + 1, differ by more than STEP-MAX.
+-- 42 two neighbours, entries k and k + 1, differ by more than step_max.
 abbrev pub steep : ℤ → ℤ → Bool
 steep v v' = lt_z step_max (v -ℤ v') || lt_z step_max (v' -ℤ v)
 

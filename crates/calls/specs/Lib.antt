@@ -10,3 +10,4 @@ pub mod Told
 pub mod Tally
 pub mod ReplyNumbers
 pub mod ReplyNumbersLaws
+pub mod Refusals

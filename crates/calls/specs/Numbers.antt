@@ -21,7 +21,7 @@ table_length = 32
 abbrev pub deferred_max : ℕ
 deferred_max = 8
 
--- A pitch is a signed number of this many bits: from -PITCH-HALF up to, but not including, PITCH-HALF.
+-- A pitch is a signed number of this many bits: from -pitch_half up to, but not including, pitch_half.
 abbrev pub pitch_bits : ℕ
 pitch_bits = 32
 

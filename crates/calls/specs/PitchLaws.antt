@@ -8,11 +8,11 @@ use Rattle.std.proofs.lemmas.Int.{to_z-of_z}
 use Rattle.base.specs.RowLaws.{clash}
 use Rattle.calls.specs.Numbers.{pitch_bits, pitch_bytes, pitch_half}
 
--- PITCH-BITS, as the machine has it.
+-- pitch_bits, as the machine has it.
 abbrev pub pitch_width : Width
 pitch_width = w32
 
--- PITCH-HALF is half of the numbers that so many bits hold.
+-- pitch_half is half of the numbers that so many bits hold.
 pub half_of_bits : pitch_half ≡ 2 ^ (pitch_bits - 1)
 half_of_bits = refl
 

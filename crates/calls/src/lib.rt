@@ -2,6 +2,9 @@
 // specs/: what the calls alone tell, document 01's plain shelf, a reply's numbers for C.
 #![tactic(auto)]
 
+ghost use Rattle.std.specs.Prelude.{◌≡◌};
+ghost use Rattle.calls.specs.Refusals.{refused};
+
 // A pitch, in thousandths of a degree.
 pub type Pitch = i32;
 
@@ -77,51 +80,6 @@ pub const PLACE_RETURNED: u64 = 38;
 
 // In a kind whose loops never enter a section a publisher at 35 has raised the epoch, and its former slot is not yet queued.
 pub const PLACE_DEFERRING: u64 = 35;
-
-// Refusal numbers.
-pub const DAMAGED: u64 = 1;
-
-pub const BAD_READERS: u64 = 2;
-
-pub const BAD_PUBLISHERS: u64 = 3;
-
-pub const BAD_SLOTS: u64 = 4;
-
-pub const BAD_ENTRIES: u64 = 5;
-
-pub const BAD_VERSION: u64 = 6;
-
-pub const NO_SUCH_READER: u64 = 10;
-
-pub const NO_SUCH_PUBLISHER: u64 = 11;
-
-pub const NO_SUCH_SLOT: u64 = 12;
-
-pub const NO_SUCH_ENTRY: u64 = 13;
-
-pub const BAD_PITCH: u64 = 14;
-
-pub const READER_TURN: u64 = 20;
-
-pub const PUBLISHER_TURN: u64 = 21;
-
-pub const SLOT_IN_USE: u64 = 30;
-
-pub const BUSY: u64 = 31;
-
-pub const VERSION_IS_LAST: u64 = 32;
-
-pub const TOO_MANY_LOOKS: u64 = 33;
-
-pub const BAD_TABLE_LENGTH: u64 = 40;
-
-pub const BAD_TABLE_PITCH: u64 = 41;
-
-pub const BAD_TABLE_STEP: u64 = 42;
-
-pub const EPOCH_IS_LAST: u64 = 43;
-
-pub const TOO_MANY_DEFERRED: u64 = 44;
 
 // The codes of accepted replies for C: those of document 01 in its order, then that of request 3.
 pub const CODE_MADE: u64 = 100;
@@ -210,7 +168,7 @@ pub enum Reply {
     Walked(WalkReply),
     // the slot, and the releases
     Freed(u64, u64),
-    // document 01's number
+    // the refusal's number
     Refused(u64),
     // the slot
     Picked(u64),
@@ -223,4 +181,40 @@ pub struct ReplyNumbers {
     pub code: u64,
     pub first: u64,
     pub second: u64,
+}
+
+// Why a call or a making is refused. The number is that of the papers, which C and the run sheet give.
+#[derive(Clone, Copy, PartialEq, Eq)]
+pub enum Refusal {
+    Damaged = 1,
+    BadReaders = 2,
+    BadPublishers = 3,
+    BadSlots = 4,
+    BadEntries = 5,
+    BadVersion = 6,
+    NoSuchReader = 10,
+    NoSuchPublisher = 11,
+    NoSuchSlot = 12,
+    NoSuchEntry = 13,
+    BadPitch = 14,
+    ReaderTurn = 20,
+    PublisherTurn = 21,
+    SlotInUse = 30,
+    Busy = 31,
+    VersionIsLast = 32,
+    TooManyLooks = 33,
+    BadTableLength = 40,
+    BadTablePitch = 41,
+    BadTableStep = 42,
+    EpochIsLast = 43,
+    TooManyDeferred = 44,
+}
+
+impl From<Refusal> for Reply {
+    ghost from_gives = { λ refusal reply. reply ≡ refused refusal };
+
+    #[inline]
+    fn from(refusal: Refusal) -> Reply {
+        Reply::Refused(refusal as u64)
+    }
 }

@@ -3,7 +3,7 @@
 use Rattle.std.specs.Prelude.{ℕ, ◌≡◌, ◌≢◌, length}
 use Rattle.std.proofs.Math.Path.{refl}
 use Rattle.std.proofs.Common.{sym, ◌∙◌, ne_eqb}
-use Rattle.std.proofs.Math.Option.{Option, none, some}
+use Rattle.std.specs.Prelude.{Option, Some as some, None as none}
 use Rattle.calls.specs.declared.Call.{Call}
 use Rattle.calls.specs.declared.Reply.TheVariants.{Refused}
 use Rattle.calls.specs.Numbers.{kind_new, kind_old, kind_rest, damaged_number}
@@ -15,8 +15,9 @@ use Rattle.publication_law.proofs.Calls.{step_damaged, damaged_head}
 use Rattle.grace_version_law.specs.Steps as new-store
 use Rattle.two_phase_law.specs.Steps as old-store
 use Rattle.qsbr_law.specs.Steps as rest-store
-use Rattle.kinds_law.specs.Kinds.{Kind, table_of, kind_number, kind_of_number, step_of, any_step, making_of, any_making}
-use Rattle.kinds_law.specs.Kinds.Kind.{new, old, rest}
+use Rattle.kinds_law.specs.declared.Kind.{Kind}
+use Rattle.kinds_law.specs.Kinds.{table_of, kind_number, kind_of_number, step_of, any_step, making_of, any_making}
+use Rattle.kinds_law.specs.declared.Kind.TheVariants.{New as new, Old as old, Rest as rest}
 
 -- A kind's number names it, and it is the number in the kind's own damage test.
 pub number_named : (kind : Kind) → kind_of_number (kind_number kind) ≡ some kind

@@ -1,22 +1,20 @@
 -- Words of any kind: the kind word tells which store they are, and that store's own making and step are what is done.
 use Rattle.std.specs.Prelude.{ℕ, Bool, false, eqb}
-use Rattle.std.proofs.Math.Option.{Option, none, some}
+use Rattle.std.specs.Prelude.{Option, Some as some, None as none}
 use Rattle.base.specs.Base.{choose}
 use Rattle.calls.specs.declared.Call.{Call}
 use Rattle.calls.specs.declared.Reply.TheVariants.{Refused}
 use Rattle.calls.specs.Numbers.{kind_new, kind_old, kind_rest, damaged_number}
 use Rattle.layout.specs.Layout.{kind_word}
+use Rattle.kinds_law.specs.declared.Kind.{Kind}
+use Rattle.kinds_law.specs.declared.Kind.TheVariants.{New as new, Old as old, Rest as rest}
+use Rattle.kinds_law.specs.declared.UnknownKind.{UnknownKind}
+use Rattle.std.specs.Prelude.{Result, Ok, Err, ◌≡◌}
 use Rattle.statement.specs.Machine.{State, Outcome, outcome, Given, Machine}
 use Rattle.publication_law.specs.Table.{Table, step, making}
 use Rattle.grace_version_law.specs.Steps as new-store
 use Rattle.two_phase_law.specs.Steps as old-store
 use Rattle.qsbr_law.specs.Steps as rest-store
-
--- The kinds: the new store (GraceVersion), the old one (Two-Phase with one publisher) and the one for loops that never enter a section (QSBR).
-pub data Kind : Type 0 where
-  new : Kind
-  old : Kind
-  rest : Kind
 
 -- The table of each.
 abbrev pub table_of : Kind → Table
@@ -33,6 +31,11 @@ kind_number rest = kind_rest
 -- The kind that a number names. Every other number names none, those of other formats among them.
 unfoldable pub kind_of_number : ℕ → Option Kind
 kind_of_number n = choose (eqb n kind_new) (some new) (choose (eqb n kind_old) (some old) (choose (eqb n kind_rest) (some rest) none))
+
+-- What the code answers of a number: its kind, or that it names none.
+abbrev pub IsKindOf : ℕ → Result Kind UnknownKind → Type 0
+IsKindOf n (Ok kind) = kind_of_number n ≡ some kind
+IsKindOf n (Err unknown) = kind_of_number n ≡ none
 
 -- A call is its kind's own step; words of no kind are damaged, and every call on them gets 1.
 abbrev pub step_of : Option Kind → State → Call → Outcome

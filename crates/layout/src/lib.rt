@@ -4,14 +4,17 @@
 // only worked examples compute through the views.
 #![tactic(auto)]
 
-ghost use Rattle.std.specs.Prelude.{◌≡◌, ◌<◌, length, replicate};
+ghost use Rattle.std.specs.Prelude.{◌≡◌, ◌<◌, replicate};
 ghost use Rattle.calls.specs.Numbers.{readers_max, publishers_max, deferred_max};
 ghost use Rattle.layout.specs.Layout.{words_length, indicator_count, kind_word, readers, publishers, slots, current, version, releases, indicator, with_current, with_version, with_releases, with_indicator, reader_at, publisher_at, retirement_at, retired_at, with_reader, with_publisher, with_retirement, with_retired, with_readers, blank_reader, fresh_words};
 
-use calls::WalkReply;
+use calls::{READERS_MAX, WalkReply};
 
 // The length of a store's words.
 pub const WORDS: usize = 713;
+
+// A store's words.
+pub type Words = [u64; WORDS];
 
 // The head.
 const KIND_AT: usize = 0;
@@ -82,6 +85,16 @@ const SLOT: usize = 0;
 
 const AWAITED: usize = 1;
 
+// What making writes of the head: its other numbers are 0 in a fresh store.
+#[derive(Clone, Copy)]
+pub struct Head {
+    pub kind: u64,
+    pub readers: u64,
+    pub publishers: u64,
+    pub slots: u64,
+    pub version: u64,
+}
+
 #[derive(Clone, Copy)]
 pub struct Reader {
     pub place: u64,
@@ -128,8 +141,7 @@ pub struct WalkResult {
     pub reply: WalkReply,
 }
 
-pub fn kind_of(words: &[u64]) -> u64
-    requires { length words.now ≡ words_length }
+pub fn kind_of(words: &Words) -> u64
     ensures { result ≡ kind_word words.now }
 {
     words[KIND_AT]
@@ -139,91 +151,81 @@ pub fn kind_of(words: &[u64]) -> u64
 pub fn kind_word(words: &[u64]) -> u64
     ensures { result ≡ kind_word words.now }
 {
-    if words.len() == 0 {
-        return 0;
-    }
-    words[KIND_AT]
+    words.get(KIND_AT).copied().unwrap_or(0)
 }
 
-pub fn readers_of(words: &[u64]) -> u64
-    requires { length words.now ≡ words_length }
+pub fn readers_of(words: &Words) -> u64
     ensures { result ≡ readers words.now }
 {
     words[READERS_AT]
 }
 
-pub fn publishers_of(words: &[u64]) -> u64
-    requires { length words.now ≡ words_length }
+pub fn publishers_of(words: &Words) -> u64
     ensures { result ≡ publishers words.now }
 {
     words[PUBLISHERS_AT]
 }
 
-pub fn slots_of(words: &[u64]) -> u64
-    requires { length words.now ≡ words_length }
+pub fn slots_of(words: &Words) -> u64
     ensures { result ≡ slots words.now }
 {
     words[SLOTS_AT]
 }
 
-pub fn current_of(words: &[u64]) -> u64
-    requires { length words.now ≡ words_length }
+pub fn current_of(words: &Words) -> u64
     ensures { result ≡ current words.now }
 {
     words[CURRENT_AT]
 }
 
-pub fn version_of(words: &[u64]) -> u64
-    requires { length words.now ≡ words_length }
+pub fn version_of(words: &Words) -> u64
     ensures { result ≡ version words.now }
 {
     words[VERSION_AT]
 }
 
-pub fn releases_of(words: &[u64]) -> u64
-    requires { length words.now ≡ words_length }
+pub fn releases_of(words: &Words) -> u64
     ensures { result ≡ releases words.now }
 {
     words[RELEASES_AT]
 }
 
-pub fn indicator_of(words: &[u64], i: usize) -> u64
-    requires { (length words.now ≡ words_length) × (i < indicator_count) }
+#[tactic(auto, unfolding(crate::specs::Layout::indicator))]
+pub fn indicator_of(words: &Words, i: usize) -> u64
+    requires { i < indicator_count }
     ensures { result ≡ indicator words.now i }
 {
     words[INDICATORS_AT + i]
 }
 
-pub fn put_current(words: &mut [u64], n: u64)
-    requires { length words.old ≡ words_length }
+pub fn put_current(words: &mut Words, n: u64)
     ensures { words.new ≡ with_current words.old n }
 {
     words[CURRENT_AT] = n;
 }
 
-pub fn put_version(words: &mut [u64], n: u64)
-    requires { length words.old ≡ words_length }
+pub fn put_version(words: &mut Words, n: u64)
     ensures { words.new ≡ with_version words.old n }
 {
     words[VERSION_AT] = n;
 }
 
-pub fn put_releases(words: &mut [u64], n: u64)
-    requires { length words.old ≡ words_length }
+pub fn put_releases(words: &mut Words, n: u64)
     ensures { words.new ≡ with_releases words.old n }
 {
     words[RELEASES_AT] = n;
 }
 
-pub fn put_indicator(words: &mut [u64], i: usize, n: u64)
-    requires { (length words.old ≡ words_length) × (i < indicator_count) }
+pub fn put_indicator(words: &mut Words, i: usize, n: u64)
+    requires { i < indicator_count }
     ensures { words.new ≡ with_indicator words.old i n }
 {
     words[INDICATORS_AT + i] = n;
 }
 
-pub fn reader_at(words: &[u64], r: usize) -> Reader
-    requires { (length words.now ≡ words_length) × (r < readers_max) }
+#[tactic(auto, unfolding(crate::specs::Layout::reader_at))]
+pub fn reader_at(words: &Words, r: usize) -> Reader
+    requires { r < readers_max }
     ensures { result ≡ reader_at words.now r }
 {
     let b = FIRST_READER + READER_WORDS * r;
@@ -237,15 +239,17 @@ pub fn reader_at(words: &[u64], r: usize) -> Reader
 }
 
 // The place of a reader alone: most tests need no more.
-pub fn reader_place(words: &[u64], r: usize) -> u64
-    requires { (length words.now ≡ words_length) × (r < readers_max) }
+#[tactic(auto, unfolding(crate::specs::Layout::reader_at))]
+pub fn reader_place(words: &Words, r: usize) -> u64
+    requires { r < readers_max }
     ensures { result ≡ (reader_at words.now r).place }
 {
     words[FIRST_READER + READER_WORDS * r + PLACE]
 }
 
-pub fn put_reader(words: &mut [u64], r: usize, x: Reader)
-    requires { (length words.old ≡ words_length) × (r < readers_max) }
+#[tactic(auto, unfolding(crate::specs::Layout::with_reader))]
+pub fn put_reader(words: &mut Words, r: usize, x: Reader)
+    requires { r < readers_max }
     ensures { words.new ≡ with_reader words.old r x }
 {
     let b = FIRST_READER + READER_WORDS * r;
@@ -256,8 +260,9 @@ pub fn put_reader(words: &mut [u64], r: usize, x: Reader)
     words[b + PICKED] = x.picked;
 }
 
-pub fn publisher_at(words: &[u64], p: usize) -> Publisher
-    requires { (length words.now ≡ words_length) × (p < publishers_max) }
+#[tactic(auto, unfolding(crate::specs::Layout::publisher_at))]
+pub fn publisher_at(words: &Words, p: usize) -> Publisher
+    requires { p < publishers_max }
     ensures { result ≡ publisher_at words.now p }
 {
     let b = FIRST_PUBLISHER + PUBLISHER_WORDS * p;
@@ -270,20 +275,22 @@ pub fn publisher_at(words: &[u64], p: usize) -> Publisher
     Publisher {
         place: words[b + PLACE],
         held: words[b + HELD],
-        walk: walk,
+        walk,
     }
 }
 
 // The place of a publisher alone.
-pub fn publisher_place(words: &[u64], p: usize) -> u64
-    requires { (length words.now ≡ words_length) × (p < publishers_max) }
+#[tactic(auto, unfolding(crate::specs::Layout::publisher_at))]
+pub fn publisher_place(words: &Words, p: usize) -> u64
+    requires { p < publishers_max }
     ensures { result ≡ (publisher_at words.now p).place }
 {
     words[FIRST_PUBLISHER + PUBLISHER_WORDS * p + PLACE]
 }
 
-pub fn put_publisher(words: &mut [u64], p: usize, y: Publisher)
-    requires { (length words.old ≡ words_length) × (p < publishers_max) }
+#[tactic(auto, unfolding(crate::specs::Layout::with_publisher))]
+pub fn put_publisher(words: &mut Words, p: usize, y: Publisher)
+    requires { p < publishers_max }
     ensures { words.new ≡ with_publisher words.old p y }
 {
     let b = FIRST_PUBLISHER + PUBLISHER_WORDS * p;
@@ -295,8 +302,9 @@ pub fn put_publisher(words: &mut [u64], p: usize, y: Publisher)
     words[b + WAITS] = y.walk.waits;
 }
 
-pub fn retirement_at(words: &[u64], p: usize) -> Retirement
-    requires { (length words.now ≡ words_length) × (p < publishers_max) }
+#[tactic(auto, unfolding(crate::specs::Layout::retirement_at))]
+pub fn retirement_at(words: &Words, p: usize) -> Retirement
+    requires { p < publishers_max }
     ensures { result ≡ retirement_at words.now p }
 {
     let b = FIRST_RETIREMENT + RETIREMENT_WORDS * p;
@@ -306,8 +314,9 @@ pub fn retirement_at(words: &[u64], p: usize) -> Retirement
     }
 }
 
-pub fn put_retirement(words: &mut [u64], p: usize, t: Retirement)
-    requires { (length words.old ≡ words_length) × (p < publishers_max) }
+#[tactic(auto, unfolding(crate::specs::Layout::with_retirement))]
+pub fn put_retirement(words: &mut Words, p: usize, t: Retirement)
+    requires { p < publishers_max }
     ensures { words.new ≡ with_retirement words.old p t }
 {
     let b = FIRST_RETIREMENT + RETIREMENT_WORDS * p;
@@ -316,8 +325,9 @@ pub fn put_retirement(words: &mut [u64], p: usize, t: Retirement)
 }
 
 // Retired slot i of publisher p.
-pub fn retired_at(words: &[u64], p: usize, i: usize) -> Retired
-    requires { (length words.now ≡ words_length) × (p < publishers_max) × (i < deferred_max) }
+#[tactic(auto, unfolding(crate::specs::Layout::retired_at))]
+pub fn retired_at(words: &Words, p: usize, i: usize) -> Retired
+    requires { (p < publishers_max) × (i < deferred_max) }
     ensures { result ≡ retired_at words.now p i }
 {
     let b = FIRST_RETIRED + RETIRED_ROOM * p + RETIRED_WORDS * i;
@@ -327,8 +337,9 @@ pub fn retired_at(words: &[u64], p: usize, i: usize) -> Retired
     }
 }
 
-pub fn put_retired(words: &mut [u64], p: usize, i: usize, d: Retired)
-    requires { (length words.old ≡ words_length) × (p < publishers_max) × (i < deferred_max) }
+#[tactic(auto, unfolding(crate::specs::Layout::with_retired))]
+pub fn put_retired(words: &mut Words, p: usize, i: usize, d: Retired)
+    requires { (p < publishers_max) × (i < deferred_max) }
     ensures { words.new ≡ with_retired words.old p i d }
 {
     let b = FIRST_RETIRED + RETIRED_ROOM * p + RETIRED_WORDS * i;
@@ -336,45 +347,26 @@ pub fn put_retired(words: &mut [u64], p: usize, i: usize, d: Retired)
     words[b + AWAITED] = d.mark;
 }
 
-// Every word 0.
-fn clear(words: &mut [u64])
-    ensures { words.new ≡ replicate (length words.old) 0 }
-{
-    for i in 0..words.len() {
-        words[i] = 0;
-    }
-}
-
 // In words that are all 0: stores what each of the 64 readers has published.
-fn publish_all(words: &mut [u64], published: u64)
+fn publish_all(words: &mut Words, published: u64)
     requires { words.old ≡ replicate words_length 0 }
     ensures { words.new ≡ with_readers readers_max (replicate words_length 0) (blank_reader published) }
 {
-    let mut at: usize = FIRST_READER + PUBLISHED;
-    while at < FIRST_PUBLISHER {
-        words[at] = published;
-        at += READER_WORDS;
+    for r in 0..READERS_MAX as usize {
+        words[FIRST_READER + READER_WORDS * r + PUBLISHED] = published;
     }
 }
 
 // Fresh words: all 0, but for a head and what each reader has published.
-pub fn put_fresh(
-    words: &mut [u64],
-    kind: u64,
-    readers: u64,
-    publishers: u64,
-    slots: u64,
-    version: u64,
-    published: u64,
-)
-    requires { length words.old ≡ words_length }
-    ensures { words.new ≡ fresh_words kind readers publishers slots version (blank_reader published) }
+#[tactic(auto, unfolding(crate::specs::Layout::fresh_words))]
+pub fn put_fresh(words: &mut Words, head: Head, published: u64)
+    ensures { words.new ≡ fresh_words head.kind head.readers head.publishers head.slots head.version (blank_reader published) }
 {
-    clear(words);
+    words.fill(0);
     publish_all(words, published);
-    words[KIND_AT] = kind;
-    words[READERS_AT] = readers;
-    words[PUBLISHERS_AT] = publishers;
-    words[SLOTS_AT] = slots;
-    words[VERSION_AT] = version;
+    words[KIND_AT] = head.kind;
+    words[READERS_AT] = head.readers;
+    words[PUBLISHERS_AT] = head.publishers;
+    words[SLOTS_AT] = head.slots;
+    words[VERSION_AT] = head.version;
 }

@@ -1,4 +1,4 @@
-// What the kinds share of the damage test: the head, for any words and any number of entries.
+// What the kinds share of the damage test: the head, for any number of entries.
 // The contract cites publication_law.
 #![tactic(auto)]
 
@@ -9,18 +9,15 @@ ghost use Rattle.statement.specs.Machine.{state};
 ghost use Rattle.publication_law.specs.Damage.{DamageRules, head_rows};
 
 use calls::{PUBLISHERS_MAX, READERS_MAX, SLOTS_MAX, SLOTS_MIN, TABLE};
-use layout::{WORDS, current_of, kind_of, publishers_of, readers_of, slots_of, version_of};
+use layout::{Words, current_of, kind_of, publishers_of, readers_of, slots_of, version_of};
 
 // Whether the head damages a store of this kind, with so many entries, whose versions go up to last.
-pub fn head_damaged_of_kind(words: &[u64], entries: usize, kind: u64, last: u64) -> bool
+pub fn head_damaged_of_kind(words: &Words, entries: usize, kind: u64, last: u64) -> bool
     ensures { (K : DamageRules) (es : List ℤ) → K.number ≡ kind →
         K.versions.too_large (version words.now) ≡ ltb last (version words.now) →
         length es ≡ entries →
         result ≡ any_true (head_rows K (state words.now es)) }
 {
-    if words.len() != WORDS {
-        return true;
-    }
     if kind_of(words) != kind {
         return true;
     }

@@ -1,9 +1,10 @@
 -- What an accepted shared call gives, from what its code knows: the rows that do not apply, the record that it read, the words that it wrote.
 -- Assumes nothing.
 use Rattle.std.proofs.Common.{arith, sym, ap, ◌∙◌, eqb-true, eq-eqb, ne_eqb, lt-ltb, le-ltb}
-use Rattle.std.specs.Prelude.{ℕ, ◌+◌, ◌-◌, ◌%◌, ◌<◌, ◌≤◌, ◌≡◌, ◌≢◌, Bool, true, false, not, ◌&&◌, ◌||◌, List, ◌∷◌, ℤ, pos, get_or, set, ltb, eqb}
+use Rattle.std.specs.Prelude.{ℕ, ◌+◌, ◌-◌, ◌%◌, ◌<◌, ◌≤◌, ◌≡◌, ◌≢◌, Bool, true, false, not, ◌&&◌, ◌||◌, List, ◌∷◌, ℤ, pos, get_or, set, length, replicate, ltb, eqb}
 use Rattle.std.proofs.Math.Path.{refl}
 use Rattle.std.proofs.lemmas.Bool.{eqb-false, lt-leb}
+use Rattle.std.proofs.lemmas.List.{length-replicate}
 use Rattle.base.specs.Base.{choose}
 use Rattle.base.specs.Rows.{first_of, any_true}
 use Rattle.base.specs.Rows.Test.{◌gives◌}
@@ -17,12 +18,12 @@ use Rattle.calls.specs.Numbers.{number_modulus, number_max, place_open, place_pi
 use Rattle.layout.specs.declared.Reader.{Reader}
 use Rattle.layout.specs.declared.Publisher.{Publisher}
 use Rattle.layout.specs.declared.WalkResult.{WalkResult}
-use Rattle.layout.specs.Layout.{readers, publishers, slots, current, version, releases, reader_at, publisher_at, with_publisher, with_current, with_version, with_releases, entry_at}
+use Rattle.layout.specs.Layout.{words_length, readers, publishers, slots, current, version, releases, reader_at, publisher_at, with_publisher, with_current, with_version, with_releases, entry_at}
 use Rattle.layout.specs.Records.{◌at_place◌, ◌held≔◌, ◌walk≔◌}
 use Rattle.statement.specs.Machine.{State, state, Outcome, outcome, Given}
 use Rattle.publication_law.specs.Steps.{Versions, up_to, decide, reader, publisher, new_walk, another_busy, in_use, look_tests, look, claim_tests, claim, write_tests, write, swap_tests, swap, sync_tests, sync, raise, walked, walk, release_tests, release}
-use Rattle.publication_law.specs.Damage.{head_rows, shared_damage, readers_are_damaged, publishers_are_damaged}
-use Rattle.publication_law.specs.DamageLaws.{Undamaged, undamaged_of, tests_shared, readers_test_false, publishers_test_false}
+use Rattle.publication_law.specs.Damage.{DamageRules, head_rows, shared_damage, first_readers_damaged, first_publishers_damaged, readers_are_damaged, publishers_are_damaged}
+use Rattle.publication_law.specs.DamageLaws.{Undamaged, UndamagedHead, head_of, undamaged_of, tests_shared, readers_test_false, publishers_test_false}
 use Rattle.publication_law.specs.Decide.{decide_accepts}
 use Rattle.publication_law.proofs.Clear.{claim_rows_lem}
 use Rattle.publication_law.specs.Table.{Table, damaged, step, making}
@@ -37,6 +38,10 @@ pub step_undamaged : (T : Table) (s : State) (c : Call) → damaged T s ≡ fals
 unfolding step
 step_undamaged T s c e = ap (λ (test : Bool). decide ((test gives damaged_number) ∷ T.tests s c) (T.act s c) s) (sym (ap (λ (test : Bool). T.lacks c || test) e ∙ or_none (T.lacks c)))
 
+-- A head that is in order with any entries of a number bounds the readers and the publishers.
+pub head_of_any : (K : DamageRules) (w : List ℕ) (n : ℕ) → ((es : List ℤ) → length es ≡ n → any_true (head_rows K (state w es)) ≡ false) → UndamagedHead K (state w (replicate n (pos 0)))
+head_of_any K w n in_order = head_of K (state w (replicate n (pos 0))) (in_order (replicate n (pos 0)) (length-replicate n (pos 0)))
+
 -- The damage test is that of the head, of the readers, of the publishers, each by itself, and what a kind adds.
 module _ (T : Table) (s : State) where
   pub undamaged_facts : damaged T s ≡ false → Undamaged T.damage s
@@ -46,6 +51,15 @@ module _ (T : Table) (s : State) where
   pub undamaged_further : damaged T s ≡ false → T.further s ≡ false
   unfolding damaged
   undamaged_further e = (or_false (shared_damage T.damage s) (T.further s) e).1
+
+  -- Where the head is in order, a damaged reader damages the store, and past the readers and what the kind adds the publishers decide.
+  pub readers_damage : any_true (head_rows T.damage s) ≡ false → first_readers_damaged T.damage s ≡ true → damaged T s ≡ true
+  unfolding damaged
+  readers_damage head_ok some = rw (head_ok, some) refl
+
+  pub publishers_decide : any_true (head_rows T.damage s) ≡ false → first_readers_damaged T.damage s ≡ false → T.further s ≡ false → damaged T s ≡ first_publishers_damaged T.damage s
+  unfolding damaged
+  publishers_decide head_ok none further_Ok = rw (head_ok, none, further_Ok) (or_none _)
 
   pub undamaged : any_true (head_rows T.damage s) ≡ false → readers_are_damaged T.damage s ≡ false → T.further s ≡ false → publishers_are_damaged T.damage s ≡ false → damaged T s ≡ false
   unfolding damaged
@@ -71,6 +85,10 @@ module _ (T : Table) (s : State) where
 
   pub damaged_further : T.further s ≡ true → damaged T s ≡ true
   damaged_further = unless (T.further s) undamaged_further
+
+-- A call of words of another length.
+pub step_wrong_length : (T : Table) (s : State) (c : Call) → length s.words ≢ words_length → outcome (Refused damaged_number) s ≡ step T s c
+step_wrong_length T s c ne = step_damaged T s c (damaged_head T s (rw (ne_eqb (length s.words) words_length ne) refl))
 
 -- ENTER below 5 and LEAVE at 4 and 5.
 module _ (R : SectionRules) (s : State) (no_damage : damaged (table_by R) s ≡ false) (r : ℕ) (x : Reader) (named : r < readers s.words) (is : x ≡ reader s r) where

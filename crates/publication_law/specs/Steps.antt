@@ -174,7 +174,7 @@ release s p = outcome (Freed (publisher s p).held (one_more s)) (state
     (with_releases (with_publisher s.words p (publisher s p at_place place_idle)) (one_more s))
     s.entries)
 
--- The first table: 40 it has not 32 entries, 41 an entry is out of range, 42 two neighbours differ by more than STEP-MAX.
+-- The first table: 40 it has not 32 entries, 41 an entry is out of range, 42 two neighbours differ by more than step_max.
 abbrev pub table_tests : List ℤ → List Test
 table_tests table =
     (not (eqb (length table) table_length) gives bad_table_length_number)

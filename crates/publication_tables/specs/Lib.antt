@@ -1,2 +1,3 @@
 pub mod FillLaws
 pub mod Differences
+pub mod Scans

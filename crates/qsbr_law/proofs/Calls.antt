@@ -1,19 +1,19 @@
 -- What the code of the rest store asks of an undamaged store, and what its accepted calls give. Assumes nothing.
-use Rattle.std.specs.Prelude.{ℕ, ◌+◌, ◌-◌, ◌*◌, ◌<◌, ◌≤◌, ◌≡◌, ◌≢◌, Bool, true, false, not, ◌||◌, List, ℤ, length, leb, ltb, eqb}
+use Rattle.std.specs.Prelude.{ℕ, ◌+◌, ◌-◌, ◌<◌, ◌≤◌, ◌≡◌, ◌≢◌, Bool, true, false, not, ◌||◌, List, ℤ, length, leb, ltb, eqb}
 use Rattle.std.proofs.Common.{arith, sym, ap, ◌∙◌, ⊎_elim}
 use Rattle.std.proofs.Math.Path.{refl}
 use borrow.Author.Tests.{eqb-true, eq-eqb, ne_eqb, lt-leb, lt-ltb, le-ltb, not-false}
 use Rattle.base.specs.Base.{choose}
 use Rattle.base.specs.Rows.{first_of, any_true, any_below, outside}
-use Rattle.base.specs.RowLaws.{or_false, or_left, or_right, or_none, or_either, and_not, not_both, neither, negated, within, not_outside, none_true, none_below, no_below, none_first}
+use Rattle.base.specs.RowLaws.{or_false, or_left, or_right, or_none, or_either, and_not, not_both, neither, none_true, none_below, no_below, none_first}
 use Rattle.calls.specs.declared.Call.TheVariants.{Pick, Checkpoint, Defer}
 use Rattle.calls.specs.declared.Reply.{Reply}
 use Rattle.calls.specs.declared.Reply.TheVariants.{Made, At, Picked, Refused}
-use Rattle.calls.specs.Numbers.{number_max, readers_max, publishers_max, slots_min, slots_max, table_length, deferred_max, place_out, place_picked, place_idle, place_swapped, place_deferring, kind_rest, damaged_number, bad_readers_number, bad_publishers_number, publisher_turn_number}
+use Rattle.calls.specs.Numbers.{number_max, readers_max, publishers_max, deferred_max, place_out, place_picked, place_idle, place_swapped, place_deferring, kind_rest, damaged_number, bad_readers_number, bad_publishers_number, publisher_turn_number}
 use Rattle.layout.specs.declared.Reader.{Reader}
 use Rattle.layout.specs.declared.Publisher.{Publisher}
 use Rattle.layout.specs.declared.Retirement.{Retirement}
-use Rattle.layout.specs.Layout.{words_length, kind_word, readers, publishers, slots, current, version, reader_at, publisher_at, retirement_at, retired_at, with_reader, with_publisher, with_version, with_retirement, with_retired, blank_reader}
+use Rattle.layout.specs.Layout.{words_length, readers, publishers, slots, current, version, reader_at, publisher_at, retirement_at, retired_at, with_reader, with_publisher, with_version, with_retirement, with_retired, blank_reader}
 use Rattle.layout.specs.Laws.{retirement_reader}
 use Rattle.layout.specs.Records.{◌place≔◌, ◌first≔◌, ◌second≔◌, ◌published≔◌, ◌picked≔◌, ◌at_place◌, ◌walk≔◌, ◌mark≔◌, ◌step≔◌, ◌count≔◌}
 use Rattle.statement.specs.Machine.{State, state, outcome, given}
@@ -22,10 +22,10 @@ use Rattle.publication_law.specs.Damage.{head_rows}
 use Rattle.publication_law.specs.DamageLaws.{UndamagedHead, head_of}
 use Rattle.publication_law.specs.Decide.{decide_accepts}
 use Rattle.publication_law.specs.Table.{damaged, step, making}
-use Rattle.publication_law.proofs.Calls.{step_undamaged, making_is, undamaged, undamaged_facts, undamaged_further, damaged_head, damaged_further}
+use Rattle.publication_law.proofs.Calls.{step_undamaged, making_is, publishers_decide, undamaged_facts, undamaged_further, damaged_head, damaged_further}
 use Rattle.qsbr_law.specs.Steps.{last_version, versions, damage_rules, reader_rows, retirement, in_checkpoint, deferring, retirement_rows, pick_tests, pick, checkpoint_tests, load, observe, least_of, read, Stay, stay, staying, read_last, checkpoint, defer_tests, raise_epoch, queue, defer, rules}
 use Rattle.qsbr_law.proofs.Safety.{retirement_fits}
-use Rattle.qsbr_law.specs.Calls.{eight_deferring, retirement_fails, participant_fails, head_fails, participants_fail, ParticipantFits, freed}
+use Rattle.qsbr_law.specs.Calls.{eight_deferring, retirement_fails, participant_fails, head_fails, ParticipantFits, freed}
 
 -- A mark of 64 bits is wrong only if it is 0.
 pub no_mark : (mark : ℕ) → mark ≡ 0 → versions.wrong_mark mark ≡ true
@@ -79,43 +79,6 @@ module _ (w : List ℕ) (n ss p : ℕ) where
   pub by_retirement : damage_rules.reader_damaged n ss (reader_at w p) ≡ false → damage_rules.publisher_damaged n ss (publisher_at w p) ≡ false → participant_fails w n ss p ≡ retirement_fails w n ss p
   by_retirement e f = rw (e, f) refl
 
-module _ (w : List ℕ) (n ss : ℕ) where
-  pub wrong_length : length w ≢ words_length → participants_fail w n ss ≡ true
-  wrong_length ne = rw (ne_eqb _ _ ne) refl
-
-  pub wrong_number : outside 1 publishers_max n ≡ true → participants_fail w n ss ≡ true
-  wrong_number out = or_left _ _ (or_right (not (eqb (length w) words_length)) _ out)
-
-  pub participants_decide : length w ≡ words_length → outside 1 publishers_max n ≡ false → participants_fail w n ss ≡ any_below (participant_fails w n ss) n
-  participants_decide long few = rw (eq-eqb _ _ long, few) refl
-
--- The head, test by test: from the number of publishers that of the readers follows, and no version of 64 bits is above the last.
-module _ (s : State) where
-  pub head_length : length s.words ≢ words_length → head_fails s ≡ true
-  head_length ne = rw (ne_eqb _ _ ne) refl
-
-  pub head_kind : kind_word s.words ≢ kind_rest → head_fails s ≡ true
-  head_kind ne = or_left _ _ (or_right (not (eqb (length s.words) words_length)) _ (rw (ne_eqb _ _ ne) refl))
-
-  pub head_number : outside 1 publishers_max (publishers s.words) ≡ true → head_fails s ≡ true
-  head_number out = or_left _ _ (or_right (not (eqb (length s.words) words_length)) _ (or_right (not (eqb (kind_word s.words) kind_rest)) _ (or_right (outside 1 readers_max (readers s.words)) _ (or_left _ _ out))))
-
-  pub head_unequal : readers s.words ≢ publishers s.words → head_fails s ≡ true
-  head_unequal ne = or_right (any_true (head_rows damage_rules s)) _ (rw (ne_eqb _ _ ne) refl)
-
-  module _ (long : length s.words ≡ words_length) (kind : kind_word s.words ≡ kind_rest) (few : outside 1 publishers_max (publishers s.words) ≡ false) (same : readers s.words ≡ publishers s.words) where
-    readers_few : outside 1 readers_max (readers s.words) ≡ false
-    readers_few = let size = within 1 publishers_max (publishers s.words) few in not_outside 1 readers_max (readers s.words) (omega (arith, size.0, same)) (omega (arith, size.1, same))
-
-    pub head_slots : outside slots_min slots_max (slots s.words) ≡ true → head_fails s ≡ true
-    head_slots out = rw (eq-eqb _ _ long, eq-eqb _ _ kind, readers_few, few, out) refl
-
-    pub head_entries : outside slots_min slots_max (slots s.words) ≡ false → length s.entries ≢ slots s.words * table_length → head_fails s ≡ true
-    head_entries sized ne = rw (eq-eqb _ _ long, eq-eqb _ _ kind, readers_few, few, sized, ne_eqb _ _ ne) refl
-
-    pub head_current : outside slots_min slots_max (slots s.words) ≡ false → length s.entries ≡ slots s.words * table_length → version s.words ≤ number_max → leb (slots s.words) (current s.words) ≡ head_fails s
-    head_current sized whole low = rw (eq-eqb _ _ long, eq-eqb _ _ kind, readers_few, few, sized, eq-eqb _ _ whole, le-ltb last_version (version s.words) low, eq-eqb _ _ same) (sym (or_none _ ∙ or_none _))
-
 -- A store whose head and participants are in order is undamaged.
 module _ (s : State) (head_ok : head_fails s ≡ false) where
   head_parts : (any_true (head_rows damage_rules s) ≡ false) × (not (eqb (readers s.words) (publishers s.words)) ≡ false)
@@ -127,10 +90,10 @@ module _ (s : State) (head_ok : head_fails s ≡ false) where
   same_number : readers s.words ≡ publishers s.words
   same_number = eqb-true _ _ (not-false _ head_parts.1)
 
-  module _ (ok : participants_fail s.words (publishers s.words) (slots s.words) ≡ false) where
+  module _ (ok : any_below (participant_fails s.words (publishers s.words) (slots s.words)) (publishers s.words) ≡ false) where
     own_rows : (p : ℕ) → p < publishers s.words
         → (damage_rules.reader_damaged (readers s.words) (slots s.words) (reader s p) || damage_rules.publisher_damaged (readers s.words) (slots s.words) (publisher s p) ≡ false) × (retirement_fails s.words (publishers s.words) (slots s.words) p ≡ false)
-    own_rows p l = or_false _ _ (none_below (participant_fails s.words (publishers s.words) (slots s.words)) (publishers s.words) p (or_false (not (eqb (length s.words) words_length) || outside 1 publishers_max (publishers s.words)) _ ok).1 l)
+    own_rows p l = or_false _ _ (none_below (participant_fails s.words (publishers s.words) (slots s.words)) (publishers s.words) p ok l)
 
     reader_clear : (p : ℕ) → p < publishers s.words → damage_rules.reader_damaged (readers s.words) (slots s.words) (reader s p) ≡ false
     reader_clear p l = (or_false _ _ (own_rows p l).0).0
@@ -146,10 +109,8 @@ module _ (s : State) (head_ok : head_fails s ≡ false) where
         none_true (retirement_rows s p) (rw same_number h.0, (h.1, (g.1, (f.1, tt))))
 
     pub scan_undamaged : damaged rules s ≡ false
-    scan_undamaged = undamaged rules s head_parts.0
-        (neither _ _ (neither _ _ (negated _ (eq-eqb _ _ head_fits.long)) (not_outside 1 readers_max _ head_fits.readers_low head_fits.readers_high)) (no_below _ _ (λ r l. reader_clear r (rw same_number at l))))
-        (neither _ _ head_parts.1 (no_below _ _ retirement_clear))
-        (neither _ _ (neither _ _ (negated _ (eq-eqb _ _ head_fits.long)) (not_outside 1 publishers_max _ head_fits.publishers_low head_fits.publishers_high)) (no_below _ _ publisher_clear))
+    scan_undamaged = publishers_decide rules s head_parts.0 (no_below _ _ (λ r l. reader_clear r (rw same_number at l))) (neither _ _ head_parts.1 (no_below _ _ retirement_clear))
+        ∙ no_below _ _ publisher_clear
 
 module _ (s : State) (no_damage : damaged rules s ≡ false) where
   further_parts : (not (eqb (readers s.words) (publishers s.words)) ≡ false) × (any_below (λ p. any_true (retirement_rows s p)) (publishers s.words) ≡ false)
@@ -191,15 +152,20 @@ module _ (s : State) where
   pub scan_head : head_fails s ≡ true → damaged rules s ≡ true
   scan_head e = ⊎_elim (damaged_head rules s) (λ unequal. damaged_further rules s (or_left _ _ unequal)) (or_either (any_true (head_rows damage_rules s)) _ e)
 
-  pub scan_participants : participants_fail s.words (publishers s.words) (slots s.words) ≡ true → damaged rules s ≡ true
+  pub scan_participants : any_below (participant_fails s.words (publishers s.words) (slots s.words)) (publishers s.words) ≡ true → damaged rules s ≡ true
   scan_participants e = go (damaged rules s) refl
     where
       go : (d : Bool) → damaged rules s ≡ d → damaged rules s ≡ true
       go true d = d
-      go false d =
-          let head = (undamaged_facts rules s d).head in
-          absurd (not_both (participants_fail s.words (publishers s.words) (slots s.words)) e
-          (neither _ _ (neither _ _ (negated _ (eq-eqb _ _ head.long)) (not_outside 1 publishers_max _ head.publishers_low head.publishers_high)) (no_below _ _ (participant_stands s d))))
+      go false d = absurd (not_both _ e (no_below _ _ (participant_stands s d)))
+
+  -- The whole test.
+  pub scan_decides : head_fails s ≡ false → damaged rules s ≡ any_below (participant_fails s.words (publishers s.words) (slots s.words)) (publishers s.words)
+  scan_decides head_ok = go (any_below (participant_fails s.words (publishers s.words) (slots s.words)) (publishers s.words)) refl
+    where
+      go : (b : Bool) → any_below (participant_fails s.words (publishers s.words) (slots s.words)) (publishers s.words) ≡ b → damaged rules s ≡ b
+      go true e = scan_participants e
+      go false e = scan_undamaged s head_ok e
 
 -- PICK, outside a checkpoint and not at 35.
 pub pick_is : (s : State) → damaged rules s ≡ false → (w' : List ℕ) (r slot : ℕ) (x : Reader) → r < readers s.words → (retirement s r).step ≡ 0 → (publisher s r).place ≢ place_deferring → x ≡ reader s r → slot ≡ current s.words

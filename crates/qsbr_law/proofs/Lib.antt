@@ -10,3 +10,4 @@ pub mod Facts
 pub mod Surely
 -- Laws for its code.
 pub mod Calls
+pub mod Scans

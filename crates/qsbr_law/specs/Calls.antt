@@ -19,13 +19,13 @@ retirement_fails w n ss p = ltb (n + 1) (retirement_at w p).step || ltb deferred
 abbrev pub participant_fails : List ℕ → ℕ → ℕ → ℕ → Bool
 participant_fails w n ss p = damage_rules.reader_damaged n ss (reader_at w p) || damage_rules.publisher_damaged n ss (publisher_at w p) || retirement_fails w n ss p
 
+-- The pass over the participants, with the tests of the words' length and of their number before it.
+abbrev pub participants_fail : List ℕ → ℕ → ℕ → Bool
+participants_fail w n ss = not (eqb (length w) words_length) || outside 1 publishers_max n || any_below (participant_fails w n ss) n
+
 -- As many readers as publishers there must be: this the code tests with the head.
 abbrev pub head_fails : State → Bool
 head_fails s = any_true (head_rows damage_rules s) || not (eqb (readers s.words) (publishers s.words))
-
--- The numbers of participants and slots are handed to the pass. It tests the words' length and the first number itself, and so requires nothing.
-abbrev pub participants_fail : List ℕ → ℕ → ℕ → Bool
-participants_fail w n ss = not (eqb (length w) words_length) || outside 1 publishers_max n || any_below (participant_fails w n ss) n
 
 -- What an undamaged store gives of a participant: it has words, and its retirement fits.
 pub record ParticipantFits (s : State) (p : ℕ) : Type 0 where

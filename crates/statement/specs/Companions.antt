@@ -50,7 +50,7 @@ pub record GraceTraits : Type 0 where
   -- the place that follows a reader's place
   pub next_place : ℕ → ℕ
 
--- A table that a store may start with: 32 entries, each in range, and no two neighbours more than STEP-MAX apart.
+-- A table that a store may start with: 32 entries, each in range, and no two neighbours more than step_max apart.
 pub record GoodTable (table : List ℤ) : Type 0 where
   pub long : length table ≡ table_length
   pub in_range : (k : ℕ) → k < table_length → out_of_range (entry_of table k) ≡ false
@@ -175,7 +175,7 @@ pub record GraceStateCompanions (M : Machine) (traits : GraceTraits) (z : Given)
   -- readers never wait: the next ENTER replies the next place, whatever stands between; LEAVE is accepted in an open section
   pub enters : (r : ℕ) → r < z.readers → u.place r < place_picked → (M.step s (Enter r)).reply ≡ At (traits.next_place (u.place r))
   pub leaves : (r : ℕ) → r < z.readers → place_open ≤ u.place r → (M.step s (Leave r)).reply ≡ Left
-  -- who is told idle is told to hold nothing; with idle-if the two are one
+  -- who is told idle is told to hold nothing; with idle_if the two are one
   pub idle_only_if : (p : ℕ) → u.phase p ≡ idle → (slot : ℕ) → holds t p slot ≡ false
   -- its next call is accepted after its SWAP too: it synchronises unless the version is the last (32),
   -- raises and walks each in its phases, a WALK unless its looks could pass 2^64 - 1 (33), and releases what it held

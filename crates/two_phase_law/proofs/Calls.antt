@@ -1,12 +1,12 @@
 -- What the code of the old store asks of an undamaged store, and what its accepted calls give. Assumes nothing.
 use Rattle.std.specs.Prelude.{ℕ, zero, suc, ◌+◌, ◌-◌, ◌%◌, ◌<◌, ◌≤◌, ◌≡◌, ◌≢◌, ◌⊎◌, Bool, true, false, ◌||◌, List, [], ◌∷◌, get_or, set, eqb}
-use Rattle.std.proofs.Common.{arith, add-one, sym, ap, ◌∙◌, inl, inr}
+use Rattle.std.proofs.Common.{arith, add-one, sym, ap, ◌∙◌, inl, inr, ⊎_elim}
 use Rattle.std.proofs.Math.Nat.{add-zero}
 use Rattle.std.proofs.Math.Path.{refl}
 use borrow.Author.Tests.{eqb-true, eq-eqb, ne_eqb, lt-leb, le-leb, lt-ltb, not-false}
 use Rattle.base.specs.Base.{choose}
 use Rattle.base.specs.Rows.{any_true, count_below}
-use Rattle.base.specs.RowLaws.{clash, choose_split, or_false, count_zero}
+use Rattle.base.specs.RowLaws.{clash, choose_split, or_false, or_either, count_zero}
 use Rattle.calls.specs.declared.Call.TheVariants.{Enter, Leave}
 use Rattle.calls.specs.declared.Reply.TheVariants.{At, Left}
 use Rattle.calls.specs.declared.WalkReply.TheVariants.{Waiting, Spent, Quiet, Returned}
@@ -19,10 +19,10 @@ use Rattle.layout.specs.Records.{◌place≔◌, ◌first≔◌, ◌picked≔◌
 use Rattle.statement.specs.Machine.{State, state, outcome}
 use Rattle.publication_law.specs.Steps.{reader}
 use Rattle.publication_law.specs.Looks.{with_look}
-use Rattle.publication_law.specs.Damage.{head_rows, readers_are_damaged, publishers_are_damaged}
+use Rattle.publication_law.specs.Damage.{head_rows, first_readers_damaged, first_publishers_damaged}
 use Rattle.publication_law.specs.DamageLaws.{Undamaged}
 use Rattle.publication_law.specs.Table.{damaged, step}
-use Rattle.publication_law.proofs.Calls.{undamaged, undamaged_facts, undamaged_further, damaged_readers, damaged_further, enter_accepted, leave_accepted}
+use Rattle.publication_law.proofs.Calls.{undamaged_facts, undamaged_further, damaged_further, readers_damage, publishers_decide, enter_accepted, leave_accepted}
 use Rattle.two_phase_law.specs.Steps.{versions, damage_rules, reader_rows, added_to, miscounted, onward, entered, leaving, looked_at, look_at, fixed, rules}
 use Rattle.two_phase_law.specs.KindInvariant.{Counted}
 use Rattle.two_phase_law.proofs.Safety.{picked_rows}
@@ -70,16 +70,12 @@ pub no_damage : (s : State) → damaged rules s ≡ false → Undamaged damage_r
 no_damage = undamaged_facts rules
 
 -- The code tests the readers and the indicators in one pass.
-module _ (s : State) where
-  pub scan_undamaged : any_true (head_rows damage_rules s) ≡ false → readers_are_damaged damage_rules s || rules.further s ≡ false → publishers_are_damaged damage_rules s ≡ false → damaged rules s ≡ false
-  scan_undamaged head_ok readers-ok publishers-ok = let parts = or_false (readers_are_damaged damage_rules s) (rules.further s) readers-ok in undamaged rules s head_ok parts.0 parts.1 publishers-ok
+module _ (s : State) (head_ok : any_true (head_rows damage_rules s) ≡ false) where
+  pub pass_damages : first_readers_damaged damage_rules s || rules.further s ≡ true → damaged rules s ≡ true
+  pass_damages e = ⊎_elim (readers_damage rules s head_ok) (damaged_further rules s) (or_either (first_readers_damaged damage_rules s) (rules.further s) e)
 
-  pub scan_damaged : readers_are_damaged damage_rules s || rules.further s ≡ true → damaged rules s ≡ true
-  scan_damaged e = go (readers_are_damaged damage_rules s) refl e
-    where
-      go : (test : Bool) → readers_are_damaged damage_rules s ≡ test → test || rules.further s ≡ true → damaged rules s ≡ true
-      go true d e = damaged_readers rules s d
-      go false d e = damaged_further rules s e
+  pub pass_clears : first_readers_damaged damage_rules s || rules.further s ≡ false → damaged rules s ≡ first_publishers_damaged damage_rules s
+  pass_clears e = let parts = or_false (first_readers_damaged damage_rules s) (rules.further s) e in publishers_decide rules s head_ok parts.0 parts.1
 
 -- The indicators are right, since the damage test counts the readers.
 pub counted_of : (s : State) → damaged rules s ≡ false → Counted (readers s.words) (indicator s.words) (reader_at s.words)

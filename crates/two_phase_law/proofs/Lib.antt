@@ -3,3 +3,4 @@ pub mod Promises
 pub mod NeverShared
 pub mod Calls
 pub mod Readers
+pub mod Scans

@@ -3,14 +3,11 @@ use Rattle.std.proofs.Common.{◌≡◌, sym, ◌∙◌, arith, rules}
 use Rattle.base.specs.RowLaws.{some_below, none_first, none_more}
 use Rattle.publication_slots.proofs.any_retired.Goals as goal
 
-pub publishers_of-n-requires : goal.publishers_of-n-requires
-publishers_of-n-requires c = c.requires.0.long
-
 pub loop-q-init : goal.loop-q-init
 loop-q-init c = (search rules, λ es. none_first _)
 
 pub has_retired-requires : goal.has_retired-requires
-has_retired-requires c = (c.requires.0.long, omega (arith, c.requires.0.publishers_high, rw c.publishers_of-n.ensures at c.loop-q-test.true), c.requires.1 _ (rw c.publishers_of-n.ensures at c.loop-q-test.true))
+has_retired-requires c = (omega (arith, c.requires.0.publishers_high, rw c.publishers_of-n.ensures at c.loop-q-test.true), c.requires.1 _ (rw c.publishers_of-n.ensures at c.loop-q-test.true))
 
 -- true: publisher q has
 pub returns-then-has_retired : goal.returns-then-has_retired

@@ -4,13 +4,13 @@ use Rattle.base.specs.RowLaws.{some_below, none_first, none_more}
 use Rattle.publication_slots.proofs.has_retired.Goals as goal
 
 pub retirement_at-t-requires : goal.retirement_at-t-requires
-retirement_at-t-requires c = (c.requires.0, c.requires.1)
+retirement_at-t-requires c = c.requires.0
 
 pub loop-i-init : goal.loop-i-init
 loop-i-init c = (search rules, none_first _)
 
 pub retired_at-d-requires : goal.retired_at-d-requires
-retired_at-d-requires c = (c.requires.0, c.requires.1, omega (arith, c.requires.2, rw c.retirement_at-t.ensures at c.loop-i-test.true))
+retired_at-d-requires c = (c.requires.0, omega (arith, c.requires.1, rw c.retirement_at-t.ensures at c.loop-i-test.true))
 
 -- true: slot i of its retired ones is it
 pub returns-then-d-slot : goal.returns-then-d-slot

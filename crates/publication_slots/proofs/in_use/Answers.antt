@@ -26,15 +26,9 @@ module _ (w : List ℕ) (es : List ℤ) (slot : ℕ) (other : eqb (current w) sl
   free-is : (retiring : Bool) → retiring ≡ false → any_below (named w slot) (publishers w) ≡ false → false ≡ in_use retiring (state w es) slot
   free-is retiring so none = rw (other, so) (sym none)
 
-pub current_of-requires : goal.current_of-requires
-current_of-requires c = c.requires.0.long
-
 -- true: the slot is current
 pub returns-then-current_of-slot : goal.returns-then-current_of-slot
 returns-then-current_of-slot c = λ es. rw (eq-eqb _ _ (sym c.current_of.ensures ∙ c.if-current_of-slot.true)) refl
-
-pub publishers_of-n-requires : goal.publishers_of-n-requires
-publishers_of-n-requires c = c.requires.0.long
 
 pub loop-q-init : goal.loop-q-init
 loop-q-init c = (search rules, none_first _)

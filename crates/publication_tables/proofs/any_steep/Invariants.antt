@@ -1,12 +1,17 @@
--- `any` says whether two neighbours before entry k are steep. All entries are in range, so that each difference may be taken. Assumes nothing.
-use Prim.Native.Nat.{◌-◌, ◌+◌, ◌≤◌}
+-- `any` says whether two neighbours before entry k are steep. Assumes nothing.
+use Prim.Native.Nat.{ℕ, ◌+◌, ◌-◌, ◌≤◌}
+use lib.IntN.{ℤ}
+use lib.ListN.{length}
+use mathlib.Core.List.{List}
 use mathlib.Core.Path.{◌≡◌}
+use mathlib.Core.Bool.{Bool}
 use Rattle.base.specs.Rows.{any_below}
 use Rattle.calls.specs.FirstTable.{steep, entry_of}
 use Rattle.publication_tables.proofs.any_steep.Given as goal
 
-abbrev pub invariant-loop-k : goal.invariant-loop-k
-invariant-loop-k l = (l.k ≤ l.n - 1) × (l.any ≡ any_below (λ i. steep (entry_of l.table i) (entry_of l.table (i + 1))) l.k)
+-- Whether entries k and k + 1 are steep.
+abbrev pub steep_at : List ℤ → ℕ → Bool
+steep_at table k = steep (entry_of table k) (entry_of table (k + 1))
 
-abbrev pub decreases-loop-k : goal.decreases-loop-k
-decreases-loop-k l = l.n - l.k
+abbrev pub invariant-loop-k : goal.invariant-loop-k
+invariant-loop-k l = (1 ≤ l.k) × (l.k - 1 ≤ length l.table - 1) × (l.any ≡ any_below (steep_at l.table) (l.k - 1))

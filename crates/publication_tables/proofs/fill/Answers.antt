@@ -1,7 +1,6 @@
 -- The slots before s have the table, by its copy. Assumes nothing.
 use Rattle.std.proofs.Common.{rules}
 use native.Mathlib.Omega.{arith}
-use lib.ListN.{length}
 use lib.Seq.{take_all}
 use Prim.Native.Nat.{◌*◌}
 use mathlib.Core.Path.{◌≡◌, refl, sym, ap, ◌∙◌}
@@ -9,22 +8,13 @@ use Rattle.calls.specs.FirstTable.{tables}
 use Rattle.publication_tables.specs.FillLaws.{fills_next, tables_none}
 use Rattle.publication_tables.proofs.fill.Goals as goal
 
-pub copied-copy-requires : goal.copied-copy-requires
-copied-copy-requires c = c.requires.1
-
 pub loop-s-init : goal.loop-s-init
 loop-s-init c = (search rules, refl, tables_none c.args.entries.now c.args.table.now)
 
-pub slice_bounds-put_table-end : goal.slice_bounds-put_table-end
-slice_bounds-put_table-end c = sym (ap length c.copied-copy.ensures ∙ c.requires.1)
-
-pub put_table-requires : goal.put_table-requires
-put_table-requires c = (omega (arith, c.loop-s-test.true, c.requires.0, c.loop-s.invariant.1), ap length c.copied-copy.ensures ∙ c.requires.1)
-
 pub loop-s-preserved : goal.loop-s-preserved
 loop-s-preserved c = let k = c.loop-s in
-    (omega (arith, c.loop-s-test.true), c.put_table.ensures.0 ∙ k.invariant.1, fills_next _ _ _ k.s (rw c.copied-copy.ensures at c.put_table.ensures.1) k.invariant.2)
+    (omega (arith, c.loop-s-test.true), c.put_table.ensures.0 ∙ k.invariant.1, fills_next _ _ _ k.s (c.put_table.ensures.1) k.invariant.2)
 
 pub returns : goal.returns
 returns c = let k = c.loop-s in let e : k.s ≡ c.args.slots = omega (arith, k.invariant.0, c.loop-s-test.false) in
-    sym (take_all (k.s * 32) k.entries (omega (arith, k.invariant.1, c.requires.0))) ∙ k.invariant.2 ∙ ap (λ n. tables n c.args.table.now) e
+    sym (take_all (k.s * 32) k.entries (omega (arith, k.invariant.1, c.requires))) ∙ k.invariant.2 ∙ ap (λ n. tables n c.args.table.now) e
