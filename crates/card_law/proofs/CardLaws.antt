@@ -1,15 +1,12 @@
 -- A card is read as entries exactly if it is those entries' own text, the last newline apart; so 32 entries take few bytes, and the first 4096 bytes of a file tell
 -- whether it has them. By the lines: each is a pitch's own text, or there are no entries. Assumes nothing.
-use Rattle.std.specs.Prelude.{ℕ, suc, ◌+◌, ◌*◌, ◌<◌, ◌≤◌, ◌≡◌, refl, ◌↔◌, ◌⊎◌, Bool, true, false, List, [], ◌∷◌, ◌++◌, eqb, ltb, ℤ, pos, negsuc, length, take}
+use Rattle.std.specs.Prelude.{ℕ, suc, ◌+◌, ◌*◌, ◌<◌, ◌≤◌, ◌≡◌, refl, ◌↔◌, ◌⊎◌, Bool, true, false, List, [], ◌∷◌, ◌++◌, eqb, ltb, ℤ, pos, negsuc, length, take, Option, Some, None, unwrap_or}
 use Rattle.std.proofs.Common.{arith, sym, ap, subst, ◌∙◌, inl, inr, append_assoc, append-nil, length-append, length-take, take_all, ne_eqb, ltb-true, ltb-false}
-use Rattle.std.proofs.Math.Option.{Option, none, some}
-use Rattle.base.specs.Options.{none_some, some_same}
+use Rattle.std.proofs.lemmas.Option.{none-some, same_Some}
 use Rattle.calls.specs.Numbers.{table_length}
 use Rattle.lines_law.specs.Lines.{newline_byte, lines_of, after_lines}
 use Rattle.lines_law.specs.Joining.{joined_lines, OneLine, OneLineEach, IsJoined}
 use Rattle.lines_law.proofs.Joining.{is_joined, lines_joined, lines_ended}
-use Rattle.sheet_law.specs.declared.Angle.{Angle}
-use Rattle.sheet_law.specs.declared.Angle.TheVariants.{SignedDecimal, NoAngle}
 use Rattle.sheet_law.specs.Reading.{angle}
 use Rattle.sheet_law.specs.Text.{decimal}
 use Rattle.sheet_law.specs.Decimals.{AllDigits}
@@ -17,7 +14,7 @@ use Rattle.sheet_law.proofs.Decimals.{all_digits}
 use Rattle.sheet_law.specs.Canonical.{angle_text, pitch_text_max}
 use Rattle.sheet_law.proofs.Canonical.{angle_back, angle_length}
 use Rattle.sheet_law.proofs.Only.{angle_text_lem}
-use Rattle.card_law.specs.Card.{with_line, card_reader, card_lines, or_no_entries, card_of, card_text, card_read, table_on}
+use Rattle.card_law.specs.Card.{with_line, card_reader, card_lines, card_of, card_text, card_read, table_on}
 use Rattle.card_law.specs.CardLaws.{FitsEach, angle_texts, ReadBehind}
 
 texts_joined : (vs : List ℤ) → joined_lines (angle_texts vs) ≡ card_text vs
@@ -40,28 +37,28 @@ texts_one_line [] = tt
 texts_one_line (v ∷ vs) = (angle_one_line v, texts_one_line vs)
 
 -- After a line that is no pitch there are no entries, whatever follows.
-pub none_stays : (ls : List (List ℕ)) → after_lines card_reader none ls ≡ none
+pub none_stays : (ls : List (List ℕ)) → after_lines card_reader None ls ≡ None
 unfolding after_lines
 none_stays [] = refl
 none_stays (l ∷ ls) = none_stays ls
 
 -- Entries' texts are read back behind those that were read before.
-texts_back : (us vs : List ℤ) → FitsEach vs → after_lines card_reader (some us) (angle_texts vs) ≡ some (us ++ vs)
+texts_back : (us vs : List ℤ) → FitsEach vs → after_lines card_reader (Some us) (angle_texts vs) ≡ Some (us ++ vs)
 unfolding after_lines angle_texts
-texts_back us [] f = ap some (sym (append-nil us))
+texts_back us [] f = ap Some (sym (append-nil us))
 texts_back us (v ∷ vs) f =
-    ap (λ (a : Angle). after_lines card_reader (with_line (some us) a) (angle_texts vs)) (angle_back v f.0)
-    ∙ (texts_back (us ++ (v ∷ [])) vs f.1 ∙ ap some (append_assoc us (v ∷ []) vs))
+    ap (λ (a : Option ℤ). after_lines card_reader (with_line (Some us) a) (angle_texts vs)) (angle_back v f.0)
+    ∙ (texts_back (us ++ (v ∷ [])) vs f.1 ∙ ap Some (append_assoc us (v ∷ []) vs))
 
-texts_only : (us : List ℤ) (ls : List (List ℕ)) (vs : List ℤ) → after_lines card_reader (some us) ls ≡ some vs → ReadBehind us ls vs
+texts_only : (us : List ℤ) (ls : List (List ℕ)) (vs : List ℤ) → after_lines card_reader (Some us) ls ≡ Some vs → ReadBehind us ls vs
 unfolding after_lines angle_texts
-texts_only us [] vs e = record { new = []; behind = sym (some_same us vs e) ∙ sym (append-nil us); texts = refl; fits = tt }
+texts_only us [] vs e = record { new = []; behind = sym (same_Some us vs e) ∙ sym (append-nil us); texts = refl; fits = tt }
 texts_only us (l ∷ ls) vs e = go (angle l) refl e (λ v z. texts_only (us ++ (v ∷ [])) ls vs z)
   where
-    go : (a : Angle) → angle l ≡ a → after_lines card_reader (with_line (some us) a) ls ≡ some vs
-        → ((v : ℤ) → after_lines card_reader (some (us ++ (v ∷ []))) ls ≡ some vs → ReadBehind (us ++ (v ∷ [])) ls vs) → ReadBehind us (l ∷ ls) vs
-    go NoAngle d z rest = absurd (none_some vs (sym (none_stays ls) ∙ z))
-    go (SignedDecimal v) d z rest =
+    go : (a : Option ℤ) → angle l ≡ a → after_lines card_reader (with_line (Some us) a) ls ≡ Some vs
+        → ((v : ℤ) → after_lines card_reader (Some (us ++ (v ∷ []))) ls ≡ Some vs → ReadBehind (us ++ (v ∷ [])) ls vs) → ReadBehind us (l ∷ ls) vs
+    go None d z rest = absurd (none-some vs (sym (none_stays ls) ∙ z))
+    go (Some v) d z rest =
         let q = angle_text_lem l v d in
         let r = rest v z in
         record {
@@ -72,43 +69,43 @@ texts_only us (l ∷ ls) vs e = go (angle l) refl e (λ v z. texts_only (us ++ (
         }
 
 -- A blank line behind the others makes it no card.
-blank_ends : (x : Option (List ℤ)) (ls : List (List ℕ)) → after_lines card_reader x (ls ++ ([] ∷ [])) ≡ none
+blank_ends : (x : Option (List ℤ)) (ls : List (List ℕ)) → after_lines card_reader x (ls ++ ([] ∷ [])) ≡ None
 unfolding after_lines angle
-blank_ends none [] = refl
-blank_ends (some vs) [] = refl
+blank_ends None [] = refl
+blank_ends (Some vs) [] = refl
 blank_ends x (l ∷ ls) = blank_ends (with_line x (angle l)) ls
 
 -- Entries are read from their text, and from it without its last newline.
-read_joined : (vs : List ℤ) → FitsEach vs → card_lines (card_text vs) ≡ some vs
-read_joined vs f = ap (λ (t : List ℕ). card_lines t) (sym (texts_joined vs)) ∙ ap (λ (ls : List (List ℕ)). after_lines card_reader (some []) ls) (lines_joined (angle_texts vs) (texts_one_line vs)) ∙ texts_back [] vs f
+read_joined : (vs : List ℤ) → FitsEach vs → card_lines (card_text vs) ≡ Some vs
+read_joined vs f = ap (λ (t : List ℕ). card_lines t) (sym (texts_joined vs)) ∙ ap (λ (ls : List (List ℕ)). after_lines card_reader (Some []) ls) (lines_joined (angle_texts vs) (texts_one_line vs)) ∙ texts_back [] vs f
 
-read_unended : (t : List ℕ) (vs : List ℤ) → FitsEach vs → t ++ (newline_byte ∷ []) ≡ card_text vs → card_lines t ≡ some vs
+read_unended : (t : List ℕ) (vs : List ℤ) → FitsEach vs → t ++ (newline_byte ∷ []) ≡ card_text vs → card_lines t ≡ Some vs
 read_unended t vs f e = go (lines_ended t)
   where
-    whole : card_lines (t ++ (newline_byte ∷ [])) ≡ some vs
+    whole : card_lines (t ++ (newline_byte ∷ [])) ≡ Some vs
     whole = ap (λ (u : List ℕ). card_lines u) e ∙ read_joined vs f
 
-    go : (lines_of (t ++ (newline_byte ∷ [])) ≡ lines_of t) ⊎ (lines_of (t ++ (newline_byte ∷ [])) ≡ lines_of t ++ ([] ∷ [])) → card_lines t ≡ some vs
-    go (inl j) = ap (λ (ls : List (List ℕ)). after_lines card_reader (some []) ls) (sym j) ∙ whole
-    go (inr j) = absurd (none_some vs (sym (blank_ends (some []) (lines_of t)) ∙ (ap (λ (ls : List (List ℕ)). after_lines card_reader (some []) ls) (sym j) ∙ whole)))
+    go : (lines_of (t ++ (newline_byte ∷ [])) ≡ lines_of t) ⊎ (lines_of (t ++ (newline_byte ∷ [])) ≡ lines_of t ++ ([] ∷ [])) → card_lines t ≡ Some vs
+    go (inl j) = ap (λ (ls : List (List ℕ)). after_lines card_reader (Some []) ls) (sym j) ∙ whole
+    go (inr j) = absurd (none-some vs (sym (blank_ends (Some []) (lines_of t)) ∙ (ap (λ (ls : List (List ℕ)). after_lines card_reader (Some []) ls) (sym j) ∙ whole)))
 
 -- A card is read as these entries exactly if they have their width, and it is their text or lacks but its last newline.
-pub read_exactly : (t : List ℕ) (vs : List ℤ) → (card_lines t ≡ some vs) ↔ (FitsEach vs × IsJoined t (card_text vs))
+pub read_exactly : (t : List ℕ) (vs : List ℤ) → (card_lines t ≡ Some vs) ↔ (FitsEach vs × IsJoined t (card_text vs))
 read_exactly t vs = (only, λ (f, j). back f j)
   where
-    only : card_lines t ≡ some vs → FitsEach vs × IsJoined t (card_text vs)
+    only : card_lines t ≡ Some vs → FitsEach vs × IsJoined t (card_text vs)
     only e =
         let r = texts_only [] (lines_of t) vs e in
         let text : joined_lines (lines_of t) ≡ card_text vs = ap joined_lines r.texts ∙ (texts_joined r.new ∙ ap card_text (sym r.behind)) in
         (subst FitsEach (sym r.behind) r.fits, subst (λ (j : List ℕ). IsJoined t j) text (is_joined t))
 
-    back : FitsEach vs → IsJoined t (card_text vs) → card_lines t ≡ some vs
+    back : FitsEach vs → IsJoined t (card_text vs) → card_lines t ≡ Some vs
     back f (inl e) = ap (λ (u : List ℕ). card_lines u) e ∙ read_joined vs f
     back f (inr e) = read_unended t vs f e
 
 pub reads_back : (vs : List ℤ) → FitsEach vs → card_of (card_text vs) ≡ vs
 unfolding card_of
-reads_back vs f = ap or_no_entries (read_joined vs f)
+reads_back vs f = ap (λ (x : Option (List ℤ)). unwrap_or x []) (read_joined vs f)
 
 -- An entry takes at most the longest text of a pitch, and a newline.
 abbrev entry_bytes : ℕ
@@ -123,7 +120,7 @@ joined_short : (t j : List ℕ) → IsJoined t j → length t ≤ length j
 joined_short t j (inl e) = omega (arith, ap length e)
 joined_short t j (inr e) = omega (arith, ap length e, length-append t (newline_byte ∷ []))
 
-pub entries_short : (t : List ℕ) (vs : List ℤ) → card_lines t ≡ some vs → length t ≤ entry_bytes * length vs
+pub entries_short : (t : List ℕ) (vs : List ℤ) → card_lines t ≡ Some vs → length t ≤ entry_bytes * length vs
 entries_short t vs e = let q = (read_exactly t vs).0 e in omega (arith, joined_short t (card_text vs) q.1, text_short vs q.0)
 
 -- A card of more than 384 bytes has not 32 entries.
@@ -131,9 +128,9 @@ pub long_card : (t : List ℕ) → entry_bytes * table_length < length t → eqb
 unfolding card_of
 long_card t long = go (card_lines t) refl
   where
-    go : (x : Option (List ℤ)) → card_lines t ≡ x → eqb (length (or_no_entries x)) table_length ≡ false
-    go none e = refl
-    go (some vs) e = ne_eqb (length vs) table_length (λ z. omega (arith, entries_short t vs e, z))
+    go : (x : Option (List ℤ)) → card_lines t ≡ x → eqb (length (unwrap_or x [])) table_length ≡ false
+    go None e = refl
+    go (Some vs) e = ne_eqb (length vs) table_length (λ z. omega (arith, entries_short t vs e, z))
 
 -- The first 4096 bytes of a file are 32 entries, and which, exactly if the whole file is.
 pub first_bytes : (t : List ℕ) → table_on (take card_read t) ≡ table_on t

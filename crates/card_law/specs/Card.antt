@@ -1,41 +1,34 @@
 -- A card's bytes to its entries: one decimal a line, in the sheet's shape of a pitch. A card that has a misshapen or too wide line counts as no entries.
-use Rattle.std.specs.Prelude.{ℕ, ◌+◌, List, [], ◌∷◌, ◌++◌, ℤ}
-use Rattle.std.proofs.Math.Option.{Option, none, some}
+use Rattle.std.specs.Prelude.{ℕ, ◌+◌, List, [], ◌∷◌, ◌++◌, ℤ, Option, Some, None, unwrap_or}
 use Rattle.calls.specs.Numbers.{table_length}
 use Rattle.lines_law.specs.Lines.{newline_byte, lines_of, LineReader, after_lines}
-use Rattle.sheet_law.specs.declared.Angle.{Angle}
-use Rattle.sheet_law.specs.declared.Angle.TheVariants.{SignedDecimal, NoAngle}
 use Rattle.sheet_law.specs.Reading.{line_max, angle}
 use Rattle.sheet_law.specs.Canonical.{angle_text}
 use Rattle.sheet_law.specs.Sheet.{sheet}
 use Rattle.sheet_law.specs.ByTable.{as_first_table}
 
 -- The entries of the lines so far, none after a line that is no pitch.
-abbrev pub with_line : Option (List ℤ) → Angle → Option (List ℤ)
-with_line none a = none
-with_line (some vs) NoAngle = none
-with_line (some vs) (SignedDecimal v) = some (vs ++ (v ∷ []))
+abbrev pub with_line : Option (List ℤ) → Option ℤ → Option (List ℤ)
+with_line None a = None
+with_line (Some vs) None = None
+with_line (Some vs) (Some v) = Some (vs ++ (v ∷ []))
 
 abbrev pub card_reader : LineReader
 card_reader = record { Kept = Option (List ℤ); after = λ x l. with_line x (angle l); says = λ x l. []; longest = line_max }
 
 abbrev pub card_lines : List ℕ → Option (List ℤ)
-card_lines t = after_lines card_reader (some []) (lines_of t)
-
-abbrev pub or_no_entries : Option (List ℤ) → List ℤ
-or_no_entries none = []
-or_no_entries (some vs) = vs
+card_lines t = after_lines card_reader (Some []) (lines_of t)
 
 unfoldable pub card_of : List ℕ → List ℤ
-card_of t = or_no_entries (card_lines t)
+card_of t = unwrap_or (card_lines t) []
 
--- The number of the first line that is no pitch, after n lines; 0 if there is none.
-abbrev pub or_line : Angle → ℕ → ℕ → ℕ
-or_line NoAngle n rest = n
-or_line (SignedDecimal v) n rest = rest
+-- The number of the first line that is no pitch, after n lines; `None` if there is none.
+abbrev pub or_line : Option ℤ → ℕ → Option ℕ → Option ℕ
+or_line None n rest = Some n
+or_line (Some v) n rest = rest
 
-unfoldable pub bad_line : ℕ → List (List ℕ) → ℕ
-bad_line n [] = 0
+unfoldable pub bad_line : ℕ → List (List ℕ) → Option ℕ
+bad_line n [] = None
 bad_line n (l ∷ ls) = or_line (angle l) (n + 1) (bad_line (n + 1) ls)
 
 -- The card that has these entries: a line for each.

@@ -26,8 +26,9 @@ use Rattle.qsbr_examples.specs.Examples as rest-store
 use Rattle.qsbr_examples.specs.Precedence as rest-order
 use Rattle.qsbr_examples.specs.DamageCases as rest-cases
 use Rattle.qsbr_examples.specs.Carried as carried
-use Rattle.kinds_law.specs.Kinds.{Kind, kind_number, store}
-use Rattle.kinds_law.specs.Kinds.Kind.{new, old, rest}
+use Rattle.kinds_law.specs.declared.Kind.{Kind}
+use Rattle.kinds_law.specs.Kinds.{kind_number, store}
+use Rattle.kinds_law.specs.declared.Kind.TheVariants.{New as new, Old as old, Rest as rest}
 use Rattle.kinds_law.proofs.Calls.{step_named}
 use Rattle.sheet_law.specs.Example.{P1_sheet, P1_printed}
 use Rattle.card_law.specs.Card.{sheet_on}

@@ -2,7 +2,7 @@
 -- as kind word, since it is not damaged, so that the step told by the kind word is that kind's own. Assumes nothing.
 use Rattle.std.specs.Prelude.{ℕ, ◌≡◌, refl, Bool, true, false, pos, get_or, eqb}
 use Rattle.std.proofs.Common.{arith, sym, ap, ◌∙◌, subst, eqb-true}
-use Rattle.std.proofs.Math.Option.{Option, none, some}
+use Rattle.std.specs.Prelude.{Option, Some as some, None as none}
 use Rattle.std.proofs.lemmas.Bool.{eqb-false}
 use Rattle.base.specs.RowLaws.{clash}
 use Rattle.calls.specs.declared.Call.{Call}
@@ -25,8 +25,9 @@ use Rattle.two_phase_law.specs.Traits as old-traits
 use Rattle.two_phase_law.proofs.Promises as old-law
 use Rattle.qsbr_law.specs.Traits as rest-traits
 use Rattle.qsbr_law.proofs.Promises as rest-law
-use Rattle.kinds_law.specs.Kinds.{Kind, table_of, kind_number, step_of, making_of, store}
-use Rattle.kinds_law.specs.Kinds.Kind.{new, old, rest}
+use Rattle.kinds_law.specs.declared.Kind.{Kind}
+use Rattle.kinds_law.specs.Kinds.{table_of, kind_number, step_of, making_of, store}
+use Rattle.kinds_law.specs.declared.Kind.TheVariants.{New as new, Old as old, Rest as rest}
 use Rattle.kinds_law.proofs.Calls.{number_is, step_named, making_named, making_unknown}
 
 -- A kind by itself.

@@ -43,8 +43,9 @@ use Rattle.qsbr_law.proofs.Promises as rest_promises
 use Rattle.qsbr_law.proofs.Surely as rest-surely
 use Rattle.qsbr_law.proofs.Facts as rest-facts
 use Rattle.layout.specs.declared.Publisher.{Publisher}
-use Rattle.kinds_law.specs.Kinds.{Kind, table_of, kind_number, kind_of_number, any_step, any_making, store}
-use Rattle.kinds_law.specs.Kinds.Kind.{new, old, rest}
+use Rattle.kinds_law.specs.declared.Kind.{Kind}
+use Rattle.kinds_law.specs.Kinds.{table_of, kind_number, kind_of_number, any_step, any_making, store}
+use Rattle.kinds_law.specs.declared.Kind.TheVariants.{New as new, Old as old, Rest as rest}
 use Rattle.kinds_law.proofs.Calls.{number_is, step_named, making_named, step_unknown, making_unknown, any_making_leaves}
 use Rattle.guarantees.specs.ByKind.{store_of, traits, kind_promises, kind_demand3, GraceKind, grace_traits, grace_promises, alike, by_number, publishes_of, chosen_leaves, chosen_frame, chosen_representable, chosen_representable_making}
 

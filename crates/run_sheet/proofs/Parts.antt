@@ -1,9 +1,11 @@
--- What is fed of a read: the part from a place on. Some of it is taken, no more than there is, and what was fed before and then is what was fed in all, which is what is kept. Assumes nothing.
-use Rattle.std.specs.Prelude.{◌≡◌, ℕ, ◌+◌, ◌-◌, ◌<◌, ◌≤◌, false, List, ◌++◌, length, take, drop, ℤ, refl}
-use Rattle.std.proofs.Common.{arith, sym, ap, ◌∙◌, length-drop, take_all}
+-- What is fed of a read: part by part, each from where the one before ended. Some of it is taken, no more than there is, and what was fed before and then is what was fed in all. Assumes nothing.
+use Rattle.std.specs.Prelude.{◌≡◌, ℕ, ◌+◌, ◌-◌, ◌<◌, ◌≤◌, true, false, List, [], ◌++◌, length, take, drop, ℤ, ◌==◌, refl}
+use Rattle.std.proofs.Common.{arith, sym, ap, ◌∙◌, length-drop, drop-drop}
+use Rattle.std.proofs.lemmas.Bool.{eqb-false}
 use Rattle.std.proofs.Math.Seq.{take-add}
 use Rattle.base.specs.RowLaws.{clash}
-use Rattle.lines_law.specs.Lines.{fed}
+use Rattle.lines_law.specs.Lines.{fed, lines_from, after_lines}
+use Rattle.card_law.specs.Card.{card_of}
 use Rattle.lines_law.proofs.LineLaws.{fed_append}
 use Rattle.sheet_law.specs.Printing.{printed_max}
 use Rattle.sheet_law.specs.Sheet.{SheetState, sheet_reader}
@@ -11,29 +13,43 @@ use Rattle.sheet_law.proofs.Widths.{tail}
 use Rattle.sheet.specs.Feeds.{Feeds, used_fits, moves}
 use Rattle.run_sheet.specs.ReadFed.{ReadFed}
 
-tail_length : (n : ℕ) (l : List ℕ) → length (take (length l - n) (drop n l)) ≡ length l - n
-tail_length n l = ap length (take_all (length l - n) (drop n l) (rw length-drop (omega arith))) ∙ length-drop n l
+-- With a first table and from the state d, the first bytes of a read l were fed; `rest` are those that are left, and e is the state.
+pub record FedUpTo (table : List ℤ) (d : SheetState) (l rest : List ℕ) (e : SheetState) : Type 0 where
+  pub bytes : ℕ
+  pub within : bytes ≤ length l
+  pub left : rest ≡ drop bytes l
+  pub after : e ≡ fed (sheet_reader table) d (take bytes l)
 
-module _ {table : List ℤ} {d : SheetState} (l : List ℕ) (from : ℕ) {used : ℕ} {e : SheetState} {before out : List ℕ} {made : ℕ} (f : Feeds table d (take (length l - from) (drop from l)) used e before out made) (h : from < length l) where
-  pub taken_within : from + used ≤ length l
-  taken_within = omega (arith, used_fits f, tail_length from l)
-
-  pub taken_some : printed_max ≤ length before → 0 < used
-  taken_some fits = moves f fits (omega (arith, tail_length from l))
-
--- Fed so far, and then some of what is left: fed so much further.
-pub fed_further : (table : List ℤ) (d e g : SheetState) (l : List ℕ) (from used : ℕ) → e ≡ fed (sheet_reader table) d (take from l) → g ≡ fed (sheet_reader table) e (take used (take (length l - from) (drop from l))) → g ≡ fed (sheet_reader table) d (take (from + used) l)
-fed_further table d e g l from used p q =
-    q
-    ∙ ap (λ (x : SheetState). fed (sheet_reader table) x (take used (take (length l - from) (drop from l)))) p
-    ∙ sym (fed_append (sheet_reader table) d (take from l) (take used (take (length l - from) (drop from l))))
-    ∙ ap (λ (k : List ℕ). fed (sheet_reader table) d (take from l ++ take used k)) (tail from l)
-    ∙ ap (λ (k : List ℕ). fed (sheet_reader table) d k) (sym (take-add from used l))
-
-pub fed_none : (table : List ℤ) (d : SheetState) (l : List ℕ) → d ≡ fed (sheet_reader table) d (take 0 l)
+pub none_fed : (table : List ℤ) (d : SheetState) (l : List ℕ) → FedUpTo table d l l d
 unfolding fed
-fed_none table d l = refl
+none_fed table d l = record { bytes = 0; within = omega arith; left = refl; after = refl }
 
--- What is kept where a write failed after a step.
-pub stopped : {table : List ℤ} {d e g : SheetState} (l : List ℕ) (from : ℕ) {used : ℕ} {before out : List ℕ} {made : ℕ} → e ≡ fed (sheet_reader table) d (take from l) → from < length l → Feeds table e (take (length l - from) (drop from l)) used g before out made → ReadFed table d l g false
-stopped {table} {d} {e} {g} l from {used} p h f = record { bytes = from + used; within = taken_within l from f h; after = fed_further table d e g l from used p f.after; whole = λ w. clash (sym w) }
+module _ {table : List ℤ} {d : SheetState} {l rest : List ℕ} {e : SheetState} (w : FedUpTo table d l rest e) where
+  -- Some of what is left is fed.
+  pub fed_further : {used : ℕ} {g : SheetState} {before out : List ℕ} {made : ℕ} → Feeds table e rest used g before out made → FedUpTo table d l (take (length rest - used) (drop used rest)) g
+  fed_further {used} {g} f = let fits = used_fits f in let long = ap length w.left ∙ length-drop w.bytes l in
+      record {
+        bytes = w.bytes + used;
+        within = omega arith;
+        left = tail used rest ∙ ap (λ (k : List ℕ). drop used k) w.left ∙ drop-drop used w.bytes l;
+        after = f.after
+            ∙ ap (λ (x : SheetState). fed (sheet_reader table) x (take used rest)) w.after
+            ∙ sym (fed_append (sheet_reader table) d (take w.bytes l) (take used rest))
+            ∙ ap (λ (k : List ℕ). fed (sheet_reader table) d (take w.bytes l ++ take used k)) w.left
+            ∙ ap (λ (k : List ℕ). fed (sheet_reader table) d k) (sym (take-add w.bytes used l));
+      }
+
+  pub less_left : {used : ℕ} {g : SheetState} {before out : List ℕ} {made : ℕ} → Feeds table e rest used g before out made → printed_max ≤ length before → (length rest == 0) ≡ false → length (take (length rest - used) (drop used rest)) < length rest
+  less_left {used} f fits some = let h = eqb-false (length rest) 0 some in omega (arith, moves f fits (omega arith), ap length (tail used rest), length-drop used rest)
+
+  -- What is kept of a read where a write failed, and where all was written.
+  pub some_read : ReadFed table d l e false
+  some_read = record { bytes = w.bytes; within = w.within; after = w.after; whole = λ t. clash (sym t) }
+
+  pub all_read : length rest ≡ 0 → ReadFed table d l e true
+  all_read none = record { bytes = w.bytes; within = w.within; after = w.after; whole = λ t. let long = ap length w.left ∙ length-drop w.bytes l in omega arith }
+
+-- A card of no bytes has no entries.
+pub empty_card : card_of [] ≡ []
+unfolding card_of lines_from after_lines
+empty_card = refl

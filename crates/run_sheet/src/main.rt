@@ -4,19 +4,17 @@
 // the card's lines are read by `card`, and the sheet's lines, commands and replies are read and printed by `sheet`.
 #![tactic(auto)]
 
-ghost use Rattle.std.specs.Prelude.{◌≤◌, ◌≡◌, length, take};
-ghost use Rattle.statement.specs.Machine.{state};
+ghost use Rattle.std.specs.Prelude.{◌≤◌, ◌≡◌, IfOk, is_ok, length, take};
 ghost use Rattle.sheet_law.specs.Printing.{printed_max};
-ghost use Rattle.sheet_law.specs.Sheet.{sheet_state};
-ghost use Rattle.sheet_law.specs.Reads.{kept_max};
-ghost use Rattle.card_law.specs.Card.{card_kept};
+ghost use Rattle.card_law.specs.Card.{card_kept, card_of};
+ghost use Rattle.sheet.specs.Feeds.{SameLent, sheet_state_of};
 ghost use Rattle.run_sheet.specs.TakenFrom.{TakenFrom};
 ghost use Rattle.run_sheet.specs.ReadFed.{ReadFed};
 
 use calls::{Pitch, TABLE};
 use card_law::{CARD_KEPT, CARD_READ};
 use layout::WORDS;
-use sheet::{KEPT, ROOM};
+use sheet::{Kept, ROOM, Sheet};
 use std::fmt::Display;
 use std::fs::{File, Files};
 use std::io::{Read, Write};
@@ -40,111 +38,78 @@ fn say_failed(rt: &impl Eprint, what: &str, error: io::Error) {
     say(rt, format_args!("{what}: {reason}"));
 }
 
-// Whether the card ends behind the bytes that were read; a message where it does not.
-fn card_ends(rt: &impl Eprint, file: &mut impl Read) -> bool {
-    let mut more = [0u8; 1];
-    match file.read(&mut more) {
-        Ok(0) => true,
-        Ok(_) => {
-            say(rt, "run_sheet: card cannot be read: a read was cut short");
-            false
-        }
-        Err(error) => {
-            say_failed(rt, "run_sheet: card cannot be read", error);
-            false
-        }
+// Why a card cannot be read.
+#[derive(Drop)]
+enum CardError {
+    Open(io::Error),
+    Read(io::Error),
+    CutShort,
+}
+
+fn say_card_error(rt: &impl Eprint, error: CardError) {
+    match error {
+        CardError::Open(error) => say_failed(
+            rt,
+            "run_sheet: card, looked for in the folder where run_sheet was started",
+            error,
+        ),
+        CardError::Read(error) => say_failed(rt, "run_sheet: card cannot be read", error),
+        CardError::CutShort => say(rt, "run_sheet: card cannot be read: a read was cut short"),
     }
 }
 
-// Why a card of so many bytes, so many entries and this bad line has not the 32 lines of a first table;
+// Why a card of so many bytes and these entries, or with this bad line, has not the 32 lines of a first table;
 // nothing where it has.
-fn say_why(rt: &impl Eprint, size: usize, count: usize, bad: usize) {
-    if size >= CARD_READ {
-        say(rt, "run_sheet: card is too long: a first table is 32 lines");
-    } else if bad > 0 {
-        say(rt, format_args!("run_sheet: card: line {bad} is no pitch"));
-    } else if count > TABLE {
-        say(
+fn say_why(rt: &impl Eprint, size: usize, entries: Result<usize, usize>) {
+    match entries {
+        _ if size >= CARD_READ => say(rt, "run_sheet: card is too long: a first table is 32 lines"),
+        Err(line) => say(rt, format_args!("run_sheet: card: line {line} is no pitch")),
+        Ok(count) if count > TABLE => say(
             rt,
             "run_sheet: card has more than 32 lines, and a first table is 32",
-        );
-    } else if count < TABLE {
-        say(
+        ),
+        Ok(count) if count < TABLE => say(
             rt,
             format_args!("run_sheet: card has {count} lines, and a first table is 32"),
-        );
+        ),
+        Ok(_) => {}
     }
-}
-
-// What is wrong with a card that is no first table, if that was not said when it was read, and what `store` lines get then.
-fn say_unusable(rt: &impl Eprint, read: bool, size: usize, count: usize, bad: usize) {
-    if read {
-        say_why(rt, size, count, bad);
-    }
-    if count != TABLE {
-        say(
-            rt,
-            "run_sheet: without a first table each store line is refused with 40, or with a number that is tested before it",
-        );
-    }
-}
-
-// The bytes that were read of the card, and whether it could be read.
-#[derive(Drop)]
-struct CardBytes {
-    size: usize,
-    read: bool,
 }
 
 // Reads until the room is full, the file ends or a read fails; how many bytes it put at the start.
 fn read_full(file: &mut impl Read, bytes: &mut [u8]) -> usize
     ensures { result ≤ length bytes.new }
 {
+    // (how far a read goes is known only after it, so that no `for` counts it)
     let mut done: usize = 0;
     while done < bytes.len() {
-        let Ok(n) = file.read(&mut bytes[done..]) else {
-            break;
-        };
-        if n == 0 {
-            break;
+        match file.read(&mut bytes[done..]) {
+            Ok(0) | Err(_) => break,
+            Ok(n) => done += n,
         }
-        done += n;
     }
     done
 }
 
-// The first bytes of an open card, as many as there is room for; none, with a message, where it cannot be read.
-fn read_opened_card(rt: &impl Eprint, file: &mut impl Read, bytes: &mut [u8]) -> CardBytes
-    ensures { result.size ≤ length bytes.new }
-{
-    let size = read_full(file, bytes);
-    if size < bytes.len() && !card_ends(rt, file) {
-        return CardBytes {
-            size: 0,
-            read: false,
-        };
+// That the card ends behind the bytes that were read.
+fn card_ends(file: &mut impl Read) -> Result<(), CardError> {
+    let mut more = [0u8; 1];
+    match file.read(&mut more).map_err(CardError::Read)? {
+        0 => Ok(()),
+        _ => Err(CardError::CutShort),
     }
-    CardBytes { size, read: true }
 }
 
-// The same of the card, which is opened and closed; none, with a message, where it cannot be opened.
-fn read_card_file(rt: &(impl Files + Eprint), bytes: &mut [u8]) -> CardBytes
-    ensures { result.size ≤ length bytes.new }
+// The first bytes of the card, as many as there is room for: how many.
+fn read_card_file(rt: &impl Files, bytes: &mut [u8]) -> Result<usize, CardError>
+    ensures { IfOk result (λ size. size ≤ length bytes.new) }
 {
-    match File::open(rt, "card") {
-        Ok(mut file) => read_opened_card(rt, &mut file, bytes),
-        Err(error) => {
-            say_failed(
-                rt,
-                "run_sheet: card, looked for in the folder where run_sheet was started",
-                error,
-            );
-            CardBytes {
-                size: 0,
-                read: false,
-            }
-        }
+    let mut file = File::open(rt, "card").map_err(CardError::Open)?;
+    let size = read_full(&mut file, bytes);
+    if size < bytes.len() {
+        card_ends(&mut file)?;
     }
+    Ok(size)
 }
 
 // How many bytes were read of the card, and how many entries these have.
@@ -154,18 +119,30 @@ struct CardTaken {
     count: usize,
 }
 
-// The entries of the card's first bytes, as many as there is room for; a message where they are no first table.
+// The entries of a card's first bytes, as many as there is room for: how many; a message where they are no first table.
+fn take_entries(rt: &impl Eprint, bytes: &[u8], room: &mut [Pitch]) -> usize
+    ensures within { result ≤ length room.old }
+    ensures entries { take result room.new ≡ take (length room.old) (card_of bytes.now) }
+{
+    let entries = card::read_card(bytes, room);
+    say_why(rt, bytes.len(), entries);
+    entries.unwrap_or(0)
+}
+
+// The card's first bytes, and their entries; a message where the card cannot be read, or is no first table.
 fn take_card(rt: &(impl Files + Eprint), bytes: &mut [u8], room: &mut [Pitch]) -> CardTaken
     requires { length room.old ≡ card_kept }
     ensures { TakenFrom bytes.new result.size room.new result.count }
 {
-    let got = read_card_file(rt, bytes);
-    let size = got.size;
-    let entries = card::read_card(&bytes[..size], room);
-    say_unusable(rt, got.read, size, entries.count, entries.bad);
-    CardTaken {
-        size,
-        count: entries.count,
+    match read_card_file(rt, bytes) {
+        Ok(size) => {
+            let count = take_entries(rt, &bytes[..size], room);
+            CardTaken { size, count }
+        }
+        Err(error) => {
+            say_card_error(rt, error);
+            CardTaken { size: 0, count: 0 }
+        }
     }
 }
 
@@ -183,130 +160,66 @@ fn read_some(rt: &impl Eprint, stdin: &mut impl Read, input: &mut [u8]) -> usize
     }
 }
 
-// Whether all of it could be written; a message where it could not.
-fn written(rt: &(impl Print + Eprint), out: &[u8]) -> bool {
-    if rt.write_all(out).is_ok() {
-        return true;
-    }
-    say(rt, "run_sheet: standard output cannot be written");
-    false
-}
-
-// What is kept after a read, and whether all that was printed could be written.
-#[derive(Drop)]
-struct AfterRead {
-    lines: u64,
-    count: usize,
-    written: bool,
-}
-
 // The bytes of one read: the output is written whenever it is full, and at their end.
-// What is kept is what the bytes fed make of it: the first of the read, and all of them if all could be written.
-fn feed_read(
-    rt: &(impl Print + Eprint),
-    words: &mut [u64],
-    room: &mut [Pitch],
-    table: &[Pitch],
-    kept: &mut [u8],
-    lines: u64,
-    count: usize,
-    input: &[u8],
-    out: &mut [u8],
-) -> AfterRead
-    requires kept_len { length kept.old ≡ kept_max }
-    requires in_bounds { printed_max ≤ length out.old }
-    ensures { ReadFed table.now
-        (sheet_state lines (take count kept.old) (state words.old room.old))
+// The sheet's state is then what the bytes fed make of it: the first of the read, and all of them if all could be written.
+fn feed_read(rt: &impl Print, sheet: &mut Sheet, input: &[u8], out: &mut [u8]) -> io::Result<()>
+    requires { printed_max ≤ length out.old }
+    ensures fed { ReadFed sheet.old.table.now
+        (sheet_state_of sheet.old)
         input.now
-        (sheet_state result.lines (take result.count kept.new) (state words.new room.new))
-        result.written }
+        (sheet_state_of sheet.new)
+        (is_ok result) }
+    ensures lent { SameLent sheet.old sheet.new }
 {
-    let mut read = lines;
-    let mut held = count;
-    let mut from: usize = 0;
-    while from < input.len() {
-        let fed = sheet::feed(words, room, table, kept, read, held, &input[from..], out);
-        read = fed.lines;
-        held = fed.count;
-        from = from + fed.used;
-        let made = fed.made;
-        if !written(rt, &out[..made]) {
-            return AfterRead {
-                lines: read,
-                count: held,
-                written: false,
-            };
-        }
+    let mut rest = input;
+    while !rest.is_empty() {
+        let fed = sheet.feed(rest, out);
+        rest = &rest[fed.used..];
+        rt.write_all(&out[..fed.made])?;
     }
-    AfterRead {
-        lines: read,
-        count: held,
-        written: true,
-    }
+    Ok(())
 }
 
-// The end of the input: what is printed then is written.
-fn finish_sheet(
-    rt: &(impl Print + Eprint),
-    words: &mut [u64],
-    room: &mut [Pitch],
-    table: &[Pitch],
-    kept: &mut [u8],
-    lines: u64,
-    count: usize,
-    out: &mut [u8],
-)
-    requires { length kept.old ≡ kept_max }
-{
-    let last = sheet::finish(words, room, table, kept, lines, count, out);
-    let made = last.made;
-    written(rt, &out[..made]);
-}
-
-// The sheet on standard input, to its end, with a first table.
+// The sheet on standard input, to its end, with a first table. An error is one of writing.
 // A proved loop has to end, and nothing says that the input does:
-// the loop counts its reads down, from a number that no run uses up.
-fn play_sheet(rt: &(impl Print + Eprint), stdin: &mut impl Read, table: &[Pitch]) {
+// the loop counts its reads, up to a number that no run uses up.
+fn play_sheet(
+    rt: &(impl Print + Eprint),
+    stdin: &mut impl Read,
+    table: &[Pitch],
+) -> io::Result<()> {
     let mut words = [0u64; WORDS];
     let mut room: [Pitch; ROOM] = [0; ROOM];
-    let mut kept = [0u8; KEPT];
+    let mut sheet = Sheet {
+        words: &mut words,
+        room: &mut room,
+        table,
+        kept: Kept::new(),
+    };
     let mut input = [0u8; BUFFER];
     let mut out = [0u8; BUFFER];
-    let mut lines: u64 = 0;
-    let mut count: usize = 0;
-    let mut reads = u64::MAX;
-    while reads > 0 {
-        reads -= 1;
+    for _ in 0..u64::MAX {
         let n = read_some(rt, stdin, &mut input);
         if n == 0 {
             break;
         }
-        let after = feed_read(
-            rt,
-            &mut words,
-            &mut room,
-            table,
-            &mut kept,
-            lines,
-            count,
-            &input[..n],
-            &mut out,
-        );
-        lines = after.lines;
-        count = after.count;
-        if !after.written {
-            return;
-        }
+        feed_read(rt, &mut sheet, &input[..n], &mut out)?;
     }
-    finish_sheet(
-        rt, &mut words, &mut room, table, &mut kept, lines, count, &mut out,
-    );
+    let made = sheet.finish(&mut out).made;
+    rt.write_all(&out[..made])
 }
 
 fn main(rt: HostRuntime) {
     let mut bytes = [0u8; CARD_READ];
     let mut room: [Pitch; CARD_KEPT] = [0; CARD_KEPT];
-    let taken = take_card(&rt, &mut bytes, &mut room);
-    let count = taken.count;
-    play_sheet(&rt, &mut rt.stdin(), &room[..count]);
+    let count = take_card(&rt, &mut bytes, &mut room).count;
+    if count != TABLE {
+        say(
+            &rt,
+            "run_sheet: without a first table each store line is refused with 40, or with a number that is tested before it",
+        );
+    }
+    if play_sheet(&rt, &mut rt.stdin(), &room[..count]).is_err() {
+        say(&rt, "run_sheet: standard output cannot be written");
+    }
 }

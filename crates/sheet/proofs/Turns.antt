@@ -1,21 +1,14 @@
 -- One turn of the loop: the next byte joins the line, or ends it, and what went on so far goes on by that byte; what is taken in all is what was taken so far and
 -- what is taken of the rest. Assumes nothing.
-use Rattle.std.proofs.Common.{◌≡◌, ℕ, zero, suc, ◌+◌, ◌-◌, ◌<◌, ◌≤◌, Bool, true, false, not, leb, List, [], ◌∷◌, ◌++◌, length, get_or, take, drop, set, ℤ, sym, refl, ap, ◌∙◌, append-nil, add-one, arith, length-append, take-append-drop, drop_of_length-le, length-take-le, take_all, drop-cons, take-suc, take-suc-set, le-ltb, lt-ltb, eq-eqb, ne_eqb, leb-false, leb-true}
-use Rattle.base.specs.RowLaws.{clash}
-use Rattle.calls.specs.declared.Reply.{Reply}
-use Rattle.statement.specs.Machine.{State, Outcome, outcome}
-use Rattle.lines_law.specs.Lines.{newline_byte, byte, ending, fed, joined, printed, said_at}
+use Rattle.std.proofs.Common.{◌≡◌, ℕ, suc, ◌+◌, ◌-◌, ◌<◌, ◌≤◌, true, false, List, [], ◌∷◌, ◌++◌, length, get_or, take, drop, ℤ, sym, refl, ap, ◌∙◌, append-nil, add-one, arith, length-append, take-append-drop, drop_of_length-le, drop-cons, take-suc, le-ltb, lt-ltb, eq-eqb, ne_eqb}
+use Rattle.statement.specs.Machine.{State}
+use Rattle.lines_law.specs.Lines.{newline_byte, byte, fed, joined, printed, said_at}
 use Rattle.lines_law.proofs.LineLaws.{fed_append, printed_append}
-use Rattle.sheet_law.specs.declared.Command.{Command}
-use Rattle.sheet_law.specs.declared.Line.TheVariants.{Read, Unread}
-use Rattle.sheet_law.specs.Text.{text}
-use Rattle.sheet_law.specs.Reading.{line_max, line_of}
-use Rattle.sheet_law.specs.Printing.{reply_text, printed_line, printed_max}
-use Rattle.sheet_law.specs.Sheet.{played, line_for, next_line, SheetState, sheet_state, sheet_reader}
-use Rattle.sheet_law.specs.Reads.{over_80}
+use Rattle.sheet_law.specs.Printing.{printed_line, printed_max}
+use Rattle.sheet_law.specs.Sheet.{line_for, said_to, after_line, next_line, SheetState, sheet_reader}
 use Rattle.sheet_printing.specs.Buffer.{Added, behind}
-use Rattle.sheet.specs.Feeds.{stops_at, taken, Feeds}
-use Rattle.sheet_law.specs.Reads.{kept_max}
+use Rattle.sheet.specs.Begun.{Begun, begun}
+use Rattle.sheet.specs.Feeds.{kept_state, stops_at, taken, Feeds}
 
 more : (t : List ℕ) (u : ℕ) → u < length t → take (u + 1) t ≡ take u t ++ (get_or t u 0 ∷ [])
 more t u h = ap (λ (n : ℕ). take n t) (add-one u) ∙ take-suc t u 0 h
@@ -77,41 +70,29 @@ module _ (table : List ℤ) (d : SheetState) (t : List ℕ) (u : ℕ) (e f : She
         rest = rest ∙ behind before out m l (omega arith) w.rest;
       }
 
-module _ (table : List ℤ) (d : SheetState) (t : List ℕ) (u n : ℕ) (k : List ℕ) (s : State) (before out : List ℕ) (m : ℕ) (w : Going table d t u (sheet_state n k s) before out m) (h : u < length t) where
+module _ {table : List ℤ} {d : SheetState} {t : List ℕ} {u : ℕ} {k : Begun} {s : State} {before out : List ℕ} {m : ℕ} (w : Going table d t u (kept_state k s) before out m) (h : u < length t) (k' : Begun) where
   -- Every byte but a newline joins the line.
-  pub joins : (get_or t u 0 ≡ newline_byte → ⊥) → (j : List ℕ) → j ≡ joined (sheet_reader table) k (get_or t u 0) → Going table d t (u + 1) (sheet_state n j s) before out m
-  joins ne j e =
-      went_on table d t u (sheet_state n k s) (sheet_state n j s) before out out m m [] w h
+  pub joins : (get_or t u 0 ≡ newline_byte → ⊥) → k' ≡ begun k.lines (joined (sheet_reader table) k.bytes (get_or t u 0)) → Going table d t (u + 1) (kept_state k' s) before out m
+  joins ne e =
+      rw e (went_on table d t u (kept_state k s) (kept_state (begun k.lines (joined (sheet_reader table) k.bytes (get_or t u 0))) s) before out out m m [] w h
       (rw (ne_eqb (get_or t u 0) newline_byte ne) refl)
-      (rw (e, ne_eqb (get_or t u 0) newline_byte ne) refl)
+      (rw (ne_eqb (get_or t u 0) newline_byte ne) refl)
       (rw (ne_eqb (get_or t u 0) newline_byte ne) refl)
       (omega arith)
       (sym (append-nil (take m out)))
-      refl
+      refl)
 
-  module _ (nl : get_or t u 0 ≡ newline_byte) (room : m + printed_max ≤ length out) (as_long : length out ≡ length before) (new : List ℕ) (l : ℕ) (q : ℕ) (number : q ≡ next_line n) where
-    goes : stops_at (length before - m) (get_or t u 0) ≡ false
-    goes = rw (eq-eqb (get_or t u 0) newline_byte nl) (le-ltb (length before - m) printed_max (omega arith))
-
-    -- A line that is unread.
-    pub ends_unread : line_for s k ≡ Unread → Added printed_max (printed_line q (text "unread")) out m new l → Going table d t (u + 1) (sheet_state q [] s) before new l
-    ends_unread e a =
-        went_on table d t u (sheet_state n k s) (sheet_state q [] s) before out new m l (printed_line q (text "unread")) w h goes
-        (rw (eq-eqb (get_or t u 0) newline_byte nl, e, number) refl)
-        (rw (eq-eqb (get_or t u 0) newline_byte nl, e, sym number) refl)
-        a.length_is
-        a.bytes
-        a.rest
-
-    -- A line that is a command.
-    pub ends_read : (c : Command) → line_for s k ≡ Read c → (a : Reply) (r : State) → outcome a r ≡ played table s c → Added printed_max (printed_line q (reply_text a)) out m new l → Going table d t (u + 1) (sheet_state q [] r) before new l
-    ends_read c e a r p b =
-        went_on table d t u (sheet_state n k s) (sheet_state q [] r) before out new m l (printed_line q (reply_text a)) w h goes
-        (rw (eq-eqb (get_or t u 0) newline_byte nl, e, sym number) (ap (λ (o : Outcome). sheet_state q [] o.after) p))
-        (rw (eq-eqb (get_or t u 0) newline_byte nl, e, sym number) (ap (λ (o : Outcome). printed_line q (reply_text o.reply)) (sym p)))
-        b.length_is
-        b.bytes
-        b.rest
+  -- A newline ends it, and the next line begins with no byte.
+  pub ends : get_or t u 0 ≡ newline_byte → m + printed_max ≤ length before → k' ≡ begun (next_line k.lines) [] → {r : State} → r ≡ after_line table s (line_for s k.bytes)
+      → (x : List ℕ) → x ≡ said_to table s (line_for s k.bytes) → {q : ℕ} → q ≡ next_line k.lines → {new : List ℕ} {l : ℕ} → Added printed_max (printed_line q x) out m new l → Going table d t (u + 1) (kept_state k' r) before new l
+  ends nl room ended {r} after x said {q} number {new} {l} a =
+      went_on table d t u (kept_state k s) (kept_state k' r) before out new m l (printed_line q x) w h
+      (rw (eq-eqb (get_or t u 0) newline_byte nl) (le-ltb (length before - m) printed_max (omega arith)))
+      (rw (eq-eqb (get_or t u 0) newline_byte nl, ended, after) refl)
+      (rw (eq-eqb (get_or t u 0) newline_byte nl, said, number) refl)
+      a.length_is
+      a.bytes
+      a.rest
 
 -- Where nothing of the rest is taken, what went on so far is all.
 module _ {table : List ℤ} {d : SheetState} {t : List ℕ} {u : ℕ} {e : SheetState} {before out : List ℕ} {m : ℕ} (w : Going table d t u e before out m) where
@@ -123,45 +104,12 @@ module _ {table : List ℤ} {d : SheetState} {t : List ℕ} {u : ℕ} {e : Sheet
     says = sym (take-append-drop m out) ∙ ap (λ (k : List ℕ). k ++ drop m out) w.bytes ∙ ap (λ (k : List ℕ). printed (sheet_reader table) d (take u t) ++ k) w.rest;
   }
 
-  pub at_the_end : length t ≤ u → Feeds table d t u e before out m
+  pub at_the_end : u ≡ length t → Feeds table d t (length t) e before out m
   unfolding taken
-  at_the_end h = all_taken_lem (ap (λ (k : List ℕ). taken table (length before - m) e k) (drop_of_length-le t h))
+  at_the_end h = rw (← h) (all_taken_lem (ap (λ (k : List ℕ). taken table (length before - m) e k) (drop_of_length-le t (omega arith))))
 
   pub at_a_newline : u < length t → get_or t u 0 ≡ newline_byte → length before < m + printed_max → Feeds table d t u e before out m
   at_a_newline h nl full =
       all_taken_lem
       (ap (λ (k : List ℕ). taken table (length before - m) e k) (drop-cons t u 0 h)
       ∙ taken_none table (length before - m) e (get_or t u 0) (drop (suc u) t) (rw (eq-eqb (get_or t u 0) newline_byte nl) (lt-ltb (length before - m) printed_max (omega arith))))
-
--- Keeping a byte of a line: it joins the bytes that are kept, or the line has over 80 bytes already.
-module _ (kept : List ℕ) (count b : ℕ) (whole : length kept ≡ kept_max) where
-  pub joined_full : 80 < count → joined (sheet_reader []) (take count kept) b ≡ take count kept
-  joined_full h = let e : take count kept ≡ kept = take_all count kept (omega arith) in rw (e, lt-ltb line_max (length kept) (omega arith)) refl
-
-  pub joined_set : count ≤ 80 → take (count + 1) (set kept count b) ≡ joined (sheet_reader []) (take count kept) b
-  joined_set h =
-      ap (λ (n : ℕ). take n (set kept count b)) (add-one count)
-      ∙ take-suc-set kept count b (omega arith)
-      ∙ sym (rw (le-ltb line_max (length (take count kept)) (omega (arith, length-take-le count kept (omega arith)))) refl)
-
--- The line that is kept is unread if it has over 80 bytes.
-pub kept_long : (kept : List ℕ) (count : ℕ) → length kept ≡ kept_max → 80 < count → line_of (take count kept) ≡ Unread
-kept_long kept count whole h = let e : take count kept ≡ kept = take_all count kept (omega arith) in over_80 (take count kept) (rw e (omega arith))
-
--- Whether the longest line fits, from the test.
-pub fits_true : (n m : ℕ) (r : Bool) → r ≡ leb n m → not r ≡ false → n ≤ m
-fits_true n m true e h = leb-true n m (sym e)
-fits_true n m false e h = absurd (clash h)
-
-pub fits_false : (n m : ℕ) (r : Bool) → r ≡ leb n m → not r ≡ true → m < n
-fits_false n m true e h = absurd (clash (sym h))
-fits_false n m false e h = leb-false n m (sym e)
-
--- At the end of the input a line that was begun is ended; there is none where no byte of it is kept.
-pub ending_none : (kept : List ℕ) (count : ℕ) → count ≡ 0 → ending (take count kept) ≡ []
-ending_none kept count e = rw e refl
-
-pub ending_some : (kept : List ℕ) (count : ℕ) → length kept ≡ kept_max → (count ≡ 0 → ⊥) → ending (take count kept) ≡ newline_byte ∷ []
-ending_some [] count whole h = absurd (omega arith)
-ending_some (b ∷ l) zero whole h = absurd (h refl)
-ending_some (b ∷ l) (suc n) whole h = refl

@@ -1,20 +1,25 @@
 -- What feeding a sheet gives: how many bytes of the input are taken, the state after them, and the output. That fed step by step, the last line at the end,
 -- a sheet prints what its definition says. Assumes nothing.
-use Rattle.std.specs.Prelude.{◌≡◌, ℕ, suc, ◌-◌, ◌<◌, ◌≤◌, Bool, true, false, ◌&&◌, List, [], ◌∷◌, ◌++◌, length, take, drop, ℤ, ◌==◌, ◌≢◌, nat_lt, refl}
+use Rattle.std.specs.Prelude.{◌≡◌, ℕ, suc, ◌-◌, ◌<◌, ◌≤◌, Bool, true, false, ◌&&◌, List, [], ◌∷◌, ◌++◌, length, take, drop, ℤ, ◌==◌, nat_lt, refl}
 use Rattle.std.proofs.Common.{arith, sym, ap, ◌∙◌, length-append, take_at, le-ltb}
 use Rattle.std.proofs.Math.Seq.{take-length}
 use Rattle.base.specs.Base.{choose}
 use Rattle.base.specs.RowLaws.{choose_split}
-use Rattle.sheet.specs.declared.Fed.{Fed}
+use Rattle.sheet.specs.declared.Sheet.{Sheet}
+use Rattle.sheet.specs.Begun.{Begun}
 use Rattle.lines_law.specs.Lines.{newline_byte, byte, ending, fed, printed, said_at}
 use Rattle.lines_law.proofs.LineLaws.{fed_append, printed_append}
 use Rattle.sheet_law.specs.Printing.{printed_max}
-use Rattle.sheet_law.specs.Sheet.{sheet, SheetState, start, sheet_reader}
-use Rattle.sheet_law.specs.Reads.{kept_max, by_bytes}
+use Rattle.statement.specs.Machine.{State, state}
+use Rattle.sheet_law.specs.Sheet.{sheet, SheetState, sheet_state, start, sheet_reader}
+use Rattle.sheet_law.specs.Reads.{by_bytes}
 
--- What feeding returns: the numbers of the state after, and how far it went.
-abbrev pub fed_at : ℕ → ℕ → ℕ → ℕ → Fed
-fed_at lines count used made = record { lines = lines; count = count; used = used; made = made }
+-- Between two bytes: what is kept of the sheet, and the store; so for a sheet that is played.
+abbrev pub kept_state : Begun → State → SheetState
+kept_state kept s = sheet_state kept.lines kept.bytes s
+
+abbrev pub sheet_state_of : Sheet → SheetState
+sheet_state_of s = kept_state s.kept (state s.words.now s.room.now)
 
 -- Feeding stops at a newline if the longest line does not fit into the room that is left, and at no other byte.
 abbrev pub stops_at : ℕ → ℕ → Bool
@@ -26,17 +31,16 @@ taken table room d [] = 0
 taken table room d (b ∷ t) = choose (stops_at room b) 0 (suc (taken table (room - length (said_at (sheet_reader table) d b)) (byte (sheet_reader table) d b) t))
 
 -- With a first table and from the state d, `used` bytes of the input are taken; e is the state after them, and `made` bytes are printed for them, at the start of the output. Behind
--- those the output is as before. Left open are the kept bytes beyond the line's, and how far a count goes above them all.
+-- those the output is as before.
 pub record Feeds (table : List ℤ) (d : SheetState) (input : List ℕ) (used : ℕ) (e : SheetState) (before out : List ℕ) (made : ℕ) : Type 0 where
   pub takes : used ≡ taken table (length before) d input
   pub after : e ≡ fed (sheet_reader table) d (take used input)
   pub prints : made ≡ length (printed (sheet_reader table) d (take used input))
   pub says : out ≡ printed (sheet_reader table) d (take used input) ++ drop made before
 
--- A state whose line is kept in so many bytes is fed; with any other number of bytes for it nothing is done.
-pub record FeedsIn (table : List ℤ) (size : ℕ) (d : SheetState) (input : List ℕ) (used : ℕ) (e : SheetState) (before out : List ℕ) (made : ℕ) : Type 0 where
-  pub right : size ≡ kept_max → Feeds table d input used e before out made
-  pub wrong : (size ≢ kept_max) → (used ≡ 0) × (made ≡ 0) × (e ≡ d) × (out ≡ before)
+-- What is lent to a sheet stays the same: the words, the room and the table.
+abbrev pub SameLent : Sheet → Sheet → Type 0
+SameLent before after = (after.words.ghost_name ≡ before.words.ghost_name) × (after.room.ghost_name ≡ before.room.ghost_name) × (after.table ≡ before.table)
 
 -- No more is taken than there is, and into an output that the longest line fits into something of every input.
 taken_most : (table : List ℤ) (room : ℕ) (d : SheetState) (t : List ℕ) → taken table room d t ≤ length t

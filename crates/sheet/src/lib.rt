@@ -4,20 +4,18 @@
 // `finish` is for the end of the input.
 #![tactic(auto)]
 
-ghost use Rattle.std.specs.Prelude.{◌≡◌, [], length, take};
-ghost use Rattle.layout.specs.Layout.{kind_word};
-ghost use Rattle.statement.specs.Machine.{state};
-ghost use Rattle.lines_law.specs.Lines.{ending, joined};
+ghost use Rattle.std.specs.Prelude.{◌≤◌, ◌≡◌, [], length};
+ghost use Rattle.lines_law.specs.Lines.{ending, is_empty, joined};
 ghost use Rattle.sheet_law.specs.Reading.{line_of};
-ghost use Rattle.sheet_law.specs.Sheet.{known as Sheet·known, sheet_state, sheet_reader};
-ghost use Rattle.sheet_law.specs.Reads.{kept_max};
-ghost use Rattle.sheet.specs.Feeds.{FeedsIn, fed_at};
+ghost use Rattle.sheet_law.specs.Sheet.{next_line, sheet_reader};
+ghost use Rattle.sheet.specs.Begun.{begun};
 
 use calls::{Pitch, SLOTS_MAX, TABLE};
-use sheet_law::{LINE_MAX, Line};
+use sheet_law::{Command, LINE_MAX};
 use sheet_playing::{known, play};
 use sheet_printing::{fits, print_reply, print_unread};
 use sheet_reading::parse;
+use std::marker::Model;
 
 const NEWLINE: u8 = b'\n';
 
@@ -27,119 +25,141 @@ pub const KEPT: usize = LINE_MAX + 1;
 // Room for the entries of the largest store.
 pub const ROOM: usize = SLOTS_MAX as usize * TABLE;
 
-// What is kept beside the lent slices, and how far the input was taken and the output printed.
+// What is kept from read to read: how many lines were read, and of the next line its first bytes.
+#[derive(Drop)]
+pub struct Kept {
+    pub lines: u64,
+    pub bytes: [u8; KEPT],
+    // how many of the bytes are the line's
+    pub count: usize,
+}
+
+impl Model for Kept {
+    ghost use Rattle.std.specs.Prelude.{take};
+    ghost use Rattle.sheet.specs.Begun.{Begun, begun};
+
+    ghost Value = { Begun };
+
+    ghost view = { λ k. begun k.lines (take k.count k.bytes) };
+}
+
+impl Kept {
+    // Before the first line.
+    pub fn new() -> Self
+        ensures { result ≡ begun 0 [] }
+    {
+        Kept {
+            lines: 0,
+            bytes: [0; KEPT],
+            count: 0,
+        }
+    }
+
+    // A byte joins its line, which is the same with every table.
+    fn keep(&mut self, b: u8)
+        ensures { self.new ≡ begun self.old.lines (joined (sheet_reader []) self.old.bytes b) }
+    {
+        if self.count < KEPT {
+            self.bytes[self.count] = b;
+            self.count += 1;
+        }
+    }
+
+    // What the line that is kept says.
+    fn line(&self) -> Option<Command>
+        ensures { result ≡ line_of self.now.bytes }
+    {
+        parse(self.bytes.get(..self.count)?)
+    }
+
+    // The line ends: its number.
+    fn end_line(&mut self) -> u64
+        ensures number { result ≡ next_line self.old.lines }
+        ensures next { self.new ≡ begun (next_line self.old.lines) [] }
+    {
+        self.lines = self.lines.wrapping_add(1);
+        self.count = 0;
+        self.lines
+    }
+
+    fn is_empty(&self) -> bool
+        ensures { result ≡ is_empty self.now.bytes }
+    {
+        self.count == 0
+    }
+}
+
+// How far the input was taken and the output printed.
 #[derive(Drop)]
 pub struct Fed {
-    // how many lines were read
-    pub lines: u64,
-    // how many bytes of the next line are kept
-    pub count: usize,
     // how many bytes of the input were taken
     pub used: usize,
     // how many bytes of the output were printed
     pub made: usize,
 }
 
-fn feed_result(lines: u64, count: usize, used: usize, made: usize) -> Fed
-    ensures { result ≡ fed_at lines count used made }
-{
-    Fed {
-        lines,
-        count,
-        used,
-        made,
-    }
+// A sheet that is played: the lent words of a store, the lent room for its entries, the lent first table,
+// and what is kept from read to read.
+#[derive(Drop)]
+pub struct Sheet<'a> {
+    pub words: &'a mut [u64],
+    pub room: &'a mut [Pitch],
+    pub table: &'a [Pitch],
+    pub kept: Kept,
 }
 
-// A byte joins what is kept of its line, which is the same with every table.
-fn keep(kept: &mut [u8], count: usize, b: u8) -> usize
-    requires { length kept.old ≡ kept_max }
-    ensures { take result kept.new ≡ joined (sheet_reader []) (take count kept.old) b }
-{
-    if count > LINE_MAX {
-        return count;
-    }
-    kept[count] = b;
-    count + 1
-}
+impl Sheet<'_> {
+    ghost use Rattle.sheet.specs.Feeds.{Feeds, SameLent, sheet_state_of};
 
-// The line that is kept, as the store's kind has it.
-fn line_in(words: &[u64], kept: &[u8], count: usize) -> Line
-    requires { length kept.now ≡ kept_max }
-    ensures { result ≡ Sheet·known (kind_word words.now) (line_of (take count kept.now)) }
-{
-    if count > LINE_MAX {
-        return Line::Unread;
-    }
-    let line = parse(&kept[..count]);
-    known(words, line)
-}
-
-// The bytes of a read: each line that ends in them is played, and its line printed, from the start of the output on,
-// as far as there is room. With other than 81 bytes to keep a line in nothing is done.
-pub fn feed(
-    words: &mut [u64],
-    room: &mut [Pitch],
-    table: &[Pitch],
-    kept: &mut [u8],
-    mut lines: u64,
-    mut count: usize,
-    input: &[u8],
-    out: &mut [u8],
-) -> Fed
-    ensures { FeedsIn table.now (length kept.old)
-        (sheet_state lines (take count kept.old) (state words.old room.old))
-        input.now result.used
-        (sheet_state result.lines (take result.count kept.new) (state words.new room.new))
-        out.old out.new result.made }
-{
-    if kept.len() != KEPT {
-        return feed_result(lines, count, 0, 0);
-    }
-    let mut used: usize = 0;
-    let mut made: usize = 0;
-    while used < input.len() {
-        let b = input[used];
-        if b != NEWLINE {
-            count = keep(kept, count, b);
-            used += 1;
-            continue;
+    // The bytes of a read: each line that ends in them is played, and its line printed, from the start of the output on,
+    // as far as there is room.
+    pub fn feed(&mut self, input: &[u8], out: &mut [u8]) -> Fed
+        ensures feeds { Feeds self.old.table.now
+            (sheet_state_of self.old)
+            input.now result.used
+            (sheet_state_of self.new)
+            out.old out.new result.made }
+        ensures within { result.used ≤ length input.now }
+        ensures lent { SameLent self.old self.new }
+    {
+        let table = self.table;
+        let mut made: usize = 0;
+        for (used, &b) in input.iter().enumerate() {
+            if b != NEWLINE {
+                self.kept.keep(b);
+                continue;
+            }
+            if !fits(out, made) {
+                return Fed { used, made };
+            }
+            let line = self.kept.line();
+            let number = self.kept.end_line();
+            let words = &mut *self.words;
+            let Some(command) = known(words, line) else {
+                made = print_unread(out, made, number);
+                continue;
+            };
+            let reply = play(words, self.room, table, command);
+            made = print_reply(out, made, number, reply);
         }
-        if !fits(out, made) {
-            break;
+        Fed {
+            used: input.len(),
+            made,
         }
-        used += 1;
-        lines = std::num::wrapping_add_u64(lines, 1);
-        let Line::Read(command) = line_in(words, kept, count) else {
-            made = print_unread(out, made, lines);
-            count = 0;
-            continue;
-        };
-        let reply = play(words, room, table, command);
-        made = print_reply(out, made, lines, reply);
-        count = 0;
     }
-    feed_result(lines, count, used, made)
-}
 
-// The end of the input: the last line may lack its newline.
-pub fn finish(
-    words: &mut [u64],
-    room: &mut [Pitch],
-    table: &[Pitch],
-    kept: &mut [u8],
-    lines: u64,
-    count: usize,
-    out: &mut [u8],
-) -> Fed
-    ensures { FeedsIn table.now (length kept.old)
-        (sheet_state lines (take count kept.old) (state words.old room.old))
-        (ending (take count kept.old)) result.used
-        (sheet_state result.lines (take result.count kept.new) (state words.new room.new))
-        out.old out.new result.made }
-{
-    if count == 0 {
-        return feed_result(lines, count, 0, 0);
+    // The end of the input: the last line may lack its newline.
+    pub fn finish(&mut self, out: &mut [u8]) -> Fed
+        ensures feeds { Feeds self.old.table.now
+            (sheet_state_of self.old)
+            (ending self.old.kept.bytes) result.used
+            (sheet_state_of self.new)
+            out.old out.new result.made }
+        ensures lent { SameLent self.old self.new }
+    {
+        if self.kept.is_empty() {
+            return Fed { used: 0, made: 0 };
+        }
+        self.feed(b"\n", out)
     }
-    feed(words, room, table, kept, lines, count, b"\n", out)
 }

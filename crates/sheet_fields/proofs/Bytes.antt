@@ -1,150 +1,120 @@
--- How the definitions on bytes go at place i of a text, which is how the loops read it. Assumes nothing.
-use Prim.Native.Nat.{ℕ, zero, suc, ◌+◌, ◌-◌, ◌*◌, ◌<◌, ◌≤◌}
-use native.Mathlib.Omega.{arith}
-use native.Mathlib.Numerals.{add-one}
-use mathlib.Core.Path.{◌≡◌, refl, sym, ◌∙◌, ap}
-use mathlib.Core.Bool.{Bool, true, false, ◌&&◌, ◌||◌}
-use lib.Dec.{eqb, ltb}
-use lib.IntN.{pos, negsuc, ◌-ℤ◌}
-use native.Mathlib.Nat.{zero-add}
-use mathlib.Core.List.{List, [], ◌∷◌, ◌++◌}
-use lib.ListN.{length, get_or, take, drop, drop_of_length-le}
-use lib.Seq.{drop-cons, take-suc, append_snoc}
-use borrow.Author.Tests.{lt-ltb, le-ltb, eq-eqb, ne_eqb}
+-- The definitions on bytes, as the library's functions on lists meet them. Assumes nothing.
+use Rattle.std.specs.Prelude.{ℕ, suc, ◌+◌, ◌-◌, ◌*◌, ◌<◌, ◌≤◌, ◌≡◌, ◌≢◌, refl, Bool, true, false, cond, ◌||◌, List, [], ◌∷◌, ◌==◌, eqb, ltb, length, get_or, take, drop, Some, None}
+use Rattle.std.specs.Int.{IsInRange, IsOutOfRange}
+use Rattle.std.specs.List.{position, position_or_len, before_first, after_first}
+use Rattle.std.proofs.Common.{arith, inl, inr, add-one, sym, ap, ◌∙◌, drop_of_length-le, take_all, lt-ltb, ltb-false, eq-eqb, ne_eqb}
+use Rattle.std.proofs.Math.Numerals.{one-add}
+use Rattle.std.proofs.lemmas.List.{at_drop_more}
+use Rattle.std.proofs.lemmas.Option.{cond_some, none-some}
 use Rattle.base.specs.Base.{choose}
+use Rattle.base.specs.Rows.{outside}
 use Rattle.calls.specs.Numbers.{pitch_half}
-use Rattle.sheet_law.specs.declared.Number.TheVariants.{Decimal, NoNumber}
-use Rattle.sheet_law.specs.declared.Angle.TheVariants.{SignedDecimal, NoAngle}
-use Rattle.sheet_law.specs.Text.{same_text, space_byte, minus_byte, digit_0, digit_9}
+use Rattle.sheet_law.specs.Text.{space_byte, minus_byte, digit_0, digit_9}
 use Rattle.sheet_law.specs.Reading.{up_to_space, after_space, digits, plain, at_most, negative, positive, angle}
+use Rattle.sheet_law.proofs.Decimals.{digit_read}
 
-at_place : (l : List ℕ) (i : ℕ) → i < length l → drop i l ≡ get_or l i 0 ∷ drop (i + 1) l
-at_place l i h = drop-cons l i 0 h ∙ ap (λ (n : ℕ). get_or l i 0 ∷ drop n l) (sym (add-one i))
+-- The first byte that passes a test.
+module _ (p : ℕ → Bool) (b : ℕ) (l : List ℕ) where
+  pub before_here : p b ≡ true → before_first p (b ∷ l) ≡ []
+  before_here e = rw e refl
 
-and_with_false : (b : Bool) → (b && false) ≡ false
-and_with_false true = refl
-and_with_false false = refl
+  pub after_here : p b ≡ true → after_first p (b ∷ l) ≡ l
+  after_here e = rw e refl
 
--- Texts of different lengths differ.
-pub same_lengths : (l k : List ℕ) → (length l ≡ length k → ⊥) → same_text l k ≡ false
-same_lengths [] [] h = absurd (h refl)
-same_lengths [] (b ∷ k) h = refl
-same_lengths (a ∷ l) [] h = refl
-same_lengths (a ∷ l) (b ∷ k) h = rw (same_lengths l k (λ e. h (ap suc e))) (and_with_false (eqb a b))
+  pub before_more : p b ≡ false → before_first p (b ∷ l) ≡ b ∷ before_first p l
+  before_more e = rw (e, one-add (position_or_len p l)) refl
 
-module _ (l k : List ℕ) (i : ℕ) (h : i < length l) (g : i < length k) where
-  pub same_differ : (get_or l i 0 ≡ get_or k i 0 → ⊥) → same_text (drop i l) (drop i k) ≡ false
-  same_differ e = rw (at_place l i h, at_place k i g, ne_eqb (get_or l i 0) (get_or k i 0) e) refl
+  pub after_more : p b ≡ false → after_first p (b ∷ l) ≡ after_first p l
+  after_more e = rw (e, one-add (position_or_len p l), add-one (suc (position_or_len p l)), add-one (position_or_len p l)) refl
 
-  pub same_next : get_or l i 0 ≡ get_or k i 0 → same_text (drop i l) (drop i k) ≡ same_text (drop (i + 1) l) (drop (i + 1) k)
-  same_next e = rw (at_place l i h, at_place k i g, eq-eqb (get_or l i 0) (get_or k i 0) e) refl
+module _ (p : ℕ → Bool) (l : List ℕ) where
+  pub cut_at : (i : ℕ) → position p l ≡ Some i → (take i l ≡ before_first p l) × (drop (i + 1) l ≡ after_first p l)
+  cut_at i e = let here = (cond_some _ _ _ e).1 in (ap (λ k. take k l) (sym here), ap (λ k. drop (k + 1) l) (sym here))
 
-pub same_end : (l k : List ℕ) (i : ℕ) → length l ≤ i → length k ≤ i → same_text (drop i l) (drop i k) ≡ true
-same_end l k i h g = rw (drop_of_length-le l h, drop_of_length-le k g) refl
+  pub no_cut : position p l ≡ None → (l ≡ before_first p l) × ([] ≡ after_first p l)
+  no_cut = go (ltb (position_or_len p l) (length l)) refl
+    where
+      go : (t : Bool) → ltb (position_or_len p l) (length l) ≡ t → cond t (Some (position_or_len p l)) None ≡ None → (l ≡ before_first p l) × ([] ≡ after_first p l)
+      go true _ e = absurd (none-some _ (sym e))
+      go false d _ = let all = ltb-false _ _ d in (sym (take_all _ l all), sym (drop_of_length-le l (omega arith)))
 
 -- The first space.
-module _ (l : List ℕ) (i : ℕ) where
-  module _ (h : i < length l) where
-    pub up_to_space_here : get_or l i 0 ≡ space_byte → up_to_space (drop i l) ≡ []
-    unfolding up_to_space
-    up_to_space_here e = rw (at_place l i h, eq-eqb (get_or l i 0) space_byte e) refl
+abbrev is_space : ℕ → Bool
+is_space b = b == space_byte
 
-    pub after_space_here : get_or l i 0 ≡ space_byte → after_space (drop i l) ≡ drop (i + 1) l
-    unfolding after_space
-    after_space_here e = rw (at_place l i h, eq-eqb (get_or l i 0) space_byte e) refl
+pub up_to_space_is : (l : List ℕ) → before_first is_space l ≡ up_to_space l
+unfolding up_to_space
+up_to_space_is [] = refl
+up_to_space_is (b ∷ l) = go (eqb b space_byte) refl (up_to_space_is l)
+  where
+    go : (t : Bool) → eqb b space_byte ≡ t → before_first is_space l ≡ up_to_space l → before_first is_space (b ∷ l) ≡ up_to_space (b ∷ l)
+    go true e _ = before_here is_space b l e ∙ rw e refl
+    go false e rest = before_more is_space b l e ∙ rw e (ap (λ k. b ∷ k) rest)
 
-    up_to_space_more : (get_or l i 0 ≡ space_byte → ⊥) → up_to_space (drop i l) ≡ get_or l i 0 ∷ up_to_space (drop (i + 1) l)
-    unfolding up_to_space
-    up_to_space_more e = rw (at_place l i h, ne_eqb (get_or l i 0) space_byte e) refl
+pub after_space_is : (l : List ℕ) → after_first is_space l ≡ after_space l
+unfolding after_space
+after_space_is [] = refl
+after_space_is (b ∷ l) = go (eqb b space_byte) refl (after_space_is l)
+  where
+    go : (t : Bool) → eqb b space_byte ≡ t → after_first is_space l ≡ after_space l → after_first is_space (b ∷ l) ≡ after_space (b ∷ l)
+    go true e _ = after_here is_space b l e ∙ rw e refl
+    go false e rest = after_more is_space b l e ∙ rw e rest
 
-    pub up_to_space_next : (get_or l i 0 ≡ space_byte → ⊥) → take i l ++ up_to_space (drop i l) ≡ take (i + 1) l ++ up_to_space (drop (i + 1) l)
-    up_to_space_next e =
-        ap (λ (k : List ℕ). take i l ++ k) (up_to_space_more e)
-        ∙ sym (append_snoc (take i l) (get_or l i 0) (up_to_space (drop (i + 1) l)))
-        ∙ ap (λ (k : List ℕ). k ++ up_to_space (drop (i + 1) l)) (sym (ap (λ (n : ℕ). take n l) (add-one i) ∙ take-suc l i 0 h))
+-- A byte that is no digit, and the digit at a place of a text.
+digit_bad : (n b : ℕ) (l : List ℕ) → IsOutOfRange digit_0 digit_9 b → digits n (b ∷ l) ≡ None
+unfolding digits
+digit_bad n b l (inl low) = rw (lt-ltb b digit_0 low) refl
+digit_bad n b l (inr high) = rw (lt-ltb digit_9 b high) (go (ltb b digit_0))
+  where
+    go : (t : Bool) → choose (t || true) None (digits (n * 10 + (b - digit_0)) l) ≡ None
+    go true = refl
+    go false = refl
 
-    pub after_space_next : (get_or l i 0 ≡ space_byte → ⊥) → after_space (drop i l) ≡ after_space (drop (i + 1) l)
-    unfolding after_space
-    after_space_next e = rw (at_place l i h, ne_eqb (get_or l i 0) space_byte e) refl
+pub digits_bad : (l : List ℕ) (i n : ℕ) → i < length l → IsOutOfRange digit_0 digit_9 (get_or l i 0) → digits n (drop i l) ≡ None
+digits_bad l i n h bad = at_drop_more (digits n) l i 0 h ∙ digit_bad n _ _ bad
 
-  pub up_to_space_end : length l ≤ i → up_to_space (drop i l) ≡ []
-  unfolding up_to_space
-  up_to_space_end h = rw (drop_of_length-le l h) refl
+pub digits_next : (l : List ℕ) (i n : ℕ) → i < length l → IsInRange digit_0 digit_9 (get_or l i 0) → digits n (drop i l) ≡ digits (n * 10 + (get_or l i 0 - digit_0)) (drop (i + 1) l)
+digits_next l i n h digit = at_drop_more (digits n) l i 0 h ∙ digit_read n _ _ digit.0 digit.1
 
-  pub after_space_end : length l ≤ i → after_space (drop i l) ≡ drop i l
-  unfolding after_space
-  after_space_end h = rw (drop_of_length-le l h) refl
+pub digits_end : (l : List ℕ) (i n : ℕ) → length l ≤ i → digits n (drop i l) ≡ Some n
+unfolding digits
+digits_end l i n h = rw (drop_of_length-le l h) refl
 
 -- A number that is too wide stays so, whatever digits come after.
-pub too_wide : (most n : ℕ) (l : List ℕ) → most < n → at_most most (digits n l) ≡ NoNumber
+pub too_wide : (most n : ℕ) (l : List ℕ) → most < n → at_most most (digits n l) ≡ None
 unfolding digits
 too_wide most n [] h = rw (lt-ltb most n h) refl
-too_wide most n (b ∷ l) h = go (ltb b digit_0 || ltb digit_9 b) (too_wide most (n * 10 + (b - digit_0)) l (omega arith))
+too_wide most n (b ∷ l) h = go (outside digit_0 digit_9 b) (too_wide most (n * 10 + (b - digit_0)) l (omega arith))
   where
-    go : (t : Bool) → at_most most (digits (n * 10 + (b - digit_0)) l) ≡ NoNumber → at_most most (choose t NoNumber (digits (n * 10 + (b - digit_0)) l)) ≡ NoNumber
+    go : (t : Bool) → at_most most (digits (n * 10 + (b - digit_0)) l) ≡ None → at_most most (choose t None (digits (n * 10 + (b - digit_0)) l)) ≡ None
     go true e = refl
     go false e = e
 
-module _ (l : List ℕ) (i n : ℕ) where
-  pub digits_end : length l ≤ i → digits n (drop i l) ≡ Decimal n
-  unfolding digits
-  digits_end h = rw (drop_of_length-le l h) refl
-
-  module _ (h : i < length l) where
-    pub digits_low : get_or l i 0 < digit_0 → digits n (drop i l) ≡ NoNumber
-    unfolding digits
-    digits_low a = rw (at_place l i h, lt-ltb (get_or l i 0) digit_0 a) refl
-
-    pub digits_high : digit_0 ≤ get_or l i 0 → digit_9 < get_or l i 0 → digits n (drop i l) ≡ NoNumber
-    unfolding digits
-    digits_high a b = rw (at_place l i h, le-ltb (get_or l i 0) digit_0 a, lt-ltb digit_9 (get_or l i 0) b) refl
-
-    pub digits_next : digit_0 ≤ get_or l i 0 → get_or l i 0 ≤ digit_9 → digits n (drop i l) ≡ digits (n * 10 + (get_or l i 0 - digit_0)) (drop (i + 1) l)
-    unfolding digits
-    digits_next a b = rw (at_place l i h, le-ltb (get_or l i 0) digit_0 a, le-ltb digit_9 (get_or l i 0) b) refl
-
--- The negative number that is one less than the opposite of v.
-pub one_less : (v : ℕ) → negsuc 0 -ℤ pos v ≡ negsuc v
-one_less zero = refl
-one_less (suc v) = ap negsuc (simp zero-add)
-
 -- A plain decimal has a digit, and no leading zero.
-pub plain_empty : (l : List ℕ) → length l ≡ 0 → plain l ≡ NoNumber
+pub plain_empty : (l : List ℕ) → length l < 1 → plain l ≡ None
 unfolding plain
-plain_empty [] e = refl
-plain_empty (b ∷ l) e = absurd (omega arith)
+plain_empty [] h = refl
+plain_empty (b ∷ l) h = absurd (omega arith)
 
-pub plain-zero : (l : List ℕ) → 1 < length l → get_or l 0 0 ≡ digit_0 → plain l ≡ NoNumber
+pub plain_zero : (l : List ℕ) → 1 < length l → get_or l 0 0 ≡ digit_0 → plain l ≡ None
 unfolding plain
-plain-zero [] h e = absurd (omega arith)
-plain-zero (b ∷ []) h e = absurd (omega arith)
-plain-zero (b ∷ c ∷ l) h e = rw (eq-eqb b digit_0 e) refl
+plain_zero [] h e = absurd (omega arith)
+plain_zero (b ∷ []) h e = absurd (omega arith)
+plain_zero (b ∷ c ∷ l) h e = rw (eq-eqb b digit_0 e) refl
 
-pub plain_digits : (l : List ℕ) → (length l ≡ 0 → ⊥) → (1 < length l → get_or l 0 0 ≡ digit_0 → ⊥) → plain l ≡ digits 0 l
+pub plain_digits : (l : List ℕ) → 0 < length l → (1 < length l → get_or l 0 0 ≢ digit_0) → plain l ≡ digits 0 l
 unfolding plain
-plain_digits [] h e = absurd (h refl)
+plain_digits [] h e = absurd (omega arith)
 plain_digits (b ∷ []) h e = refl
 plain_digits (b ∷ c ∷ l) h e = rw (ne_eqb b digit_0 (e (omega arith))) refl
 
--- Pitches.
-pub negative_zero : (n : ℕ) → n ≡ 0 → negative (Decimal n) ≡ NoAngle
-negative_zero n e = rw e refl
-
-pub negative_other : (n : ℕ) → (n ≡ 0 → ⊥) → negative (Decimal n) ≡ SignedDecimal (negsuc (n - 1))
-negative_other zero h = absurd (h refl)
-negative_other (suc n) h = let e : suc n - 1 ≡ n = omega arith in ap (λ (m : ℕ). SignedDecimal (negsuc m)) (sym e)
-
-pub angle_empty : (l : List ℕ) → length l ≡ 0 → angle l ≡ NoAngle
+-- A pitch, with a minus before it or without.
+pub angle_minus : (l : List ℕ) → 0 < length l → get_or l 0 0 ≡ minus_byte → angle l ≡ negative (at_most pitch_half (plain (drop 1 l)))
 unfolding angle
-angle_empty [] e = refl
-angle_empty (b ∷ l) e = absurd (omega arith)
-
-pub angle_minus : (l : List ℕ) → (length l ≡ 0 → ⊥) → get_or l 0 0 ≡ minus_byte → angle l ≡ negative (at_most pitch_half (plain (drop 1 l)))
-unfolding angle
-angle_minus [] h e = absurd (h refl)
+angle_minus [] h e = absurd (omega arith)
 angle_minus (b ∷ l) h e = rw (eq-eqb b minus_byte e) refl
 
-pub angle_plain : (l : List ℕ) → (length l ≡ 0 → ⊥) → (get_or l 0 0 ≡ minus_byte → ⊥) → angle l ≡ positive (at_most (pitch_half - 1) (plain l))
-unfolding angle
-angle_plain [] h e = absurd (h refl)
-angle_plain (b ∷ l) h e = rw (ne_eqb b minus_byte e) refl
+pub angle_plain : (l : List ℕ) → (0 < length l → get_or l 0 0 ≢ minus_byte) → angle l ≡ positive (at_most (pitch_half - 1) (plain l))
+unfolding angle plain
+angle_plain [] h = refl
+angle_plain (b ∷ l) h = rw (ne_eqb b minus_byte (h (omega arith))) refl

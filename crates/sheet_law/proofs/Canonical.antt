@@ -1,25 +1,22 @@
 -- A command's own text. A command whose arguments have their widths is read back from it, whatever they are: its text is bracketed, its decimals are read back,
 -- and it is at most 51 bytes. Assumes nothing.
-use Rattle.std.specs.Prelude.{ℕ, suc, ◌+◌, ◌-◌, ◌≤◌, ◌≡◌, refl, List, [], ◌∷◌, ◌++◌, eqb, ℤ, pos, negsuc, length}
+use Rattle.std.specs.Prelude.{ℕ, suc, ◌+◌, ◌-◌, ◌≤◌, ◌≡◌, refl, List, [], ◌∷◌, ◌++◌, eqb, ℤ, pos, negsuc, length, Some}
 use Rattle.std.proofs.Common.{arith, ◌∙◌, inl, inr, length-append, take_at, lt-ltb, le-ltb}
 use Rattle.std.proofs.lemmas.List.{get_or_at}
 use Rattle.base.specs.RowLaws.{choose_split}
 use Rattle.calls.specs.declared.Call.{Call}
 use Rattle.calls.specs.declared.Call.TheVariants as call
 use Rattle.calls.specs.Numbers.{number_max, kind_new, kind_old}
-use Rattle.sheet_law.specs.declared.Number.TheVariants.{Decimal}
-use Rattle.sheet_law.specs.declared.Angle.TheVariants.{SignedDecimal}
 use Rattle.sheet_law.specs.declared.Command.{Command}
 use Rattle.sheet_law.specs.declared.Command.TheVariants.{Make, Run}
-use Rattle.sheet_law.specs.declared.Line.TheVariants.{Read}
 use Rattle.sheet_law.specs.Text.{text, space_byte, close_bracket, decimal}
-use Rattle.sheet_law.specs.Reading.{pitch_least, pitch_most, line_max, narrow_max, up_to_space, after_space, at_most, narrow, wide, angle, named_in, keyword, kind_named, one, two, pitched, store_line, command, line_of}
+use Rattle.sheet_law.specs.Reading.{pitch_least, pitch_most, line_max, narrow_max, up_to_space, after_space, at_most, narrow, wide, angle, named_in, keyword, kind_named, if_read, one, two, pitched, store_line, command, line_of}
 use Rattle.sheet_law.specs.Decimals.{signed}
 use Rattle.sheet_law.proofs.Decimals.{plain_decimal, decimal_up_to_space, decimal_after_space, signed_decimal, decimal_length}
 use Rattle.sheet_law.specs.Canonical.{kind_text, angle_text, call_text, store_text, inner_text, in_brackets, command_text, FitsNarrow, FitsWide, FitsAngle, FitsCall, FitsKind, CommandFits, pitch_text_max}
 
 -- A bracketed text is read as what stands between the brackets.
-bracketed_read : (part : List ℕ) → length part + 2 ≤ line_max → line_of (in_brackets part) ≡ command (keyword (up_to_space part)) (after_space part)
+bracketed_read : (part : List ℕ) → length part + 2 ≤ line_max → line_of (in_brackets part) ≡ if_read (keyword (up_to_space part)) (λ word. command word (after_space part))
 unfolding line_of
 bracketed_read part short =
     let l : List ℕ = in_brackets part in
@@ -32,13 +29,13 @@ bracketed_read part short =
     ) refl
 
 -- Arguments are read back.
-narrow_back : (n : ℕ) → FitsNarrow n → narrow (decimal n) ≡ Decimal n
+narrow_back : (n : ℕ) → FitsNarrow n → narrow (decimal n) ≡ Some n
 narrow_back n fits = rw (plain_decimal n, le-ltb narrow_max n (omega arith)) refl
 
-wide_back : (n : ℕ) → FitsWide n → wide (decimal n) ≡ Decimal n
+wide_back : (n : ℕ) → FitsWide n → wide (decimal n) ≡ Some n
 wide_back n fits = rw (plain_decimal n, le-ltb number_max n (omega arith)) refl
 
-kind_back : (kind : ℕ) → FitsKind kind → (l : List ℕ) → (kind_named (up_to_space (kind_text kind ++ (space_byte ∷ l))) ≡ Decimal kind) × (after_space (kind_text kind ++ (space_byte ∷ l)) ≡ l)
+kind_back : (kind : ℕ) → FitsKind kind → (l : List ℕ) → (kind_named (up_to_space (kind_text kind ++ (space_byte ∷ l))) ≡ Some kind) × (after_space (kind_text kind ++ (space_byte ∷ l)) ≡ l)
 unfolding up_to_space after_space named_in
 kind_back kind (inl e) l = rw e (refl, refl)
 kind_back kind (inr (inl e)) l = rw e (refl, refl)
@@ -50,22 +47,22 @@ unfolding angle
 angle_signed [] = refl
 angle_signed (byte ∷ l) = refl
 
-pub angle_back : (v : ℤ) → FitsAngle v → angle (angle_text v) ≡ SignedDecimal v
+pub angle_back : (v : ℤ) → FitsAngle v → angle (angle_text v) ≡ Some v
 unfolding angle
 angle_back (pos n) fits = angle_signed (decimal n) ∙ (signed_decimal (at_most pitch_least) (at_most pitch_most) n ∙ rw (le-ltb pitch_most n (omega arith)) refl)
 angle_back (negsuc n) fits = rw (plain_decimal (suc n), le-ltb pitch_least (suc n) (omega arith)) refl
 
 -- What stands between the brackets is read back.
-one_back : (build : ℕ → Call) (n : ℕ) → FitsNarrow n → one (decimal n) build ≡ Read (Run (build n))
+one_back : (build : ℕ → Call) (n : ℕ) → FitsNarrow n → one (decimal n) build ≡ Some (Run (build n))
 one_back build n f = rw (narrow_back n f) refl
 
-two_back : (build : ℕ → ℕ → Call) (n m : ℕ) → FitsNarrow n → FitsNarrow m → two (decimal n ++ (space_byte ∷ decimal m)) build ≡ Read (Run (build n m))
+two_back : (build : ℕ → ℕ → Call) (n m : ℕ) → FitsNarrow n → FitsNarrow m → two (decimal n ++ (space_byte ∷ decimal m)) build ≡ Some (Run (build n m))
 two_back build n m f g = rw (decimal_up_to_space n (decimal m), decimal_after_space n (decimal m), narrow_back n f, narrow_back m g) refl
 
-pitched_back : (build : ℕ → ℤ → Call) (n : ℕ) (v : ℤ) → FitsNarrow n → FitsAngle v → pitched (decimal n ++ (space_byte ∷ angle_text v)) build ≡ Read (Run (build n v))
+pitched_back : (build : ℕ → ℤ → Call) (n : ℕ) (v : ℤ) → FitsNarrow n → FitsAngle v → pitched (decimal n ++ (space_byte ∷ angle_text v)) build ≡ Some (Run (build n v))
 pitched_back build n v f g = rw (decimal_up_to_space n (angle_text v), decimal_after_space n (angle_text v), narrow_back n f, angle_back v g) refl
 
-call_back : (c : Call) → FitsCall c → command (keyword (up_to_space (call_text c))) (after_space (call_text c)) ≡ Read (Run c)
+call_back : (c : Call) → FitsCall c → if_read (keyword (up_to_space (call_text c))) (λ word. command word (after_space (call_text c))) ≡ Some (Run c)
 unfolding up_to_space after_space named_in
 call_back (call.Enter r) f = one_back call.Enter r f
 call_back (call.Look r k) (f, g) = two_back call.Look r k f g
@@ -81,7 +78,7 @@ call_back (call.Pick r) f = one_back call.Pick r f
 call_back (call.Checkpoint r) f = one_back call.Checkpoint r f
 call_back (call.Defer p) f = one_back call.Defer p f
 
-store_back : (kind rs ps ss version : ℕ) → CommandFits (Make kind rs ps ss version) → store_line (store_text kind rs ps ss version) ≡ Read (Make kind rs ps ss version)
+store_back : (kind rs ps ss version : ℕ) → CommandFits (Make kind rs ps ss version) → store_line (store_text kind rs ps ss version) ≡ Some (Make kind rs ps ss version)
 store_back kind rs ps ss version (fk, fr, fp, fs, fv) =
     let after-slots : List ℕ = decimal version in
     let after-publishers : List ℕ = decimal ss ++ (space_byte ∷ after-slots) in
@@ -102,7 +99,7 @@ store_back kind rs ps ss version (fk, fr, fp, fs, fv) =
       wide_back version fv,
     ) refl
 
-inner_back : (c : Command) → CommandFits c → command (keyword (up_to_space (inner_text c))) (after_space (inner_text c)) ≡ Read c
+inner_back : (c : Command) → CommandFits c → if_read (keyword (up_to_space (inner_text c))) (λ word. command word (after_space (inner_text c))) ≡ Some c
 unfolding up_to_space after_space named_in
 inner_back (Make kind rs ps ss version) f = store_back kind rs ps ss version f
 inner_back (Run c) f = call_back c f
@@ -160,5 +157,5 @@ pub text_length : (c : Command) → CommandFits c → length (command_text c) �
 text_length c f = omega (arith, inner_length c f, length-append (inner_text c) (text ")"))
 
 -- A command is read back from its text.
-pub reads_back : (c : Command) → CommandFits c → line_of (command_text c) ≡ Read c
+pub reads_back : (c : Command) → CommandFits c → line_of (command_text c) ≡ Some c
 reads_back c f = bracketed_read (inner_text c) (omega (arith, inner_length c f)) ∙ inner_back c f

@@ -1,15 +1,13 @@
 -- Laws of plain decimals, for every number: what decimal writes, plain reads back, and it reads nothing else as that number; a decimal is digits alone, so that
 -- no space stands in it. By the digits from the left: those of a number's tenth, then its last digit. Assumes nothing.
-use Rattle.std.specs.Prelude.{ℕ, zero, suc, ◌+◌, ◌*◌, ◌-◌, ◌/◌, ◌^◌, ◌<◌, ◌≤◌, ◌≡◌, refl, ◌≢◌, List, [], ◌∷◌, ◌++◌, eqb, length}
+use Rattle.std.specs.Prelude.{ℕ, zero, suc, ◌+◌, ◌*◌, ◌-◌, ◌/◌, ◌^◌, ◌<◌, ◌≤◌, ◌≡◌, refl, ◌≢◌, List, [], ◌∷◌, ◌++◌, eqb, length, Option, Some}
 use Rattle.std.proofs.Common.{arith, sym, ap, ap₂, ◌∙◌, append_assoc, append-nil, ne_eqb, eqb-true}
 use Rattle.std.proofs.lemmas.Bool.{eqb-false}
 use Rattle.base.specs.Rows.{outside}
 use Rattle.base.specs.RowLaws.{choose_split, within, not_outside}
-use Rattle.sheet_law.specs.declared.Number.{Number}
-use Rattle.sheet_law.specs.declared.Number.TheVariants.{Decimal}
 use Rattle.sheet_law.specs.Text.{space_byte, minus_byte, digit_0, digit_9, last_digit, digits_before, decimal}
 use Rattle.sheet_law.specs.Reading.{up_to_space, after_space, digits, plain, positive}
-use Rattle.sheet_law.proofs.Widths.{decimal_same, no_decimal}
+use Rattle.std.proofs.lemmas.Option.{none-some, same_Some}
 use Rattle.sheet_law.specs.Decimals.{AllDigits, signed}
 
 -- A number below ten is its digit; the digits of another are those of its tenth before its last digit.
@@ -53,7 +51,7 @@ digits_before_lem (suc f) n l lt = one_or_more (λ k. digits 0 k ≡ digits n l)
     (λ e. last_read 0 n l (sym e))
     (λ e. digits_before_lem f (n / 10) (last_digit n ∷ l) (omega arith) ∙ last_read (n / 10) n l refl)
 
-pub digits_decimal : (n : ℕ) → digits 0 (decimal n) ≡ Decimal n
+pub digits_decimal : (n : ℕ) → digits 0 (decimal n) ≡ Some n
 unfolding decimal digits
 digits_decimal n = digits_before_lem (suc n) n [] (omega arith)
 
@@ -69,14 +67,14 @@ plain_before (suc f) n l lt ne = one_or_more (λ k. plain k ≡ digits 0 k) f n 
     (λ e. plain_digits (last_digit n) l (λ z. omega arith))
     (λ e. plain_before f (n / 10) (last_digit n ∷ l) (omega arith) e)
 
-pub plain_decimal : (n : ℕ) → plain (decimal n) ≡ Decimal n
+pub plain_decimal : (n : ℕ) → plain (decimal n) ≡ Some n
 unfolding decimal digits_before plain digits
 plain_decimal zero = refl
 plain_decimal (suc n) = plain_before (suc (suc n)) (suc n) [] (omega arith) (λ z. omega arith) ∙ digits_decimal (suc n)
 
 -- Two different numbers have different decimals.
 pub decimal_injective : (n m : ℕ) → decimal n ≡ decimal m → n ≡ m
-decimal_injective n m e = decimal_same n m (sym (plain_decimal n) ∙ (ap plain e ∙ plain_decimal m))
+decimal_injective n m e = same_Some n m (sym (plain_decimal n) ∙ (ap plain e ∙ plain_decimal m))
 
 all_before : (f n : ℕ) (l : List ℕ) → AllDigits l → AllDigits (digits_before f n l)
 unfolding digits_before
@@ -107,12 +105,12 @@ decimal_up_to_space n = up_to_space_digits (decimal n) (all_digits n)
 pub decimal_after_space : (n : ℕ) (l : List ℕ) → after_space (decimal n ++ (space_byte ∷ l)) ≡ l
 decimal_after_space n = after_space_digits (decimal n) (all_digits n)
 
-pub signed_decimal : (below above : Number → Number) (n : ℕ) → signed below above (decimal n) ≡ positive (above (Decimal n))
+pub signed_decimal : (below above : Option ℕ → Option ℕ) (n : ℕ) → signed below above (decimal n) ≡ positive (above (Some n))
 unfolding plain
 signed_decimal below above n = go (decimal n) (all_digits n) (plain_decimal n)
   where
-    go : (k : List ℕ) → AllDigits k → plain k ≡ Decimal n → signed below above k ≡ positive (above (Decimal n))
-    go [] a e = absurd (no_decimal n e)
+    go : (k : List ℕ) → AllDigits k → plain k ≡ Some n → signed below above k ≡ positive (above (Some n))
+    go [] a e = absurd (none-some n e)
     go (b ∷ k) a e = rw (ne_eqb b minus_byte (λ z. omega arith), e) refl
 
 -- What stands after the digits is left as it is; so one digit more is ten times the number and the digit.
@@ -136,31 +134,31 @@ unfolding decimal
 decimal_one n b low high e = spell_last n [] (omega arith) ∙ ap (λ c. c ∷ []) (omega arith)
 
 -- Only its plain decimal is read as a number: a digit that was read is one.
-digit_is : (m b n : ℕ) (l : List ℕ) → digits m (b ∷ l) ≡ Decimal n → (digit_0 ≤ b) × (b ≤ digit_9) × (digits (m * 10 + (b - digit_0)) l ≡ Decimal n)
+digit_is : (m b n : ℕ) (l : List ℕ) → digits m (b ∷ l) ≡ Some n → (digit_0 ≤ b) × (b ≤ digit_9) × (digits (m * 10 + (b - digit_0)) l ≡ Some n)
 unfolding digits
-digit_is m b n l = choose_split (λ x. x ≡ Decimal n → (digit_0 ≤ b) × (b ≤ digit_9) × (digits (m * 10 + (b - digit_0)) l ≡ Decimal n)) (outside digit_0 digit_9 b)
-    (λ _ e. absurd (no_decimal n e))
+digit_is m b n l = choose_split (λ x. x ≡ Some n → (digit_0 ≤ b) × (b ≤ digit_9) × (digits (m * 10 + (b - digit_0)) l ≡ Some n)) (outside digit_0 digit_9 b)
+    (λ _ e. absurd (none-some n e))
     (λ d e. let q = within digit_0 digit_9 b d in (q.0, q.1, e))
 
-digits_only : (l : List ℕ) (m n : ℕ) → m ≢ 0 → digits m l ≡ Decimal n → decimal n ≡ decimal m ++ l
+digits_only : (l : List ℕ) (m n : ℕ) → m ≢ 0 → digits m l ≡ Some n → decimal n ≡ decimal m ++ l
 unfolding digits
-digits_only [] m n ne e = rw (append-nil (decimal m), decimal_same m n e) refl
+digits_only [] m n ne e = rw (append-nil (decimal m), same_Some m n e) refl
 digits_only (b ∷ l) m n ne e =
     let d = digit_is m b n l e in
     digits_only l (m * 10 + (b - digit_0)) n (λ z. omega arith) d.2 ∙ (ap (λ k. k ++ l) (decimal_more m b ne d.0 d.1) ∙ append_assoc (decimal m) (b ∷ []) l)
 
-pub plain-only : (l : List ℕ) (n : ℕ) → plain l ≡ Decimal n → decimal n ≡ l
+pub plain-only : (l : List ℕ) (n : ℕ) → plain l ≡ Some n → decimal n ≡ l
 unfolding plain digits
-plain-only [] n e = absurd (no_decimal n e)
+plain-only [] n e = absurd (none-some n e)
 plain-only (b ∷ []) n e =
     let d = digit_is 0 b n [] e in
-    decimal_one n b d.0 d.1 (omega (arith, decimal_same (0 * 10 + (b - digit_0)) n d.2))
-plain-only (b ∷ c ∷ l) n e = choose_split (λ x. x ≡ Decimal n → decimal n ≡ b ∷ c ∷ l) (eqb b digit_0)
-    (λ _ z. absurd (no_decimal n z))
+    decimal_one n b d.0 d.1 (omega (arith, same_Some (0 * 10 + (b - digit_0)) n d.2))
+plain-only (b ∷ c ∷ l) n e = choose_split (λ x. x ≡ Some n → decimal n ≡ b ∷ c ∷ l) (eqb b digit_0)
+    (λ _ z. absurd (none-some n z))
     (λ t z. more (eqb-false b digit_0 t) (digit_is 0 b n (c ∷ l) z))
     e
   where
-    more : b ≢ digit_0 → (digit_0 ≤ b) × (b ≤ digit_9) × (digits (0 * 10 + (b - digit_0)) (c ∷ l) ≡ Decimal n) → decimal n ≡ b ∷ c ∷ l
+    more : b ≢ digit_0 → (digit_0 ≤ b) × (b ≤ digit_9) × (digits (0 * 10 + (b - digit_0)) (c ∷ l) ≡ Some n) → decimal n ≡ b ∷ c ∷ l
     more ne d = digits_only (c ∷ l) (0 * 10 + (b - digit_0)) n (λ z. omega arith) d.2 ∙ ap (λ k. k ++ (c ∷ l)) (decimal_one _ b d.0 d.1 (omega arith))
 
 -- A number below 10 ^ f has at most f digits.

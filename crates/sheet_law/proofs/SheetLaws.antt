@@ -1,6 +1,6 @@
 -- Laws of the sheet's single line: its number; which calls a kind lacks, and that such a line is unread; what a line that makes nothing leaves: an unread one,
 -- a refused `store`, a call before a made store. Assumes nothing.
-use Rattle.std.specs.Prelude.{ℕ, ◌+◌, ◌*◌, ◌<◌, ◌≡◌, refl, Bool, true, false, ◌||◌, ◌≢◌, List, ℤ, take}
+use Rattle.std.specs.Prelude.{ℕ, ◌+◌, ◌*◌, ◌<◌, ◌≡◌, refl, Bool, true, false, ◌||◌, ◌≢◌, List, ℤ, take, Some, None}
 use Rattle.std.proofs.Common.{arith, sym, subst, take-append-drop}
 use Rattle.std.proofs.Math.Dec.{eqb}
 use borrow.Author.Tests.{ne_eqb, eqb-true, eqb-false}
@@ -17,11 +17,11 @@ use Rattle.publication_law.specs.Table.{making}
 use Rattle.grace_version_law.specs.Steps as new-store
 use Rattle.two_phase_law.specs.Steps as old-store
 use Rattle.qsbr_law.specs.Steps as rest-store
-use Rattle.kinds_law.specs.Kinds.{Kind, table_of, kind_number, kind_of_number, any_step, lacked_by, any_making}
-use Rattle.kinds_law.specs.Kinds.Kind.{new, old, rest}
+use Rattle.kinds_law.specs.declared.Kind.{Kind}
+use Rattle.kinds_law.specs.Kinds.{table_of, kind_number, kind_of_number, any_step, lacked_by, any_making}
+use Rattle.kinds_law.specs.declared.Kind.TheVariants.{New as new, Old as old, Rest as rest}
 use Rattle.kinds_law.proofs.Calls.{number_named, named_none, any_making_leaves}
 use Rattle.sheet_law.specs.declared.Command.TheVariants.{Make, Run}
-use Rattle.sheet_law.specs.declared.Line.TheVariants.{Read, Unread}
 use Rattle.sheet_law.specs.Text.{text, digits_before, decimal}
 use Rattle.sheet_law.specs.Reading.{line_of}
 use Rattle.sheet_law.specs.Sheet.{unmade, played, line_for, after_line, said_to, next_line}
@@ -99,12 +99,12 @@ unfolding played
 made_kind table s n rs ps ss version = any_accepted_kind (given rs ps ss version table) (state s.words (take (ss * table_length) s.entries)) n
 
 -- A line that reads as a call which the made store's kind lacks is unread: it says `unread`, and the store is the one before.
-pub lacked_unread : (table : List ℤ) (s : State) (kind : Kind) (l : List ℕ) (c : Call) → kind_word s.words ≡ kind_number kind → line_of l ≡ Read (Run c) → (table_of kind).lacks c ≡ true
-    → (line_for s l ≡ Unread) × (said_to table s (line_for s l) ≡ text "unread") × (after_line table s (line_for s l) ≡ s)
+pub lacked_unread : (table : List ℤ) (s : State) (kind : Kind) (l : List ℕ) (c : Call) → kind_word s.words ≡ kind_number kind → line_of l ≡ Some (Run c) → (table_of kind).lacks c ≡ true
+    → (line_for s l ≡ None) × (said_to table s (line_for s l) ≡ text "unread") × (after_line table s (line_for s l) ≡ s)
 lacked_unread table s kind l c e reads lacks = rw (reads, e, number_named kind, lacks) (refl, refl, refl)
 
 -- An unread line makes no call: it says `unread`, and the store is the one before.
-pub unread_makes_no_call : (table : List ℤ) (s : State) (l : List ℕ) → line_of l ≡ Unread → (said_to table s (line_for s l) ≡ text "unread") × (after_line table s (line_for s l) ≡ s)
+pub unread_makes_no_call : (table : List ℤ) (s : State) (l : List ℕ) → line_of l ≡ None → (said_to table s (line_for s l) ≡ text "unread") × (after_line table s (line_for s l) ≡ s)
 unread_makes_no_call table s l e = rw e (refl, refl)
 
 -- Before a made store a call gets 1, and there is still none.
@@ -113,7 +113,7 @@ unfolding played any_step kind_of_number
 before_made table c = refl
 
 -- So a line that reads as a call, whichever, says `refused 1` there.
-pub call_before_made : (table : List ℤ) (l : List ℕ) (c : Call) → line_of l ≡ Read (Run c)
+pub call_before_made : (table : List ℤ) (l : List ℕ) (c : Call) → line_of l ≡ Some (Run c)
     → (said_to table unmade (line_for unmade l) ≡ text "refused 1") × (after_line table unmade (line_for unmade l) ≡ unmade)
 unfolding played any_step kind_of_number digits_before decimal
 call_before_made table l c reads = rw reads (refl, refl)

@@ -47,7 +47,7 @@ in_brackets l = text "(" ++ (l ++ text ")")
 abbrev pub command_text : Command → List ℕ
 command_text c = in_brackets (inner_text c)
 
--- Widths: pitches signed PITCH-BITS, versions 64, all other arguments 16, unsigned; the kind is `new`, `old` or `rest`.
+-- Widths: pitches signed pitch_bits, versions 64, all other arguments 16, unsigned; the kind is `new`, `old` or `rest`.
 abbrev pub FitsNarrow : ℕ → Type 0
 FitsNarrow n = n < 2 ^ 16
 

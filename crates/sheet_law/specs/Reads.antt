@@ -1,16 +1,15 @@
 -- However the input is cut into reads, the output is that of the whole sheet. What is kept between two bytes is enough: of the line that was begun its first
 -- 81 bytes, which tell a line over 80 bytes from every other. Assumes nothing.
-use Rattle.std.specs.Prelude.{ℕ, ◌+◌, ◌<◌, ◌≡◌, refl, Bool, true, false, ltb, ℤ, length, take}
+use Rattle.std.specs.Prelude.{ℕ, ◌+◌, ◌<◌, ◌≡◌, refl, Bool, true, false, ltb, ℤ, length, take, None}
 use Rattle.std.proofs.Common.{arith, sym, ap, ◌∙◌, length-take, take_all, lt-ltb, ltb-true, ltb-false}
 use mathlib.Core.List.{List, ◌++◌, flatten}
 use Rattle.lines_law.specs.Lines.{fed, printed, ending}
 use Rattle.lines_law.proofs.LineLaws as lines
-use Rattle.sheet_law.specs.declared.Line.TheVariants.{Unread}
 use Rattle.sheet_law.specs.Reading.{line_max, line_of}
 use Rattle.sheet_law.specs.Sheet.{unmade, lines_played, sheet_reader, sheet, start}
 
 -- A line over 80 bytes is unread.
-pub over_80 : (l : List ℕ) → line_max < length l → line_of l ≡ Unread
+pub over_80 : (l : List ℕ) → line_max < length l → line_of l ≡ None
 unfolding line_of
 over_80 l long = rw (lt-ltb line_max (length l) long) refl
 

@@ -1,5 +1,5 @@
 -- The whole sheet, a first table and bytes in to bytes out, as a reader of lines.
-use Rattle.std.specs.Prelude.{ℕ, ◌+◌, ◌*◌, ◌%◌, List, [], ◌++◌, ℤ, pos, take, drop, replicate}
+use Rattle.std.specs.Prelude.{ℕ, ◌+◌, ◌*◌, ◌%◌, List, [], ◌++◌, ℤ, pos, take, drop, replicate, Option, Some, None}
 use Rattle.base.specs.Base.{choose}
 use Rattle.calls.specs.Numbers.{number_modulus, table_length, slots_max}
 use Rattle.layout.specs.Layout.{words_length, kind_word, slots}
@@ -8,8 +8,6 @@ use Rattle.lines_law.specs.Lines.{lines_of, LineReader, printed_for, Midway, mid
 use Rattle.kinds_law.specs.Kinds.{kind_of_number, any_step, lacked_by, any_making}
 use Rattle.sheet_law.specs.declared.Command.{Command}
 use Rattle.sheet_law.specs.declared.Command.TheVariants.{Make, Run}
-use Rattle.sheet_law.specs.declared.Line.{Line}
-use Rattle.sheet_law.specs.declared.Line.TheVariants.{Read, Unread}
 use Rattle.sheet_law.specs.Text.{text}
 use Rattle.sheet_law.specs.Reading.{line_max, line_of}
 use Rattle.sheet_law.specs.Printing.{reply_text, printed_line}
@@ -36,22 +34,22 @@ played table s (Make kind rs ps ss version) = lent (ss * table_length) (any_maki
 played table s (Run c) = lent (slots s.words * table_length) (λ (part : State). any_step part c) s
 
 -- A call that the made store's kind lacks is unread. Before a made store none is lacked, and each gets 1.
-abbrev pub known : ℕ → Line → Line
-known made Unread = Unread
-known made (Read (Make kind rs ps ss version)) = Read (Make kind rs ps ss version)
-known made (Read (Run c)) = choose (lacked_by (kind_of_number made) c) Unread (Read (Run c))
+abbrev pub known : ℕ → Option Command → Option Command
+known made None = None
+known made (Some (Make kind rs ps ss version)) = Some (Make kind rs ps ss version)
+known made (Some (Run c)) = choose (lacked_by (kind_of_number made) c) None (Some (Run c))
 
-abbrev pub line_for : State → List ℕ → Line
+abbrev pub line_for : State → List ℕ → Option Command
 line_for s l = known (kind_word s.words) (line_of l)
 
 -- What is said to a line, and the store after it. An unread line makes no call.
-abbrev pub said_to : List ℤ → State → Line → List ℕ
-said_to table s Unread = text "unread"
-said_to table s (Read c) = reply_text (played table s c).reply
+abbrev pub said_to : List ℤ → State → Option Command → List ℕ
+said_to table s None = text "unread"
+said_to table s (Some c) = reply_text (played table s c).reply
 
-abbrev pub after_line : List ℤ → State → Line → State
-after_line table s Unread = s
-after_line table s (Read c) = (played table s c).after
+abbrev pub after_line : List ℤ → State → Option Command → State
+after_line table s None = s
+after_line table s (Some c) = (played table s c).after
 
 -- The number of the line after n lines, in 64 bits.
 abbrev pub next_line : ℕ → ℕ

@@ -1,7 +1,8 @@
 -- Texts as lists of bytes, and plain decimals.
-use Rattle.std.specs.Prelude.{ℕ, zero, suc, ◌+◌, ◌/◌, ◌%◌, Bool, true, false, ◌&&◌, List, [], ◌∷◌, eqb}
+use Rattle.std.specs.Prelude.{ℕ, zero, suc, ◌+◌, ◌/◌, ◌%◌, Bool, List, [], ◌∷◌, eqb}
 use Prim.Native.Char.{code}
 use Prim.Native.String.{String, [] as none, ◌∷◌ as ◌before◌}
+use Rattle.std.specs.Str.{bytes_eq}
 use Rattle.base.specs.Base.{choose}
 
 -- The bytes of a quoted text, in ASCII.
@@ -30,10 +31,7 @@ digit_9 = 57
 
 -- Whether two texts are the same.
 abbrev pub same_text : List ℕ → List ℕ → Bool
-same_text [] [] = true
-same_text [] (b ∷ l') = false
-same_text (a ∷ l) [] = false
-same_text (a ∷ l) (b ∷ l') = eqb a b && same_text l l'
+same_text l l' = bytes_eq l l'
 
 -- The last digit of a number.
 abbrev pub last_digit : ℕ → ℕ

@@ -2,7 +2,7 @@
 // Code: what a line gives, as values. specs/: the definitions, and what is proved about them.
 #![tactic(auto)]
 
-use calls::{Call, Pitch};
+use calls::Call;
 
 // A line has at most 80 bytes, without its newline.
 pub const LINE_MAX: usize = 80;
@@ -12,19 +12,6 @@ pub const PRINTED_MAX: usize = 74;
 
 // The greatest argument of 16 bits.
 pub const NARROW_MAX: u64 = 65535;
-
-// A decimal, or what is none.
-#[derive(Clone, Copy)]
-pub enum Number {
-    Decimal(u64),
-    NoNumber,
-}
-
-#[derive(Clone, Copy)]
-pub enum Angle {
-    SignedDecimal(Pitch),
-    NoAngle,
-}
 
 // The words that begin a line.
 #[derive(Clone, Copy)]
@@ -43,18 +30,12 @@ pub enum Keyword {
     Pick,
     Checkpoint,
     Defer,
-    Unknown,
 }
 
+// What a line says. A line that is not read gives no command.
 #[derive(Clone, Copy)]
 pub enum Command {
     // the kind's number, readers, publishers, slots, first version
     Make(u16, u16, u16, u16, u64),
     Run(Call),
-}
-
-#[derive(Clone, Copy)]
-pub enum Line {
-    Read(Command),
-    Unread,
 }

@@ -1,11 +1,7 @@
 -- A call on the first entries of a room is the definition's: the part that is lent is the same, and the rest is joined to it again. Assumes nothing.
-use Prim.Native.Nat.{ℕ, ◌*◌, ◌≤◌}
-use mathlib.Core.Path.{◌≡◌, refl, sym, ◌∙◌, ap}
-use mathlib.Core.Logic.{◌⊎◌, inl, inr, ◌≢◌}
-use mathlib.Core.List.{List, ◌++◌}
-use lib.IntN.{ℤ}
-use lib.ListN.{length, take, drop, drop_of_length-le, take-append-drop}
-use lib.Seq.{take_all, take-length, drop-length}
+use Rattle.std.specs.Prelude.{ℕ, ◌*◌, ◌≡◌, refl, ◌≢◌, Bool, true, false, List, ◌++◌, ℤ, leb, length, take, drop, min}
+use Rattle.std.proofs.Common.{arith, sym, ◌∙◌, ap, drop_of_length-le, take-append-drop, leb-true, leb-false}
+use Rattle.std.proofs.lemmas.List.{take_min}
 use Rattle.calls.specs.declared.Call.{Call}
 use Rattle.calls.specs.declared.Reply.{Reply}
 use Rattle.calls.specs.declared.Reply.TheVariants.{Refused}
@@ -17,24 +13,19 @@ use Rattle.kinds_law.proofs.Calls.{step_length}
 use Rattle.sheet_law.specs.declared.Command.TheVariants.{Make, Run}
 use Rattle.sheet_law.specs.Sheet.{rejoined, lent, played}
 
-module _ (es : List ℤ) (n m : ℕ) where
-  -- the first n entries are the first m: n is m, or it is all of them and m is beyond
-  abbrev Alike : Type 0
-  Alike = (n ≡ m) ⊎ ((n ≡ length es) × (length es ≤ m))
+drop_min : (m : ℕ) (es : List ℤ) → drop (min m (length es)) es ≡ drop m es
+drop_min m es = go (leb m (length es)) refl
+  where
+    go : (x : Bool) → leb m (length es) ≡ x → drop (min m (length es)) es ≡ drop m es
+    go true e = let some = leb-true m (length es) e in ap (λ (k : ℕ). drop k es) (omega arith)
+    go false e = let all = leb-false m (length es) e in drop_of_length-le es (omega arith) ∙ sym (drop_of_length-le es (omega arith))
 
-  same_front : Alike → take n es ≡ take m es
-  same_front (inl e) = rw e refl
-  same_front (inr (e, h)) = rw e (take-length es ∙ sym (take_all m es h))
-
-  same_back : Alike → drop n es ≡ drop m es
-  same_back (inl e) = rw e refl
-  same_back (inr (e, h)) = rw e (drop-length es ∙ sym (drop_of_length-le es h))
-
-  pub lent_is : Alike → (f : State → Outcome) (w v : List ℕ) (a : Reply) (p : List ℤ) → outcome a (state v p) ≡ f (state w (take n es)) → outcome a (state v (p ++ drop n es)) ≡ lent m f (state w es)
-  lent_is h f w v a p e =
-      ap (λ (o : Outcome). rejoined o (drop n es)) e
-      ∙ ap (λ (k : List ℤ). rejoined (f (state w k)) (drop n es)) (same_front h)
-      ∙ ap (λ (k : List ℤ). rejoined (f (state w (take m es))) k) (same_back h)
+-- The first n entries, where n is m or all of them.
+pub lent_is : (es : List ℤ) (n m : ℕ) → n ≡ min m (length es) → (f : State → Outcome) (w v : List ℕ) (a : Reply) (p : List ℤ) → outcome a (state v p) ≡ f (state w (take n es)) → outcome a (state v (p ++ drop n es)) ≡ lent m f (state w es)
+lent_is es n m h f w v a p e =
+    ap (λ (o : Outcome). rejoined o (drop n es)) e
+    ∙ ap (λ (k : List ℤ). rejoined (f (state w k)) (drop n es)) (ap (λ (k : ℕ). take k es) h ∙ take_min m es)
+    ∙ ap (λ (k : List ℤ). rejoined (f (state w (take m es))) k) (ap (λ (k : ℕ). drop k es) h ∙ drop_min m es)
 
 -- Words of another length: 1, and the room is as it was.
 pub played_length : (table : List ℤ) (w : List ℕ) (es : List ℤ) (c : Call) → length w ≢ words_length → outcome (Refused damaged_number) (state w es) ≡ played table (state w es) (Run c)

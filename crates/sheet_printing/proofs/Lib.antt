@@ -1,4 +1,3 @@
 -- The laws behind the proofs of the functions.
 pub mod Puts
-pub mod Phrases
 pub mod Spelling

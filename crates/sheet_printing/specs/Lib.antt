@@ -1,3 +1,3 @@
 -- What the contracts of this crate cite, beside the definitions of sheet_law.
 pub mod Buffer
-pub mod Phrases
+pub mod Lines

@@ -1,30 +1,29 @@
--- The lines before byte `from` are read, and their entries are put as far as there is room: a turn is one line. Assumes nothing.
-use native.Mathlib.Omega.{arith}
-use mathlib.Core.Path.{refl, sym, ◌∙◌}
-use Rattle.calls.specs.PitchLaws.{pitch_back}
-use Rattle.card.proofs.Turns.{begins, end_within, stops, goes_on, moves, all_good, good_card, bad_card}
+-- The lines before the text that is left are read, and their entries are put as far as there is room: a turn is one line. Assumes nothing.
+use Rattle.std.specs.Prelude.{◌≡◌, ◌<◌}
+use Rattle.std.proofs.Common.{◌≤◌, w32, to_z, of_z, arith, rules, tests, length, sym, ◌∙◌}
+use Rattle.std.proofs.lemmas.Int.{to_z-of_z}
+use Rattle.card.proofs.Turns.{few, bad_here, no_card, goes_on, all_good, all_put}
 use Rattle.card.proofs.read_card.Goals as goal
 
-pub loop-from-init : goal.loop-from-init
-loop-from-init c = (refl, begins _ _)
-
-pub overflow_add-line : goal.overflow_add-line
-overflow_add-line c = omega (arith, c.loop-from-test.true, c.loop-from.invariant.1.low)
-
-pub overflow_add-end : goal.overflow_add-end
-overflow_add-end c = omega (arith, end_within c.loop-from.invariant.1 c.loop-from-test.true _ c.line_length-n.ensures)
-
 -- a line that is no pitch
-pub returns-in_default : goal.returns-in_default
-returns-in_default c = let q = stops c.loop-from.invariant.1 c.loop-from-test.true _ c.line_length-n.ensures (sym c.in_default.is ∙ c.angle.ensures) in
-    let b = bad_card _ _ _ _ c.card_read.ensures.0 q.1 in (c.card_read.ensures.1 ∙ q.0, b.0, b.1)
+pub returns-in_default-clause-err : goal.returns-in_default-clause-err
+returns-in_default-clause-err c =
+    let w = c.loop-rest.invariant in
+    let some : 0 < length c.loop-rest.rest.now = search (rules, tests) in
+    let first = c.split_line.ensures.lines some in
+    let bad = sym c.angle.ensures ∙ c.in_default.is in
+    (bad_here w _ _ first bad, no_card w _ _ first bad)
 
-pub loop-from-smaller : goal.loop-from-smaller
-loop-from-smaller c = omega (arith, c.loop-from-test.true, moves _ _ _ _ c.loop-from-test.true c.next_line-from.ensures)
-
-pub loop-from-preserved : goal.loop-from-preserved
-loop-from-preserved c = (c.put_entry-count.auto.room ∙ c.loop-from.invariant.0, goes_on c.loop-from.invariant.1 c.loop-from-test.true _ c.line_length-n.ensures _ (sym c.in-SignedDecimal.is ∙ c.angle.ensures) _ _ (simp (pitch_back c.in-SignedDecimal.v c.in-SignedDecimal.known_told-1-own.given.0.1) at c.put_entry-count.ensures) _ c.next_line-from.ensures)
+pub loop-rest-preserved : goal.loop-rest-preserved
+loop-rest-preserved c =
+    let w = c.loop-rest.invariant in
+    let some : 0 < length c.loop-rest.rest.now = search (rules, tests) in
+    let same : to_z w32 (of_z w32 c.in-Some.v) ≡ c.in-Some.v = search (rules, to_z-of_z) in
+    goes_on w _ _ (c.split_line.ensures.lines some) _ (sym c.angle.ensures ∙ c.in-Some.is) (c.split_line.ensures.shorter some) _ _ (rw same at c.put_entry-count.ensures)
 
 -- all lines are pitches
-pub returns : goal.returns
-returns c = let g = good_card c.loop-from.invariant.1 c.loop-from-test.false _ _ c.card_read-2.ensures.0 c.loop-from.invariant.0 in (c.card_read-2.ensures.1 ∙ sym (all_good c.loop-from.invariant.1 c.loop-from-test.false), g.0, g.1)
+pub returns-clause-ok : goal.returns-clause-ok
+returns-clause-ok c =
+    let w = c.loop-rest.invariant in
+    let none : length c.loop-rest.rest.now ≤ 0 = search (rules, tests) in
+    (all_good w none, all_put w none _ c.loop-rest.auto.room, omega (arith, few w, c.loop-rest.auto.room))

@@ -1,12 +1,10 @@
--- The lines before byte `from` are read, and their entries are put as far as there is room: a turn is one line. Assumes nothing.
-use lib.ListN.{length}
-use Prim.Native.Nat.{◌-◌}
-use mathlib.Core.Path.{◌≡◌}
+-- The lines before the text that is left are read, and their entries are put as far as there is room: a turn is one line. Assumes nothing.
+use Rattle.std.proofs.Common.{length}
 use Rattle.card.proofs.Turns.{Going}
 use Rattle.card.proofs.read_card.Given as goal
 
-abbrev pub invariant-loop-from : goal.invariant-loop-from
-invariant-loop-from l = (length l.room ≡ length l.initial.room) × Going l.bytes l.from l.line l.room l.count
+abbrev pub invariant-loop-rest : goal.invariant-loop-rest
+invariant-loop-rest l = Going l.bytes l.rest l.line l.room l.count
 
-abbrev pub decreases-loop-from : goal.decreases-loop-from
-decreases-loop-from l = length l.bytes - l.from
+abbrev pub decreases-loop-rest : goal.decreases-loop-rest
+decreases-loop-rest l = length l.rest

@@ -1,36 +1,24 @@
 -- What a turn feeds: some of what is left of the read, and no more than that. Assumes nothing.
-use Rattle.std.proofs.Common.{arith, ◌∙◌}
-use Rattle.run_sheet.proofs.Parts.{taken_within, taken_some, fed_none, fed_further, stopped}
+use Rattle.std.proofs.Common.{refl, sym, arith, ◌∙◌}
+use Rattle.std.proofs.lemmas.Result.{err_from_is_err_and}
+use Rattle.run_sheet.proofs.Parts.{none_fed, fed_further, less_left, some_read}
 use Rattle.run_sheet.proofs.feed_read.Goals as goal
 
-pub loop-from-init : goal.loop-from-init
-loop-from-init g c = record {
-  within = omega arith;
-  kept_len = c.requires.kept_len;
-  room_left = c.requires.in_bounds;
-  fed_so_far = fed_none _ _ c.args.input.now;
-}
+pub loop-rest-init : goal.loop-rest-init
+loop-rest-init g c = record { room = c.requires; lent = (refl, refl, refl); fed_so_far = none_fed _ _ _ }
 
-pub overflow_add-from : goal.overflow_add-from
-overflow_add-from g c =
-    omega (arith, taken_within c.args.input.now c.loop-from.from (c.feed-fed.ensures.right c.loop-from.invariant.kept_len) c.loop-from-test.true)
+pub loop-rest-smaller : goal.loop-rest-smaller
+loop-rest-smaller g c = less_left c.loop-rest.invariant.fed_so_far c.feed-fed.ensures.feeds c.loop-rest.invariant.room (sym c.is_empty.ensures ∙ c.loop-rest-test.true)
+
+pub loop-rest-preserved : goal.loop-rest-preserved
+loop-rest-preserved g c = let k = c.loop-rest.invariant in let e = c.feed-fed.ensures.lent in
+    record {
+      room = omega (arith, c.feed-fed.auto.out);
+      lent = (e.0 ∙ k.lent.0, e.1 ∙ k.lent.1, e.2 ∙ k.lent.2);
+      fed_so_far = rw e.2 (fed_further k.fed_so_far c.feed-fed.ensures.feeds);
+    }
 
 -- not all could be written
-pub returns-then-not-written : goal.returns-then-not-written
-returns-then-not-written g c =
-    stopped c.args.input.now c.loop-from.from c.loop-from.invariant.fed_so_far c.loop-from-test.true (c.feed-fed.ensures.right c.loop-from.invariant.kept_len)
-
-pub loop-from-smaller : goal.loop-from-smaller
-loop-from-smaller g c =
-    let f = c.feed-fed.ensures.right c.loop-from.invariant.kept_len in
-    omega (arith, taken_within c.args.input.now c.loop-from.from f c.loop-from-test.true, taken_some c.args.input.now c.loop-from.from f c.loop-from-test.true c.loop-from.invariant.room_left)
-
-pub loop-from-preserved : goal.loop-from-preserved
-loop-from-preserved g c =
-    let f = c.feed-fed.ensures.right c.loop-from.invariant.kept_len in
-    record {
-      within = taken_within c.args.input.now c.loop-from.from f c.loop-from-test.true;
-      kept_len = c.feed-fed.auto.kept ∙ c.loop-from.invariant.kept_len;
-      room_left = omega (arith, c.feed-fed.auto.out);
-      fed_so_far = fed_further _ _ _ _ c.args.input.now c.loop-from.from c.feed-fed.result.used c.loop-from.invariant.fed_so_far f.after;
-    }
+pub returns-in_err-write_all-clause-fed : goal.returns-in_err-write_all-clause-fed
+returns-in_err-write_all-clause-fed g c = let k = c.loop-rest.invariant in let p = err_from_is_err_and c.from_residual.result c.from_residual.ensures.1 in
+    rw (p.1, ← k.lent.2) (some_read (fed_further k.fed_so_far c.feed-fed.ensures.feeds))

@@ -1,20 +1,16 @@
 -- Each turn feeds some of what is left of the read, and the state is what the bytes fed so far make of it. Assumes nothing.
-use Rattle.std.proofs.Common.{◌≡◌, ◌-◌, ◌≤◌, length, take}
-use Rattle.lines_law.specs.Lines.{fed}
+use Rattle.std.proofs.Common.{◌≤◌, length}
 use Rattle.sheet_law.specs.Printing.{printed_max}
-use Rattle.sheet_law.specs.Reads.{kept_max}
-use Rattle.sheet_law.specs.Sheet.{sheet_state, sheet_reader}
-use Rattle.statement.specs.Machine.{state}
+use Rattle.sheet.specs.Feeds.{SameLent, sheet_state_of}
+use Rattle.run_sheet.proofs.Parts.{FedUpTo}
 use Rattle.run_sheet.proofs.feed_read.Given as goal
 
-abbrev pub invariant-loop-from : goal.invariant-loop-from
-invariant-loop-from g l = record {
-  within : l.from ≤ length l.input;
-  kept_len : length l.kept ≡ kept_max;
-  room_left : printed_max ≤ length l.out;
-  fed_so_far : sheet_state l.read (take l.held l.kept) (state l.words l.room)
-      ≡ fed (sheet_reader l.table) (sheet_state l.lines (take l.count l.fn.kept) (state l.fn.words l.fn.room)) (take l.from l.input);
+abbrev pub invariant-loop-rest : goal.invariant-loop-rest
+invariant-loop-rest g l = record {
+  room : printed_max ≤ length l.out;
+  lent : SameLent l.fn.sheet l.sheet;
+  fed_so_far : FedUpTo l.sheet.table.now (sheet_state_of l.fn.sheet) l.input l.rest (sheet_state_of l.sheet);
 }
 
-abbrev pub decreases-loop-from : goal.decreases-loop-from
-decreases-loop-from g l = length l.input - l.from
+abbrev pub decreases-loop-rest : goal.decreases-loop-rest
+decreases-loop-rest g l = length l.rest

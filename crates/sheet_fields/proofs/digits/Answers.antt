@@ -1,31 +1,36 @@
--- What is read so far stands for the digits before place i; a number that 64 bits do not hold only grows. Assumes nothing.
-use native.Mathlib.Omega.{arith}
-use mathlib.Core.Path.{refl, ◌∙◌, sym, ap}
+-- What is read so far stands for the digits before place b-index; a number that 64 bits do not hold only grows. Assumes nothing.
+use Rattle.std.specs.Prelude.{Option}
+use Rattle.std.proofs.Common.{ℕ, arith, ◌+◌, drop, sym, ap, ◌∙◌}
+use Rattle.calls.specs.Numbers.{number_max}
+use Rattle.sheet_law.specs.Reading.{digits as digits_of, at_most}
 use Rattle.sheet_law.proofs.Widths.{at_most_decimal}
-use Rattle.sheet_fields.proofs.Bytes.{digits_end, digits_low, digits_high, digits_next, too_wide}
+use Rattle.sheet_fields.proofs.Bytes.{digits_bad, digits_next, digits_end, too_wide}
 use Rattle.sheet_fields.proofs.digits.Goals as goal
-use Rattle.sheet_fields.proofs.digits.Invariants.{wide_enough}
 
-pub loop-i-init : goal.loop-i-init
-loop-i-init c = (omega arith, omega arith, refl)
+abbrev fitting : Option ℕ → Option ℕ
+fitting x = at_most number_max x
 
-pub loop-i-preserved : goal.loop-i-preserved
-loop-i-preserved c = let k = c.loop-i in let e = c.wide-d.ensures in
-    (omega arith, omega (arith, c.if-n-d.false), rw e (k.invariant.2 ∙ ap wide_enough (digits_next _ k.i k.n c.if-i-s.false c.if-b-lt-DIGIT_0.false c.if-b-gt-DIGIT_9.false)))
-
--- the number: all digits are read
-pub returns-then-i-s : goal.returns-then-i-s
-returns-then-i-s c = let k = c.loop-i in sym (k.invariant.2 ∙ ap wide_enough (digits_end _ k.i k.n c.if-i-s.true) ∙ at_most_decimal 18446744073709551615 k.n k.invariant.1)
-
--- no number: a byte below 0
-pub returns-then-b-lt-DIGIT_0 : goal.returns-then-b-lt-DIGIT_0
-returns-then-b-lt-DIGIT_0 c = let k = c.loop-i in sym (k.invariant.2 ∙ ap wide_enough (digits_low _ k.i k.n c.if-i-s.false c.if-b-lt-DIGIT_0.true))
-
--- no number: a byte above 9
-pub returns-then-b-gt-DIGIT_9 : goal.returns-then-b-gt-DIGIT_9
-returns-then-b-gt-DIGIT_9 c = let k = c.loop-i in sym (k.invariant.2 ∙ ap wide_enough (digits_high _ k.i k.n c.if-i-s.false c.if-b-lt-DIGIT_0.false c.if-b-gt-DIGIT_9.true))
+-- no number: a byte that is no digit
+pub returns-then-not-is_ascii_digit : goal.returns-then-not-is_ascii_digit
+returns-then-not-is_ascii_digit c = let k = c.loop-b in
+    sym (k.invariant.read ∙ ap fitting (digits_bad _ k.b-index k.n c.loop-b-test.true c.if-not-is_ascii_digit.ensures.cases))
 
 -- no number: 64 bits do not hold it
-pub returns-then-n-d : goal.returns-then-n-d
-returns-then-n-d c = let k = c.loop-i in
-    sym (k.invariant.2 ∙ ap wide_enough (digits_next _ k.i k.n c.if-i-s.false c.if-b-lt-DIGIT_0.false c.if-b-gt-DIGIT_9.false) ∙ too_wide 18446744073709551615 _ _ (omega (arith, c.if-n-d.true, c.wide-d.ensures)))
+pub returns-in_err-checked_mul : goal.returns-in_err-checked_mul
+returns-in_err-checked_mul c = let k = c.loop-b in
+    c.from_residual.ensures ∙ sym (k.invariant.read ∙ ap fitting (digits_next _ k.b-index k.n c.loop-b-test.true c.if-not-is_ascii_digit.ensures.cases) ∙ too_wide number_max _ _ (omega (arith, c.in_err-checked_mul.ensures)))
+
+pub returns-in_err-n : goal.returns-in_err-n
+returns-in_err-n c = let k = c.loop-b in
+    c.from_residual-in_err-n.ensures ∙ sym (k.invariant.read ∙ ap fitting (digits_next _ k.b-index k.n c.loop-b-test.true c.if-not-is_ascii_digit.ensures.cases) ∙ too_wide number_max _ _ (omega (arith, c.in_err-n.ensures)))
+
+pub loop-b-preserved : goal.loop-b-preserved
+loop-b-preserved c = let k = c.loop-b in record {
+  fits = omega (arith, c.in_ok-n.ensures);
+  read = k.invariant.read ∙ ap fitting (digits_next _ k.b-index k.n c.loop-b-test.true c.if-not-is_ascii_digit.ensures.cases ∙ ap (λ n. digits_of n (drop (k.b-index + 1) c.args.s.now)) (omega (arith, c.in_ok-n.ensures, c.in_ok-checked_mul.ensures)));
+}
+
+-- the number: all digits are read
+pub returns : goal.returns
+returns c = let k = c.loop-b in
+    sym (k.invariant.read ∙ ap fitting (digits_end _ k.b-index k.n c.loop-b-test.false) ∙ at_most_decimal number_max k.n k.invariant.fits)

@@ -1,29 +1,33 @@
 -- A text without a leading zero is its digits, and a bound within 64 bits is tested on their number. Assumes nothing.
-use native.Mathlib.Omega.{arith}
-use mathlib.Core.Path.{◌≡◌, ◌∙◌, sym, ap}
-use Rattle.sheet_law.specs.declared.Number.{Number}
-use Rattle.sheet_law.specs.Reading.{digits as digits_of, plain, at_most}
-use Rattle.sheet_law.proofs.Widths.{at_most_decimal, at_most_bad, at_most_is, at_most_less}
-use Rattle.sheet_fields.proofs.Bytes.{plain_empty, plain-zero, plain_digits}
+use Rattle.std.specs.Prelude.{Option}
+use Rattle.std.proofs.Common.{ℕ, ◌≡◌, ◌≢◌, ◌<◌, get_or, length, arith, rules, tests, sym, ap, ◌∙◌}
+use Rattle.calls.specs.Numbers.{number_max}
+use Rattle.sheet_law.specs.Text.{digit_0}
+use Rattle.sheet_law.specs.Reading.{digits as digits_of, at_most}
+use Rattle.sheet_law.proofs.Widths.{at_most_within}
+use Rattle.sheet_fields.proofs.Bytes.{plain_empty, plain_zero, plain_digits}
 use Rattle.sheet_fields.proofs.number.Goals as goal
-use Rattle.sheet_fields.proofs.number.Goals.{then-n-gt1+else-s-eq-DIGIT_0, else-n-gt1}
+use Rattle.sheet_fields.proofs.number.Goals.{in_default-via-then-s-lt2, in_default-via-else-s-lt2+in_default-1}
 
 -- no number: empty
-pub returns-then-n-eq0 : goal.returns-then-n-eq0
-returns-then-n-eq0 c = sym (ap (λ (x : Number). at_most c.args.most x) (plain_empty c.args.s.now c.if-n-eq0.true))
+pub returns-in-empty : goal.returns-in-empty
+returns-in-empty c = sym (ap (λ (x : Option ℕ). at_most c.args.most x) (plain_empty c.args.s.now c.in-empty.len_below))
 
 -- no number: a leading zero
-pub returns-then-s-eq-DIGIT_0 : goal.returns-then-s-eq-DIGIT_0
-returns-then-s-eq-DIGIT_0 c = sym (ap (λ (x : Number). at_most c.args.most x) (plain-zero c.args.s.now c.if-n-gt1.true c.if-s-eq-DIGIT_0.true))
+pub returns-in-48 : goal.returns-in-48
+returns-in-48 c =
+    let zero : get_or c.args.s.now 0 0 ≡ digit_0 = search rules in
+    sym (ap (λ (x : Option ℕ). at_most c.args.most x) (plain_zero c.args.s.now c.in-48.len_at_least zero))
 
--- no number: digits gives none
+-- the number of its digits, if it is at most the bound
 pub returns-in_default : goal.returns-in_default
-returns-in_default c = rw ((let the_plain_is : plain c.args.s.now ≡ digits_of 0 c.args.s.now = plain_digits c.args.s.now c.if-n-eq0.false (elim c.if-n-gt1.branch [ then-n-gt1+else-s-eq-DIGIT_0 w ↦ λ h. w.if-s-eq-DIGIT_0.false | else-n-gt1 w ↦ λ h. absurd (omega (arith, w.if-n-gt1.false)) ]) in the_plain_is)) (sym (at_most_less c.args.most 18446744073709551615 (digits_of 0 c.args.s.now) (omega (arith, c.ranges.most)) (sym c.digits.ensures ∙ c.in_default.is)))
-
--- no number: above the most
-pub returns-then-v-most : goal.returns-then-v-most
-returns-then-v-most c = rw ((let the_plain_is : plain c.args.s.now ≡ digits_of 0 c.args.s.now = plain_digits c.args.s.now c.if-n-eq0.false (elim c.if-n-gt1.branch [ then-n-gt1+else-s-eq-DIGIT_0 w ↦ λ h. w.if-s-eq-DIGIT_0.false | else-n-gt1 w ↦ λ h. absurd (omega (arith, w.if-n-gt1.false)) ]) in the_plain_is), at_most_is 18446744073709551615 (digits_of 0 c.args.s.now) c.in-Decimal.v (sym c.digits.ensures ∙ c.in-Decimal.is)) (sym (at_most_bad c.args.most c.in-Decimal.v c.if-v-most.true))
-
--- the number
-pub returns : goal.returns
-returns c = rw ((let the_plain_is : plain c.args.s.now ≡ digits_of 0 c.args.s.now = plain_digits c.args.s.now c.if-n-eq0.false (elim c.if-n-gt1.branch [ then-n-gt1+else-s-eq-DIGIT_0 w ↦ λ h. w.if-s-eq-DIGIT_0.false | else-n-gt1 w ↦ λ h. absurd (omega (arith, w.if-n-gt1.false)) ]) in the_plain_is), at_most_is 18446744073709551615 (digits_of 0 c.args.s.now) c.in-Decimal.v (sym c.digits.ensures ∙ c.in-Decimal.is)) (sym (at_most_decimal c.args.most c.in-Decimal.v c.if-v-most.false))
+returns-in_default c =
+    let s = c.args.s.now in
+    let within = λ (x : Option ℕ). at_most c.args.most x in
+    let kept : c.filter.result ≡ at_most c.args.most c.digits.result = search (rules, tests) in
+    let some : 0 < length s = search rules in
+    let no_zero : (1 < length s → get_or s 0 0 ≢ digit_0) = elim c.in_default.branch [
+      | in_default-via-then-s-lt2 w ↦ λ h. absurd (let short : length s < 2 = search rules in omega arith)
+      | in_default-via-else-s-lt2+in_default-1 w ↦ λ h. search rules
+    ] in
+    kept ∙ ap within c.digits.ensures ∙ at_most_within c.args.most number_max (digits_of 0 s) (omega arith) ∙ ap within (sym (plain_digits s some no_zero))

@@ -1,20 +1,34 @@
--- The loop of `spell` keeps the digits of what is left before those written as the decimal; what is left is below ten to the power of the bytes that are free. Assumes nothing.
+-- A number of 64 bits has at most twenty digits, and a tenth that is not 0 has one less than the number. Assumes nothing.
+use Prim.Native.Nat.{ℕ, ◌-◌}
 use native.Mathlib.Omega.{arith}
 use Rattle.std.proofs.Common.{rules}
-use mathlib.Core.Path.{refl}
-use lib.ListN.{length-set}
-use Rattle.sheet_law.specs.Text.{decimal}
-use Rattle.sheet_printing.proofs.Spelling.{twenty, tenth, room_left, spelled_next, spelled_last}
+use mathlib.Core.Path.{◌≡◌, ap, ◌∙◌}
+use mathlib.Core.List.{List}
+use lib.ListN.{length, take, drop, set, length-set, length-drop}
+use Rattle.std.proofs.lemmas.List.{drop_all, take_all}
+use Rattle.sheet_law.specs.Text.{digits_before, decimal}
+use Rattle.sheet_printing.proofs.Spelling.{tenth, room_left, spelled_next, spelled_last}
 use Rattle.sheet_printing.proofs.spell.Goals as goal
 
 pub loop-left-init : goal.loop-left-init
 unfolding decimal
-loop-left-init c = (search rules, search rules, refl, twenty c.args.n c.ranges.n.fits, refl)
+loop-left-init c = record { more = search rules; within = search rules; fits = omega arith; digits = ap (digits_before _ c.args.n) (drop_all 20 c.args.bytes.now (omega arith)) }
 
 pub loop-left-preserved : goal.loop-left-preserved
 loop-left-preserved c = let k = c.loop-left in
-    (omega (arith, room_left k.at k.left k.invariant.3 c.if-left-eq0.false), omega arith, simp length-set k.invariant.2, tenth k.at k.left k.invariant.3, spelled_next c.args.n k.left k.bytes k.at c.digit.result k.invariant.0 (omega arith) c.digit.ensures k.invariant.4 c.if-left-eq0.false)
+    record {
+      more = omega (arith, room_left k.at k.left k.invariant.fits c.if-left-eq0.false);
+      within = omega arith;
+      fits = tenth k.at k.left k.invariant.fits;
+      digits = spelled_next c.args.n k.left k.bytes k.at c.digit.result k.invariant.more (omega arith) c.digit.ensures k.invariant.digits c.if-left-eq0.false;
+    }
 
-pub returns : goal.returns
-returns c = let k = c.loop-left in
-    (simp length-set k.invariant.2, omega arith, spelled_last c.args.n k.left k.bytes k.at c.digit.result k.invariant.0 (omega arith) c.digit.ensures k.invariant.4 c.if-left-eq0.true)
+-- the digits stand from a place to the end of the array
+the_rest : (l : List ℕ) (n : ℕ) → take (length l - n) (drop n l) ≡ drop n l
+the_rest l n = take_all (length l - n) (drop n l) (rw length-drop (omega arith))
+
+pub returns-clause-digits : goal.returns-clause-digits
+returns-clause-digits c = let k = c.loop-left in
+    ap (λ (n : ℕ). take (n - (k.at - 1)) (drop (k.at - 1) (set k.bytes (k.at - 1) c.digit.result))) (omega (arith, length-set {A = ℕ}))
+    ∙ the_rest (set k.bytes (k.at - 1) c.digit.result) (k.at - 1)
+    ∙ spelled_last c.args.n k.left k.bytes k.at c.digit.result k.invariant.more (omega arith) c.digit.ensures k.invariant.digits c.if-left-eq0.true
