@@ -1,29 +1,29 @@
-// ENTER, LOOK and LEAVE of the new store, in place on the lent words.
+// ENTER and LEAVE of the new store, in place on the lent words.
 // Each is total, and its contract is the step of grace_version_law.
 #![tactic(auto)]
 
-ghost use Rattle.std.specs.Prelude.{◌≡◌, false, List, ◌<◌, ℤ, length};
+ghost use Rattle.std.specs.Prelude.{◌≡◌, false, List, ◌<◌, ℤ};
 ghost use Rattle.calls.specs.Numbers.{readers_max};
-ghost use Rattle.calls.specs.declared.Call.TheVariants.{Enter, Look, Leave};
-ghost use Rattle.layout.specs.Layout.{words_length, readers};
+ghost use Rattle.calls.specs.declared.Call.TheVariants.{Enter, Leave};
+ghost use Rattle.layout.specs.Layout.{readers};
 ghost use Rattle.statement.specs.Machine.{state, outcome};
 ghost use Rattle.publication_law.specs.Table.{damaged, step};
 ghost use Rattle.grace_version_law.specs.Steps.{rules};
 
 use calls::{
-    DAMAGED, NO_SUCH_READER, NOT_READING, PLACE_LOADED, PLACE_LOADED_AGAIN, PLACE_OPEN, PLACE_OUT,
-    PLACE_PICKED, PLACE_PUBLISHED, Pitch, READER_TURN, Reply,
+    NOT_READING, PLACE_LOADED, PLACE_LOADED_AGAIN, PLACE_OPEN, PLACE_OUT, PLACE_PICKED,
+    PLACE_PUBLISHED, Pitch, Refusal, Reply,
 };
-use grace_version_damage::{head_is_damaged, publishers_are_damaged, readers_are_damaged};
-use layout::{current_of, put_reader, reader_at, readers_of, version_of};
-use publication_entries::look_up;
+use grace_version_damage::GraceVersionScheme;
+use layout::{WORDS, Words, current_of, put_reader, reader_at, readers_of, version_of};
+use schemes::Scheme;
 
 // ENTER of a reader that there is: 0 to 1 loads the version; 1 to 2 publishes it; 2 to 3 loads the version again;
 // 3 to 4 publishes the second, always; 4 to 5 picks the current slot.
 // At 3 an undamaged store's reader has published the first: where the two are equal, that is the same number.
 // Nothing in the step from 3 to 4 compares the two, by request 4 of document 02: .ci/fourth-step reads the code for it.
-fn advance(words: &mut [u64], r: usize) -> Reply
-    requires { (length words.old ≡ words_length) × (r < readers words.old) × (r < readers_max) }
+fn advance(words: &mut Words, r: usize) -> Reply
+    requires { (r < readers words.old) × (r < readers_max) }
     ensures { (es : List ℤ) → damaged rules (state words.old es) ≡ false →
         outcome result (state words.new es)
         ≡ step rules (state words.old es) (Enter r) }
@@ -61,7 +61,7 @@ fn advance(words: &mut [u64], r: usize) -> Reply
             put_reader(words, r, x);
             Reply::At(PLACE_PICKED)
         }
-        _ => Reply::Refused(READER_TURN),
+        _ => Refusal::ReaderTurn.into(),
     }
 }
 
@@ -70,30 +70,16 @@ pub fn enter(words: &mut [u64], entries: &[Pitch], r: u16) -> Reply
     ensures { outcome result (state words.new entries.now)
         ≡ step rules (state words.old entries.now) (Enter r) }
 {
-    if head_is_damaged(words, entries.len())
-        || readers_are_damaged(words)
-        || publishers_are_damaged(words)
-    {
-        return Reply::Refused(DAMAGED);
+    let Some(words) = words.as_mut_array::<WORDS>() else {
+        return Refusal::Damaged.into();
+    };
+    if GraceVersionScheme::is_damaged(words, entries.len()) {
+        return Refusal::Damaged.into();
     }
     if r as u64 >= readers_of(words) {
-        return Reply::Refused(NO_SUCH_READER);
+        return Refusal::NoSuchReader.into();
     }
     advance(words, r as usize)
-}
-
-// LOOK r k (place 5): entry k of the picked slot.
-pub fn look(words: &[u64], entries: &[Pitch], r: u16, k: u16) -> Reply
-    ensures { outcome result (state words.now entries.now)
-        ≡ step rules (state words.now entries.now) (Look r k) }
-{
-    if head_is_damaged(words, entries.len())
-        || readers_are_damaged(words)
-        || publishers_are_damaged(words)
-    {
-        return Reply::Refused(DAMAGED);
-    }
-    look_up(words, entries, r, k)
 }
 
 // LEAVE r (places 4, 5): to 0, and NOT_READING is published.
@@ -101,19 +87,19 @@ pub fn leave(words: &mut [u64], entries: &[Pitch], r: u16) -> Reply
     ensures { outcome result (state words.new entries.now)
         ≡ step rules (state words.old entries.now) (Leave r) }
 {
-    if head_is_damaged(words, entries.len())
-        || readers_are_damaged(words)
-        || publishers_are_damaged(words)
-    {
-        return Reply::Refused(DAMAGED);
+    let Some(words) = words.as_mut_array::<WORDS>() else {
+        return Refusal::Damaged.into();
+    };
+    if GraceVersionScheme::is_damaged(words, entries.len()) {
+        return Refusal::Damaged.into();
     }
     if r as u64 >= readers_of(words) {
-        return Reply::Refused(NO_SUCH_READER);
+        return Refusal::NoSuchReader.into();
     }
     let at = r as usize;
     let mut x = reader_at(words, at);
     if x.place < PLACE_OPEN {
-        return Reply::Refused(READER_TURN);
+        return Refusal::ReaderTurn.into();
     }
     x.place = PLACE_OUT;
     x.published = NOT_READING;

@@ -1,16 +1,28 @@
 // Making and the thirteen calls for words of any kind: the kind word tells which store's call is run.
 // In place on the lent words and entries. A call that the kind lacks gets 1.
 // Each is total, and its contract is the step (or the making) of kinds_law. `run` takes any call as a value.
-// It knows nothing of a store but its length and its kind word.
-#![tactic(auto)]
+// It knows nothing of a store but its kind word.
+#![tactic(auto, using(publication_law::proofs::TableLaws::lacked_refused), unfolding(kinds_law::specs::Kinds::any_step, kinds_law::specs::Kinds::any_making))]
 
 ghost use Rattle.std.specs.Prelude.{◌≡◌};
 ghost use Rattle.calls.specs.declared.Call.TheVariants.{Enter, Look, Leave, Claim, Write, Swap, Sync, Raise, Walk, Release, Pick, Checkpoint, Defer};
+ghost use Rattle.layout.specs.Layout.{kind_word};
 ghost use Rattle.statement.specs.Machine.{state, outcome, given};
-ghost use Rattle.kinds_law.specs.Kinds.{any_step, any_making};
+ghost use Rattle.kinds_law.specs.Kinds.{any_step, any_making, kind_of_number};
 
-use calls::{Call, DAMAGED, KIND_NEW, KIND_OLD, KIND_REST, Pitch, Reply};
-use layout::{WORDS, kind_of};
+use calls::{Call, Pitch, Refusal, Reply};
+use grace_version_damage::GraceVersionScheme;
+use kinds_law::Kind;
+use layout::kind_word;
+use qsbr_damage::QsbrScheme;
+use two_phase_damage::TwoPhaseScheme;
+
+// The kind that the kind word names, if it names one.
+pub fn kind_of(words: &[u64]) -> Option<Kind>
+    ensures { result ≡ kind_of_number (kind_word words.now) }
+{
+    Kind::try_from(kind_word(words)).ok()
+}
 
 // Making a store of the kind with this number, in words and entries whatever they hold. The table goes into every slot.
 // A number that no kind has gets 1.
@@ -28,18 +40,23 @@ pub fn make(
         ≡ any_making kind (given readers publishers slots version table.now)
         (state words.old entries.old) }
 {
-    let number = kind as u64;
-    match number {
-        KIND_NEW => {
-            grace_version_making::make(words, entries, table, readers, publishers, slots, version)
+    match Kind::try_from(kind as u64) {
+        Ok(Kind::New) => {
+            shared_calls::make::<GraceVersionScheme>(
+                words, entries, table, readers, publishers, slots, version,
+            )
         }
-        KIND_OLD => {
-            two_phase_making::make(words, entries, table, readers, publishers, slots, version)
+        Ok(Kind::Old) => {
+            shared_calls::make::<TwoPhaseScheme>(
+                words, entries, table, readers, publishers, slots, version,
+            )
         }
-        KIND_REST => {
-            qsbr_making::make(words, entries, table, readers, publishers, slots, version)
+        Ok(Kind::Rest) => {
+            shared_calls::make::<QsbrScheme>(
+                words, entries, table, readers, publishers, slots, version,
+            )
         }
-        _ => Reply::Refused(DAMAGED),
+        Err(_) => Refusal::Damaged.into(),
     }
 }
 
@@ -48,15 +65,10 @@ pub fn enter(words: &mut [u64], entries: &[Pitch], r: u16) -> Reply
     ensures { outcome result (state words.new entries.now)
         ≡ any_step (state words.old entries.now) (Enter r) }
 {
-    if words.len() != WORDS {
-        return Reply::Refused(DAMAGED);
-    }
-    let kind = kind_of(words);
-    match kind {
-        KIND_NEW => grace_version_readers::enter(words, entries, r),
-        KIND_OLD => two_phase_readers::enter(words, entries, r),
-        KIND_REST => Reply::Refused(DAMAGED),
-        _ => Reply::Refused(DAMAGED),
+    match kind_of(words) {
+        Some(Kind::New) => grace_version_readers::enter(words, entries, r),
+        Some(Kind::Old) => two_phase_readers::enter(words, entries, r),
+        Some(Kind::Rest) | None => Refusal::Damaged.into(),
     }
 }
 
@@ -65,15 +77,11 @@ pub fn look(words: &[u64], entries: &[Pitch], r: u16, k: u16) -> Reply
     ensures { outcome result (state words.now entries.now)
         ≡ any_step (state words.now entries.now) (Look r k) }
 {
-    if words.len() != WORDS {
-        return Reply::Refused(DAMAGED);
-    }
-    let kind = kind_of(words);
-    match kind {
-        KIND_NEW => grace_version_readers::look(words, entries, r, k),
-        KIND_OLD => two_phase_readers::look(words, entries, r, k),
-        KIND_REST => qsbr_readers::look(words, entries, r, k),
-        _ => Reply::Refused(DAMAGED),
+    match kind_of(words) {
+        Some(Kind::New) => shared_calls::look::<GraceVersionScheme>(words, entries, r, k),
+        Some(Kind::Old) => shared_calls::look::<TwoPhaseScheme>(words, entries, r, k),
+        Some(Kind::Rest) => shared_calls::look::<QsbrScheme>(words, entries, r, k),
+        None => Refusal::Damaged.into(),
     }
 }
 
@@ -82,15 +90,10 @@ pub fn leave(words: &mut [u64], entries: &[Pitch], r: u16) -> Reply
     ensures { outcome result (state words.new entries.now)
         ≡ any_step (state words.old entries.now) (Leave r) }
 {
-    if words.len() != WORDS {
-        return Reply::Refused(DAMAGED);
-    }
-    let kind = kind_of(words);
-    match kind {
-        KIND_NEW => grace_version_readers::leave(words, entries, r),
-        KIND_OLD => two_phase_readers::leave(words, entries, r),
-        KIND_REST => Reply::Refused(DAMAGED),
-        _ => Reply::Refused(DAMAGED),
+    match kind_of(words) {
+        Some(Kind::New) => grace_version_readers::leave(words, entries, r),
+        Some(Kind::Old) => two_phase_readers::leave(words, entries, r),
+        Some(Kind::Rest) | None => Refusal::Damaged.into(),
     }
 }
 
@@ -99,15 +102,11 @@ pub fn claim(words: &mut [u64], entries: &[Pitch], p: u16, slot: u16) -> Reply
     ensures { outcome result (state words.new entries.now)
         ≡ any_step (state words.old entries.now) (Claim p slot) }
 {
-    if words.len() != WORDS {
-        return Reply::Refused(DAMAGED);
-    }
-    let kind = kind_of(words);
-    match kind {
-        KIND_NEW => grace_version_publishers::claim(words, entries, p, slot),
-        KIND_OLD => two_phase_publishers::claim(words, entries, p, slot),
-        KIND_REST => qsbr_publishers::claim(words, entries, p, slot),
-        _ => Reply::Refused(DAMAGED),
+    match kind_of(words) {
+        Some(Kind::New) => shared_calls::claim::<GraceVersionScheme>(words, entries, p, slot),
+        Some(Kind::Old) => shared_calls::claim::<TwoPhaseScheme>(words, entries, p, slot),
+        Some(Kind::Rest) => shared_calls::claim::<QsbrScheme>(words, entries, p, slot),
+        None => Refusal::Damaged.into(),
     }
 }
 
@@ -116,15 +115,11 @@ pub fn write(words: &mut [u64], entries: &mut [Pitch], p: u16, v: Pitch) -> Repl
     ensures { outcome result (state words.new entries.new)
         ≡ any_step (state words.old entries.old) (Write p v) }
 {
-    if words.len() != WORDS {
-        return Reply::Refused(DAMAGED);
-    }
-    let kind = kind_of(words);
-    match kind {
-        KIND_NEW => grace_version_publishers::write(words, entries, p, v),
-        KIND_OLD => two_phase_publishers::write(words, entries, p, v),
-        KIND_REST => qsbr_publishers::write(words, entries, p, v),
-        _ => Reply::Refused(DAMAGED),
+    match kind_of(words) {
+        Some(Kind::New) => shared_calls::write::<GraceVersionScheme>(words, entries, p, v),
+        Some(Kind::Old) => shared_calls::write::<TwoPhaseScheme>(words, entries, p, v),
+        Some(Kind::Rest) => shared_calls::write::<QsbrScheme>(words, entries, p, v),
+        None => Refusal::Damaged.into(),
     }
 }
 
@@ -133,15 +128,11 @@ pub fn swap(words: &mut [u64], entries: &[Pitch], p: u16) -> Reply
     ensures { outcome result (state words.new entries.now)
         ≡ any_step (state words.old entries.now) (Swap p) }
 {
-    if words.len() != WORDS {
-        return Reply::Refused(DAMAGED);
-    }
-    let kind = kind_of(words);
-    match kind {
-        KIND_NEW => grace_version_publishers::swap(words, entries, p),
-        KIND_OLD => two_phase_publishers::swap(words, entries, p),
-        KIND_REST => qsbr_publishers::swap(words, entries, p),
-        _ => Reply::Refused(DAMAGED),
+    match kind_of(words) {
+        Some(Kind::New) => shared_calls::swap::<GraceVersionScheme>(words, entries, p),
+        Some(Kind::Old) => shared_calls::swap::<TwoPhaseScheme>(words, entries, p),
+        Some(Kind::Rest) => shared_calls::swap::<QsbrScheme>(words, entries, p),
+        None => Refusal::Damaged.into(),
     }
 }
 
@@ -150,15 +141,10 @@ pub fn sync(words: &mut [u64], entries: &[Pitch], p: u16) -> Reply
     ensures { outcome result (state words.new entries.now)
         ≡ any_step (state words.old entries.now) (Sync p) }
 {
-    if words.len() != WORDS {
-        return Reply::Refused(DAMAGED);
-    }
-    let kind = kind_of(words);
-    match kind {
-        KIND_NEW => grace_version_versions::sync(words, entries, p),
-        KIND_OLD => two_phase_versions::sync(words, entries, p),
-        KIND_REST => Reply::Refused(DAMAGED),
-        _ => Reply::Refused(DAMAGED),
+    match kind_of(words) {
+        Some(Kind::New) => shared_calls::sync::<GraceVersionScheme>(words, entries, p),
+        Some(Kind::Old) => shared_calls::sync::<TwoPhaseScheme>(words, entries, p),
+        Some(Kind::Rest) | None => Refusal::Damaged.into(),
     }
 }
 
@@ -167,15 +153,10 @@ pub fn raise(words: &mut [u64], entries: &[Pitch], p: u16) -> Reply
     ensures { outcome result (state words.new entries.now)
         ≡ any_step (state words.old entries.now) (Raise p) }
 {
-    if words.len() != WORDS {
-        return Reply::Refused(DAMAGED);
-    }
-    let kind = kind_of(words);
-    match kind {
-        KIND_NEW => grace_version_versions::raise(words, entries, p),
-        KIND_OLD => two_phase_versions::raise(words, entries, p),
-        KIND_REST => Reply::Refused(DAMAGED),
-        _ => Reply::Refused(DAMAGED),
+    match kind_of(words) {
+        Some(Kind::New) => shared_calls::raise::<GraceVersionScheme>(words, entries, p),
+        Some(Kind::Old) => shared_calls::raise::<TwoPhaseScheme>(words, entries, p),
+        Some(Kind::Rest) | None => Refusal::Damaged.into(),
     }
 }
 
@@ -184,15 +165,10 @@ pub fn walk(words: &mut [u64], entries: &[Pitch], p: u16, b: u16) -> Reply
     ensures { outcome result (state words.new entries.now)
         ≡ any_step (state words.old entries.now) (Walk p b) }
 {
-    if words.len() != WORDS {
-        return Reply::Refused(DAMAGED);
-    }
-    let kind = kind_of(words);
-    match kind {
-        KIND_NEW => grace_version_walk::walk(words, entries, p, b),
-        KIND_OLD => two_phase_walk::walk(words, entries, p, b),
-        KIND_REST => Reply::Refused(DAMAGED),
-        _ => Reply::Refused(DAMAGED),
+    match kind_of(words) {
+        Some(Kind::New) => grace_version_walk::walk(words, entries, p, b),
+        Some(Kind::Old) => two_phase_walk::walk(words, entries, p, b),
+        Some(Kind::Rest) | None => Refusal::Damaged.into(),
     }
 }
 
@@ -201,15 +177,10 @@ pub fn release(words: &mut [u64], entries: &[Pitch], p: u16) -> Reply
     ensures { outcome result (state words.new entries.now)
         ≡ any_step (state words.old entries.now) (Release p) }
 {
-    if words.len() != WORDS {
-        return Reply::Refused(DAMAGED);
-    }
-    let kind = kind_of(words);
-    match kind {
-        KIND_NEW => grace_version_publishers::release(words, entries, p),
-        KIND_OLD => two_phase_publishers::release(words, entries, p),
-        KIND_REST => Reply::Refused(DAMAGED),
-        _ => Reply::Refused(DAMAGED),
+    match kind_of(words) {
+        Some(Kind::New) => shared_calls::release::<GraceVersionScheme>(words, entries, p),
+        Some(Kind::Old) => shared_calls::release::<TwoPhaseScheme>(words, entries, p),
+        Some(Kind::Rest) | None => Refusal::Damaged.into(),
     }
 }
 
@@ -218,15 +189,9 @@ pub fn pick(words: &mut [u64], entries: &[Pitch], r: u16) -> Reply
     ensures { outcome result (state words.new entries.now)
         ≡ any_step (state words.old entries.now) (Pick r) }
 {
-    if words.len() != WORDS {
-        return Reply::Refused(DAMAGED);
-    }
-    let kind = kind_of(words);
-    match kind {
-        KIND_NEW => Reply::Refused(DAMAGED),
-        KIND_OLD => Reply::Refused(DAMAGED),
-        KIND_REST => qsbr_readers::pick(words, entries, r),
-        _ => Reply::Refused(DAMAGED),
+    match kind_of(words) {
+        Some(Kind::Rest) => qsbr_readers::pick(words, entries, r),
+        Some(Kind::New | Kind::Old) | None => Refusal::Damaged.into(),
     }
 }
 
@@ -235,15 +200,9 @@ pub fn checkpoint(words: &mut [u64], entries: &[Pitch], r: u16) -> Reply
     ensures { outcome result (state words.new entries.now)
         ≡ any_step (state words.old entries.now) (Checkpoint r) }
 {
-    if words.len() != WORDS {
-        return Reply::Refused(DAMAGED);
-    }
-    let kind = kind_of(words);
-    match kind {
-        KIND_NEW => Reply::Refused(DAMAGED),
-        KIND_OLD => Reply::Refused(DAMAGED),
-        KIND_REST => qsbr_checkpoint::checkpoint(words, entries, r),
-        _ => Reply::Refused(DAMAGED),
+    match kind_of(words) {
+        Some(Kind::Rest) => qsbr_checkpoint::checkpoint(words, entries, r),
+        Some(Kind::New | Kind::Old) | None => Refusal::Damaged.into(),
     }
 }
 
@@ -252,15 +211,9 @@ pub fn defer(words: &mut [u64], entries: &[Pitch], p: u16) -> Reply
     ensures { outcome result (state words.new entries.now)
         ≡ any_step (state words.old entries.now) (Defer p) }
 {
-    if words.len() != WORDS {
-        return Reply::Refused(DAMAGED);
-    }
-    let kind = kind_of(words);
-    match kind {
-        KIND_NEW => Reply::Refused(DAMAGED),
-        KIND_OLD => Reply::Refused(DAMAGED),
-        KIND_REST => qsbr_deferral::defer(words, entries, p),
-        _ => Reply::Refused(DAMAGED),
+    match kind_of(words) {
+        Some(Kind::Rest) => qsbr_deferral::defer(words, entries, p),
+        Some(Kind::New | Kind::Old) | None => Refusal::Damaged.into(),
     }
 }
 

@@ -2,28 +2,29 @@
 // It is total, and its contract is the step of qsbr_law.
 #![tactic(auto)]
 
-ghost use Rattle.std.specs.Prelude.{◌≡◌, List, ◌+◌, ◌-◌, ◌<◌, ◌≤◌, ℤ, length, eqb};
+ghost use Rattle.std.specs.Prelude.{◌≡◌, List, ◌+◌, ◌-◌, ◌<◌, ◌≤◌, ℤ, eqb};
 ghost use Rattle.base.specs.Base.{choose};
 ghost use Rattle.calls.specs.declared.Call.TheVariants.{Checkpoint};
 ghost use Rattle.calls.specs.declared.Reply.TheVariants.{At};
 ghost use Rattle.calls.specs.Numbers.{publishers_max, deferred_max};
-ghost use Rattle.layout.specs.Layout.{words_length, reader_at, retirement_at};
+ghost use Rattle.layout.specs.Layout.{reader_at, retirement_at};
 ghost use Rattle.layout.specs.Records.{◌second≔◌};
 ghost use Rattle.statement.specs.Machine.{state, outcome};
 ghost use Rattle.publication_law.specs.Table.{step};
 ghost use Rattle.qsbr_law.specs.Steps.{load, observe, least_of, read, stay, staying, read_last, rules};
 ghost use Rattle.qsbr_law.specs.Calls.{freed};
 
-use calls::{DAMAGED, NO_SUCH_READER, PLACE_DEFERRING, PLACE_OUT, Pitch, READER_TURN, Reply};
+use calls::{PLACE_DEFERRING, PLACE_OUT, Pitch, Refusal, Reply};
 use layout::{
-    Reader, Retirement, publisher_place, publishers_of, put_reader, put_retired, put_retirement,
-    reader_at, readers_of, retired_at, retirement_at, slots_of, version_of,
+    Reader, Retirement, WORDS, Words, publisher_place, put_reader, put_retired, put_retirement,
+    reader_at, readers_of, retired_at, retirement_at, version_of,
 };
-use qsbr_damage::{head_is_damaged, participants_are_damaged};
+use qsbr_damage::QsbrScheme;
+use schemes::Scheme;
 
 // Step 1: drops the pick and loads the epoch. Each step answers its number.
-fn load_epoch(words: &mut [u64], r: usize) -> u64
-    requires { (length words.old ≡ words_length) × (r < publishers_max) }
+fn load_epoch(words: &mut Words, r: usize) -> u64
+    requires { r < publishers_max }
     ensures { (es : List ℤ) → outcome (At result) (state words.new es) ≡ load (state words.old es) r }
 {
     let mut x = reader_at(words, r);
@@ -37,8 +38,8 @@ fn load_epoch(words: &mut [u64], r: usize) -> u64
 }
 
 // Step 2: stores it as observed.
-fn observe_epoch(words: &mut [u64], r: usize) -> u64
-    requires { (length words.old ≡ words_length) × (r < publishers_max) }
+fn observe_epoch(words: &mut Words, r: usize) -> u64
+    requires { r < publishers_max }
     ensures { (es : List ℤ) → outcome (At result) (state words.new es) ≡ observe (state words.old es) r }
 {
     let mut x = reader_at(words, r);
@@ -64,8 +65,8 @@ fn least_of(step: u64, read: u64, least: u64) -> u64
 }
 
 // Reader r, once its checkpoint has read the next participant.
-fn reader_after(words: &[u64], r: usize, step: u64) -> Reader
-    requires { (length words.now ≡ words_length) × (r < publishers_max) × (2 ≤ step) × (step ≤ publishers_max + 1) }
+fn reader_after(words: &Words, r: usize, step: u64) -> Reader
+    requires { (r < publishers_max) × (2 ≤ step) × (step ≤ publishers_max + 1) }
     ensures { let w = words.now in
         result ≡ (reader_at w r second≔ least_of step (reader_at w (step - 2)).published (reader_at w r).second) }
 {
@@ -76,9 +77,9 @@ fn reader_after(words: &[u64], r: usize, step: u64) -> Reader
     x
 }
 
-// Of the first n retired slots of p those whose mark is at most the least are freed; the others move down. Answers how many stay.
-fn free_due(words: &mut [u64], p: usize, n: u64, least: u64) -> u64
-    requires { (length words.old ≡ words_length) × (p < publishers_max) × (n ≤ deferred_max) }
+// Of the first n retired slots of p those whose mark is at most the least are freed; the others move down. Answers how many stay. By number: a retired slot is two words of the store, and no slice holds them as records.
+fn free_due(words: &mut Words, p: usize, n: u64, least: u64) -> u64
+    requires { (p < publishers_max) × (n ≤ deferred_max) }
     ensures { stay words.new result ≡ staying p least n 0 0 words.old }
 {
     let mut kept: u64 = 0;
@@ -93,8 +94,8 @@ fn free_due(words: &mut [u64], p: usize, n: u64, least: u64) -> u64
 }
 
 // After the last read: what is due is freed, and r is outside again. Most checkpoints have nothing deferred.
-fn end_checkpoint(words: &mut [u64], r: usize, count: u64, least: u64)
-    requires { (length words.old ≡ words_length) × (r < publishers_max) × (count ≤ deferred_max) }
+fn end_checkpoint(words: &mut Words, r: usize, count: u64, least: u64)
+    requires { (r < publishers_max) × (count ≤ deferred_max) }
     ensures { words.new ≡ freed words.old r count least }
 {
     if count == 0 {
@@ -113,8 +114,8 @@ fn end_checkpoint(words: &mut [u64], r: usize, count: u64, least: u64)
 }
 
 // A later step, of n participants: it reads the next one; the last step also frees.
-fn read_epoch(words: &mut [u64], r: usize, step: u64, n: u64) -> u64
-    requires { (length words.old ≡ words_length) × (r < publishers_max) × (n ≤ publishers_max)
+fn read_epoch(words: &mut Words, r: usize, step: u64, n: u64) -> u64
+    requires { (r < publishers_max) × (n ≤ publishers_max)
         × (step ≡ (retirement_at words.old r).step) × (2 ≤ step) × (step ≤ publishers_max + 1)
         × ((retirement_at words.old r).count ≤ deferred_max) }
     ensures { (es : List ℤ) → let s = state words.old es in
@@ -137,18 +138,19 @@ pub fn checkpoint(words: &mut [u64], entries: &[Pitch], r: u16) -> Reply
     ensures { outcome result (state words.new entries.now)
         ≡ step rules (state words.old entries.now) (Checkpoint r) }
 {
-    if head_is_damaged(words, entries.len())
-        || participants_are_damaged(words, publishers_of(words), slots_of(words))
-    {
-        return Reply::Refused(DAMAGED);
+    let Some(words) = words.as_mut_array::<WORDS>() else {
+        return Refusal::Damaged.into();
+    };
+    if QsbrScheme::is_damaged(words, entries.len()) {
+        return Refusal::Damaged.into();
     }
     let n = readers_of(words);
     if r as u64 >= n {
-        return Reply::Refused(NO_SUCH_READER);
+        return Refusal::NoSuchReader.into();
     }
     let at = r as usize;
     if publisher_place(words, at) == PLACE_DEFERRING {
-        return Reply::Refused(READER_TURN);
+        return Refusal::ReaderTurn.into();
     }
     let t = retirement_at(words, at);
     let step = t.step;

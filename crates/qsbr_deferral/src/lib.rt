@@ -2,28 +2,28 @@
 // It is total, and its contract is the step of qsbr_law.
 #![tactic(auto)]
 
-ghost use Rattle.std.specs.Prelude.{◌≡◌, List, ◌<◌, ℤ, length};
+ghost use Rattle.std.specs.Prelude.{◌≡◌, List, ◌<◌, ℤ};
 ghost use Rattle.calls.specs.declared.Call.TheVariants.{Defer};
 ghost use Rattle.calls.specs.Numbers.{publishers_max, deferred_max};
-ghost use Rattle.layout.specs.Layout.{words_length, version, retirement_at};
+ghost use Rattle.layout.specs.Layout.{version, retirement_at};
 ghost use Rattle.statement.specs.Machine.{state, outcome};
 ghost use Rattle.publication_law.specs.Table.{step};
 ghost use Rattle.qsbr_law.specs.Steps.{last_version, raise_epoch, queue, rules};
 
 use calls::{
-    DAMAGED, DEFERRED_MAX, EPOCH_IS_LAST, NO_SUCH_PUBLISHER, PLACE_DEFERRING, PLACE_IDLE,
-    PLACE_OUT, PUBLISHER_TURN, Pitch, Reply, TOO_MANY_DEFERRED,
+    DEFERRED_MAX, PLACE_DEFERRING, PLACE_IDLE, PLACE_OUT, PLACE_SWAPPED, Pitch, Refusal, Reply,
 };
 use layout::{
-    Retired, publisher_at, publisher_place, publishers_of, put_publisher, put_reader, put_retired,
-    put_retirement, put_version, reader_at, retirement_at, slots_of, version_of,
+    Retired, WORDS, Words, publisher_at, publisher_place, publishers_of, put_publisher, put_reader,
+    put_retired, put_retirement, put_version, reader_at, retirement_at, version_of,
 };
-use qsbr_damage::{head_is_damaged, participants_are_damaged};
+use qsbr_damage::QsbrScheme;
 use qsbr_law::LAST;
+use schemes::Scheme;
 
 // At 34: drops the pick and raises the epoch; the raised one is the mark.
-fn raise_epoch(words: &mut [u64], p: usize) -> Reply
-    requires { (length words.old ≡ words_length) × (p < publishers_max) × (version words.old < last_version) }
+fn raise_epoch(words: &mut Words, p: usize) -> Reply
+    requires { (p < publishers_max) × (version words.old < last_version) }
     ensures { (es : List ℤ) → outcome result (state words.new es) ≡ raise_epoch (state words.old es) p }
 {
     let mut x = reader_at(words, p);
@@ -40,8 +40,8 @@ fn raise_epoch(words: &mut [u64], p: usize) -> Reply
 }
 
 // At 35: observes the mark, and queues the held slot with it.
-fn queue_slot(words: &mut [u64], p: usize) -> Reply
-    requires { (length words.old ≡ words_length) × (p < publishers_max) × ((retirement_at words.old p).count < deferred_max) }
+fn queue_slot(words: &mut Words, p: usize) -> Reply
+    requires { (p < publishers_max) × ((retirement_at words.old p).count < deferred_max) }
     ensures { (es : List ℤ) → outcome result (state words.new es) ≡ queue (state words.old es) p }
 {
     let mut x = reader_at(words, p);
@@ -49,10 +49,7 @@ fn queue_slot(words: &mut [u64], p: usize) -> Reply
     let mut t = retirement_at(words, p);
     let mark = y.walk.mark;
     let count = t.count;
-    let d = Retired {
-        slot: y.held,
-        mark: mark,
-    };
+    let d = Retired { slot: y.held, mark };
     x.published = mark;
     y.place = PLACE_IDLE;
     t.count = count + 1;
@@ -68,31 +65,32 @@ pub fn defer(words: &mut [u64], entries: &[Pitch], p: u16) -> Reply
     ensures { outcome result (state words.new entries.now)
         ≡ step rules (state words.old entries.now) (Defer p) }
 {
-    if head_is_damaged(words, entries.len())
-        || participants_are_damaged(words, publishers_of(words), slots_of(words))
-    {
-        return Reply::Refused(DAMAGED);
+    let Some(words) = words.as_mut_array::<WORDS>() else {
+        return Refusal::Damaged.into();
+    };
+    if QsbrScheme::is_damaged(words, entries.len()) {
+        return Refusal::Damaged.into();
     }
     if p as u64 >= publishers_of(words) {
-        return Reply::Refused(NO_SUCH_PUBLISHER);
+        return Refusal::NoSuchPublisher.into();
     }
     let at = p as usize;
     let t = retirement_at(words, at);
     if t.step != 0 {
-        return Reply::Refused(PUBLISHER_TURN);
+        return Refusal::PublisherTurn.into();
     }
     let place = publisher_place(words, at);
     match place {
-        34 => {
+        PLACE_SWAPPED => {
             if version_of(words) == LAST {
-                return Reply::Refused(EPOCH_IS_LAST);
+                return Refusal::EpochIsLast.into();
             }
             if t.count == DEFERRED_MAX {
-                return Reply::Refused(TOO_MANY_DEFERRED);
+                return Refusal::TooManyDeferred.into();
             }
             raise_epoch(words, at)
         }
-        35 => queue_slot(words, at),
-        _ => Reply::Refused(PUBLISHER_TURN),
+        PLACE_DEFERRING => queue_slot(words, at),
+        _ => Refusal::PublisherTurn.into(),
     }
 }

@@ -7,17 +7,13 @@ ghost use Rattle.std.specs.Prelude.{◌≡◌, ◌<◌, length, get_or};
 ghost use Rattle.calls.specs.ReplyNumbers.{reply_numbers, pitch_number, walk_numbers, numbers_of};
 ghost use Rattle.reply_numbers.specs.Numbers.{limits, refusals, codes, number_of};
 
-use calls::{NUMBER_MAX, Pitch, Reply, ReplyNumbers, WalkReply};
+use calls::{Pitch, Refusal, Reply, ReplyNumbers, WalkReply};
 
 // A pitch in 64 bits: v, and 2^64 + v where v is negative.
 fn pitch_number(v: Pitch) -> u64
     ensures { result ≡ pitch_number v }
 {
-    let w = v as i64;
-    if w >= 0 {
-        return w as u64;
-    }
-    NUMBER_MAX - (-1 - w) as u64
+    i64::from(v).cast_unsigned()
 }
 
 // Three numbers.
@@ -25,9 +21,9 @@ fn reply_numbers(code: u64, first: u64, second: u64) -> ReplyNumbers
     ensures { result ≡ reply_numbers code first second }
 {
     ReplyNumbers {
-        code: code,
-        first: first,
-        second: second,
+        code,
+        first,
+        second,
     }
 }
 
@@ -117,28 +113,28 @@ fn refusal(which: usize) -> u64
     ensures { result ≡ get_or refusals which 0 }
 {
     let numbers: [u64; REFUSALS] = [
-        calls::DAMAGED,
-        calls::BAD_READERS,
-        calls::BAD_PUBLISHERS,
-        calls::BAD_SLOTS,
-        calls::BAD_ENTRIES,
-        calls::BAD_VERSION,
-        calls::NO_SUCH_READER,
-        calls::NO_SUCH_PUBLISHER,
-        calls::NO_SUCH_SLOT,
-        calls::NO_SUCH_ENTRY,
-        calls::BAD_PITCH,
-        calls::READER_TURN,
-        calls::PUBLISHER_TURN,
-        calls::SLOT_IN_USE,
-        calls::BUSY,
-        calls::VERSION_IS_LAST,
-        calls::TOO_MANY_LOOKS,
-        calls::BAD_TABLE_LENGTH,
-        calls::BAD_TABLE_PITCH,
-        calls::BAD_TABLE_STEP,
-        calls::EPOCH_IS_LAST,
-        calls::TOO_MANY_DEFERRED,
+        Refusal::Damaged as u64,
+        Refusal::BadReaders as u64,
+        Refusal::BadPublishers as u64,
+        Refusal::BadSlots as u64,
+        Refusal::BadEntries as u64,
+        Refusal::BadVersion as u64,
+        Refusal::NoSuchReader as u64,
+        Refusal::NoSuchPublisher as u64,
+        Refusal::NoSuchSlot as u64,
+        Refusal::NoSuchEntry as u64,
+        Refusal::BadPitch as u64,
+        Refusal::ReaderTurn as u64,
+        Refusal::PublisherTurn as u64,
+        Refusal::SlotInUse as u64,
+        Refusal::Busy as u64,
+        Refusal::VersionIsLast as u64,
+        Refusal::TooManyLooks as u64,
+        Refusal::BadTableLength as u64,
+        Refusal::BadTablePitch as u64,
+        Refusal::BadTableStep as u64,
+        Refusal::EpochIsLast as u64,
+        Refusal::TooManyDeferred as u64,
     ];
     numbers[which]
 }

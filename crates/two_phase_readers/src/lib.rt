@@ -1,23 +1,21 @@
-// ENTER, LOOK and LEAVE of the old store, in place on the lent words.
+// ENTER and LEAVE of the old store, in place on the lent words.
 // Each is total, and its contract is the step of two_phase_law.
 #![tactic(auto)]
 
 ghost use Rattle.std.specs.Prelude.{◌≡◌, ◌<◌};
 ghost use Rattle.calls.specs.Numbers.{place_picked};
-ghost use Rattle.calls.specs.declared.Call.TheVariants.{Enter, Look, Leave};
+ghost use Rattle.calls.specs.declared.Call.TheVariants.{Enter, Leave};
 ghost use Rattle.statement.specs.Machine.{state, outcome};
 ghost use Rattle.publication_law.specs.Table.{step};
 ghost use Rattle.two_phase_law.specs.Steps.{onward, rules};
 
-use calls::{
-    DAMAGED, NO_SUCH_READER, PLACE_LOADED, PLACE_OPEN, PLACE_OUT, PLACE_PICKED, Pitch, READER_TURN,
-    Reply,
-};
+use calls::{PLACE_LOADED, PLACE_OPEN, PLACE_OUT, PLACE_PICKED, Pitch, Refusal, Reply};
 use layout::{
-    Reader, current_of, indicator_of, put_indicator, put_reader, reader_at, readers_of, version_of,
+    Reader, WORDS, current_of, indicator_of, put_indicator, put_reader, reader_at, readers_of,
+    version_of,
 };
-use publication_entries::look_up;
-use two_phase_damage::{head_is_damaged, publishers_are_damaged, readers_are_damaged};
+use schemes::Scheme;
+use two_phase_damage::TwoPhaseScheme;
 
 // A reader one place on: 0 to 1, 1 to 4, 4 to 5.
 fn advanced(mut x: Reader, version: u64, current: u64) -> Reader
@@ -49,19 +47,19 @@ pub fn enter(words: &mut [u64], entries: &[Pitch], r: u16) -> Reply
     ensures { outcome result (state words.new entries.now)
         ≡ step rules (state words.old entries.now) (Enter r) }
 {
-    if head_is_damaged(words, entries.len())
-        || readers_are_damaged(words)
-        || publishers_are_damaged(words)
-    {
-        return Reply::Refused(DAMAGED);
+    let Some(words) = words.as_mut_array::<WORDS>() else {
+        return Refusal::Damaged.into();
+    };
+    if TwoPhaseScheme::is_damaged(words, entries.len()) {
+        return Refusal::Damaged.into();
     }
     if r as u64 >= readers_of(words) {
-        return Reply::Refused(NO_SUCH_READER);
+        return Refusal::NoSuchReader.into();
     }
     let at = r as usize;
     let x = reader_at(words, at);
     if x.place >= PLACE_PICKED {
-        return Reply::Refused(READER_TURN);
+        return Refusal::ReaderTurn.into();
     }
     let i = (x.first % 2) as usize;
     let count = indicator_of(words, i);
@@ -74,38 +72,24 @@ pub fn enter(words: &mut [u64], entries: &[Pitch], r: u16) -> Reply
     Reply::At(moved.place)
 }
 
-// LOOK r k (place 5): entry k of the picked slot.
-pub fn look(words: &[u64], entries: &[Pitch], r: u16, k: u16) -> Reply
-    ensures { outcome result (state words.now entries.now)
-        ≡ step rules (state words.now entries.now) (Look r k) }
-{
-    if head_is_damaged(words, entries.len())
-        || readers_are_damaged(words)
-        || publishers_are_damaged(words)
-    {
-        return Reply::Refused(DAMAGED);
-    }
-    look_up(words, entries, r, k)
-}
-
 // LEAVE r (places 4, 5): to 0, and one less in the indicator that r added to.
 pub fn leave(words: &mut [u64], entries: &[Pitch], r: u16) -> Reply
     ensures { outcome result (state words.new entries.now)
         ≡ step rules (state words.old entries.now) (Leave r) }
 {
-    if head_is_damaged(words, entries.len())
-        || readers_are_damaged(words)
-        || publishers_are_damaged(words)
-    {
-        return Reply::Refused(DAMAGED);
+    let Some(words) = words.as_mut_array::<WORDS>() else {
+        return Refusal::Damaged.into();
+    };
+    if TwoPhaseScheme::is_damaged(words, entries.len()) {
+        return Refusal::Damaged.into();
     }
     if r as u64 >= readers_of(words) {
-        return Reply::Refused(NO_SUCH_READER);
+        return Refusal::NoSuchReader.into();
     }
     let at = r as usize;
     let mut x = reader_at(words, at);
     if x.place < PLACE_OPEN {
-        return Reply::Refused(READER_TURN);
+        return Refusal::ReaderTurn.into();
     }
     let index = (x.first % 2) as usize;
     let count = indicator_of(words, index);

@@ -8,14 +8,12 @@ ghost use Rattle.statement.specs.Machine.{state, outcome};
 ghost use Rattle.publication_law.specs.Table.{step};
 ghost use Rattle.two_phase_law.specs.Steps.{looked_at, look_at, rules};
 
-use calls::{
-    DAMAGED, NO_SUCH_PUBLISHER, NUMBER_MAX, PLACE_SYNCHRONISING, PUBLISHER_TURN, Pitch, Reply,
-    TOO_MANY_LOOKS, WalkReply,
-};
-use layout::{Publisher, WalkResult, indicator_of, publisher_at, publishers_of};
+use calls::{NUMBER_MAX, PLACE_RAISED, PLACE_SYNCHRONISING, Pitch, Refusal, Reply, WalkReply};
+use layout::{Publisher, WORDS, WalkResult, indicator_of, publisher_at, publishers_of};
 use publication_grace::end_walk;
 use publication_looks::look_counted;
-use two_phase_damage::{head_is_damaged, publishers_are_damaged, readers_are_damaged};
+use schemes::Scheme;
+use two_phase_damage::TwoPhaseScheme;
 
 // The indicator that a walk looks at: at 35 that of the mark's parity, at 37 the other.
 fn looked_at(y: Publisher) -> u64
@@ -35,32 +33,27 @@ fn look(count: u64, y: Publisher, b: u16) -> WalkResult
 {
     let walk = y.walk;
     if b == 0 {
-        let reply = WalkReply::Spent;
         return WalkResult {
-            walk: walk,
-            reply: reply,
+            walk,
+            reply: WalkReply::Spent,
         };
     }
     if count != 0 {
-        let moved = look_counted(walk, 0, 1);
-        let reply = WalkReply::Waiting(looked_at(y));
         return WalkResult {
-            walk: moved,
-            reply: reply,
+            walk: look_counted(walk, 0, 1),
+            reply: WalkReply::Waiting(looked_at(y)),
         };
     }
-    let moved = look_counted(walk, 0, 0);
+    let walk = look_counted(walk, 0, 0);
     if y.place == PLACE_SYNCHRONISING {
-        let reply = WalkReply::Quiet;
         return WalkResult {
-            walk: moved,
-            reply: reply,
+            walk,
+            reply: WalkReply::Quiet,
         };
     }
-    let reply = WalkReply::Returned(moved.looks, moved.waits);
     WalkResult {
-        walk: moved,
-        reply: reply,
+        walk,
+        reply: WalkReply::Returned(walk.looks, walk.waits),
     }
 }
 
@@ -69,28 +62,26 @@ pub fn walk(words: &mut [u64], entries: &[Pitch], p: u16, b: u16) -> Reply
     ensures { outcome result (state words.new entries.now)
         ≡ step rules (state words.old entries.now) (Walk p b) }
 {
-    if head_is_damaged(words, entries.len())
-        || readers_are_damaged(words)
-        || publishers_are_damaged(words)
-    {
-        return Reply::Refused(DAMAGED);
+    let Some(words) = words.as_mut_array::<WORDS>() else {
+        return Refusal::Damaged.into();
+    };
+    if TwoPhaseScheme::is_damaged(words, entries.len()) {
+        return Refusal::Damaged.into();
     }
     if p as u64 >= publishers_of(words) {
-        return Reply::Refused(NO_SUCH_PUBLISHER);
+        return Refusal::NoSuchPublisher.into();
     }
     let at = p as usize;
     let y = publisher_at(words, at);
     let place = y.place;
     match place {
-        35 | 37 => {
-            let numbers = y.walk;
-            if numbers.looks > NUMBER_MAX - b as u64 {
-                return Reply::Refused(TOO_MANY_LOOKS);
+        PLACE_SYNCHRONISING | PLACE_RAISED => {
+            if y.walk.looks > NUMBER_MAX - b as u64 {
+                return Refusal::TooManyLooks.into();
             }
-            let i = looked_at(y);
-            let moved = look(indicator_of(words, i as usize), y, b);
-            end_walk(words, at, y, moved)
+            let count = indicator_of(words, looked_at(y) as usize);
+            end_walk(words, at, y, look(count, y, b))
         }
-        _ => Reply::Refused(PUBLISHER_TURN),
+        _ => Refusal::PublisherTurn.into(),
     }
 }

@@ -1,54 +1,28 @@
 -- `enter` meets its contract: a damaged store and a reader beyond the store's are rows of the step; the rest is `advance`. Assumes nothing.
-use native.Mathlib.Omega.{arith}
-use mathlib.Core.Path.{◌≡◌, refl, sym, ◌∙◌}
-use mathlib.Core.Bool.{true, false}
-use borrow.Author.Tests.{le-leb}
-use Rattle.statement.specs.Machine.{state}
-use Rattle.publication_law.specs.Table.{damaged, step}
-use Rattle.publication_law.proofs.Calls.{step_damaged, undamaged, damaged_head, damaged_readers, damaged_publishers}
+use Rattle.std.proofs.Common.{arith, refl, sym, ◌∙◌, le-leb}
+use Rattle.calls.specs.declared.Call.TheVariants.{Enter}
+use Rattle.publication_law.specs.Table.{step}
+use Rattle.publication_law.proofs.Calls.{step_damaged, step_wrong_length}
 use Rattle.publication_law.proofs.InBounds.{in_bounds_of}
 use Rattle.grace_version_law.specs.Steps.{rules}
 use Rattle.grace_version_law.proofs.Safety.{law}
-use Rattle.calls.specs.declared.Call.TheVariants.{Enter}
 use Rattle.grace_version_readers.proofs.enter.Goals as goal
-use Rattle.grace_version_readers.proofs.enter.Goals.{then-head_is_damaged-via-then-head_is_damaged, then-head_is_damaged-via-else-head_is_damaged+then-readers_are_damaged, then-head_is_damaged-via-else-head_is_damaged+else-readers_are_damaged+then-publishers_are_damaged}
 
 -- 1 damaged
-pub returns-then-head_is_damaged : goal.returns-then-head_is_damaged
-returns-then-head_is_damaged c = step_damaged rules _ (Enter _) ((let the_store_damaged : damaged rules (state c.args.words.now c.args.entries.now) ≡ true = let es = c.args.entries.now in
-    elim c.then-head_is_damaged.branch [
-      | then-head_is_damaged-via-then-head_is_damaged w ↦ damaged_head rules _ (sym (c.head_is_damaged.ensures es refl) ∙ w.if-head_is_damaged.true)
-      | then-head_is_damaged-via-else-head_is_damaged+then-readers_are_damaged w ↦ damaged_readers rules _ (sym (w.readers_are_damaged.ensures es) ∙ w.if-readers_are_damaged.true)
-      | then-head_is_damaged-via-else-head_is_damaged+else-readers_are_damaged+then-publishers_are_damaged w ↦ damaged_publishers rules _ (sym (w.publishers_are_damaged.ensures es) ∙ w.if-publishers_are_damaged.true)
-    ] in the_store_damaged))
+pub returns-in_default : goal.returns-in_default
+returns-in_default c = rw c.into.ensures (step_wrong_length rules _ (Enter c.args.r) c.in_default.ensures.cases)
 
-pub readers_of-requires : goal.readers_of-requires
-readers_of-requires c = (in_bounds_of rules law _ ((let the_no_damage : damaged rules (state c.args.words.now c.args.entries.now) ≡ false = let es = c.args.entries.now in
-    undamaged rules _ (sym (c.head_is_damaged.ensures es refl) ∙ c.if-head_is_damaged.false) (sym (c.readers_are_damaged.ensures es) ∙ c.if-readers_are_damaged.false) refl (sym (c.publishers_are_damaged.ensures es) ∙ c.if-publishers_are_damaged.false) in the_no_damage))).long
+pub returns-then-is_damaged : goal.returns-then-is_damaged
+returns-then-is_damaged c = rw (c.into-then-is_damaged.ensures, ← c.in-Some.ensures.cases.same) (step_damaged rules _ (Enter c.args.r) (sym (c.is_damaged.ensures _ refl) ∙ c.if-is_damaged.true))
 
 -- 10 no such reader
 pub returns-then-r-readers_of : goal.returns-then-r-readers_of
 unfolding step
-returns-then-r-readers_of c = rw (
-  (let the_no_damage : damaged rules (state c.args.words.now c.args.entries.now) ≡ false = let es = c.args.entries.now in
-      undamaged rules _ (sym (c.head_is_damaged.ensures es refl) ∙ c.if-head_is_damaged.false) (sym (c.readers_are_damaged.ensures es) ∙ c.if-readers_are_damaged.false) refl (sym (c.publishers_are_damaged.ensures es) ∙ c.if-publishers_are_damaged.false) in the_no_damage),
-  le-leb _ _ (rw c.readers_of.ensures at c.if-r-readers_of.true),
-) refl
+returns-then-r-readers_of c = rw (c.into-then-r-readers_of.ensures, ← c.in-Some.ensures.cases.same, sym (c.is_damaged.ensures c.args.entries.now refl) ∙ c.if-is_damaged.false, le-leb _ _ (rw c.readers_of.ensures at c.if-r-readers_of.true)) refl
 
 pub advance-requires : goal.advance-requires
-advance-requires c = (
-  (in_bounds_of rules law _ ((let the_no_damage : damaged rules (state c.args.words.now c.args.entries.now) ≡ false = let es = c.args.entries.now in
-      undamaged rules _ (sym (c.head_is_damaged.ensures es refl) ∙ c.if-head_is_damaged.false) (sym (c.readers_are_damaged.ensures es) ∙ c.if-readers_are_damaged.false) refl (sym (c.publishers_are_damaged.ensures es) ∙ c.if-publishers_are_damaged.false) in the_no_damage))).long,
-  rw c.readers_of.ensures at c.if-r-readers_of.false,
-  omega (
-    arith,
-    in_bounds_of rules law _ ((let the_no_damage : damaged rules (state c.args.words.now c.args.entries.now) ≡ false = let es = c.args.entries.now in
-        undamaged rules _ (sym (c.head_is_damaged.ensures es refl) ∙ c.if-head_is_damaged.false) (sym (c.readers_are_damaged.ensures es) ∙ c.if-readers_are_damaged.false) refl (sym (c.publishers_are_damaged.ensures es) ∙ c.if-publishers_are_damaged.false) in the_no_damage)),
-    c.readers_of.ensures,
-  ),
-)
+advance-requires c = (rw c.readers_of.ensures at c.if-r-readers_of.false, omega (arith, in_bounds_of rules law _ (sym (c.is_damaged.ensures c.args.entries.now refl) ∙ c.if-is_damaged.false), c.readers_of.ensures))
 
 -- what advance replies
 pub returns : goal.returns
-returns c = c.advance.ensures _ ((let the_no_damage : damaged rules (state c.args.words.now c.args.entries.now) ≡ false = let es = c.args.entries.now in
-    undamaged rules _ (sym (c.head_is_damaged.ensures es refl) ∙ c.if-head_is_damaged.false) (sym (c.readers_are_damaged.ensures es) ∙ c.if-readers_are_damaged.false) refl (sym (c.publishers_are_damaged.ensures es) ∙ c.if-publishers_are_damaged.false) in the_no_damage))
+returns c = rw (← c.in-Some.ensures.cases.same) (c.advance.ensures _ (sym (c.is_damaged.ensures c.args.entries.now refl) ∙ c.if-is_damaged.false))

@@ -9,19 +9,18 @@ use Rattle.qsbr_checkpoint.proofs.free_due.Goals as goal
 use Rattle.qsbr_checkpoint.proofs.free_due.Goals.{then-d-least, else-d-least}
 
 pub loop-i-init : goal.loop-i-init
-loop-i-init c = let e : c.args.n - 0 ≡ c.args.n = omega arith in (search rules, search rules, c.requires.0, rw e refl)
+loop-i-init c = let e : c.args.n - 0 ≡ c.args.n = omega arith in (omega arith, search rules, rw e refl)
 
 pub loop-i-preserved : goal.loop-i-preserved
 loop-i-preserved c = let k = c.loop-i in let e = c.retired_at-d.ensures in
     elim c.if-d-least.branch [
       | then-d-least w ↦ rw (w.words-is, w.kept-is) (
-        search rules,
         omega arith,
-        rw w.put_retired.ensures (length_retired k.words c.args.p k.kept c.retired_at-d.result ∙ k.invariant.2),
-        k.invariant.3 ∙ stays_moved _ _ _ _ _ _ (omega arith) (rw e at w.if-d-least.true) ∙ rw (w.put_retired.ensures, e) refl,
+        rw w.put_retired.ensures (length_retired k.words c.args.p k.kept c.retired_at-d.result ∙ k.invariant.1),
+        k.invariant.2 ∙ stays_moved _ _ _ _ _ _ (omega arith) (rw e at w.if-d-least.true) ∙ rw (w.put_retired.ensures, e) refl,
       )
-      | else-d-least w ↦ rw (w.words-is, w.kept-is) (search rules, omega arith, k.invariant.2, k.invariant.3 ∙ stays_freed _ _ _ _ _ _ (omega arith) (rw e at w.if-d-least.false))
+      | else-d-least w ↦ rw (w.words-is, w.kept-is) (omega arith, k.invariant.1, k.invariant.2 ∙ stays_freed _ _ _ _ _ _ (omega arith) (rw e at w.if-d-least.false))
     ]
 
 pub returns : goal.returns
-returns c = let k = c.loop-i in sym (k.invariant.3 ∙ stays_none _ _ _ _ _ _ (omega arith))
+returns c = let k = c.loop-i in sym (k.invariant.2 ∙ stays_none _ _ _ _ _ _ (omega arith))

@@ -7,7 +7,4 @@ use Rattle.qsbr_law.specs.Steps.{staying}
 use Rattle.qsbr_checkpoint.proofs.free_due.Given as goal
 
 abbrev pub invariant-loop-i : goal.invariant-loop-i
-invariant-loop-i l = (l.i ≤ l.n) × (l.kept ≤ l.i) × (length l.words ≡ words_length) × (staying l.p l.least l.n 0 0 l.initial.words ≡ staying l.p l.least (l.n - l.i) l.i l.kept l.words)
-
-abbrev pub decreases-loop-i : goal.decreases-loop-i
-decreases-loop-i l = l.n - l.i
+invariant-loop-i l = (l.kept ≤ l.i) × (length l.words ≡ words_length) × (staying l.p l.least l.n 0 0 l.initial.words ≡ staying l.p l.least (l.n - l.i) l.i l.kept l.words)

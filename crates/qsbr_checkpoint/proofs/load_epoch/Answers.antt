@@ -4,4 +4,4 @@ use Rattle.qsbr_law.proofs.Calls.{load_is}
 use Rattle.qsbr_checkpoint.proofs.load_epoch.Goals as goal
 
 pub returns : goal.returns
-returns c = load_is _ _ _ _ _ c.requires.1 (rw c.put_reader.ensures at c.retirement_at-t.ensures) _ _ c.reader_at-x.ensures c.version_of.ensures refl (rw c.put_reader.ensures at c.put_retirement.ensures)
+returns c = load_is _ _ _ _ _ c.requires (rw c.put_reader.ensures at c.retirement_at-t.ensures) _ _ c.reader_at-x.ensures c.version_of.ensures refl (rw c.put_reader.ensures at c.put_retirement.ensures)

@@ -4,4 +4,4 @@ use Rattle.qsbr_law.proofs.Calls.{observe_is}
 use Rattle.qsbr_checkpoint.proofs.observe_epoch.Goals as goal
 
 pub returns : goal.returns
-returns c = observe_is _ _ _ _ _ c.requires.1 (rw c.put_reader.ensures at c.retirement_at-t.ensures) _ c.reader_at-x.ensures refl (rw c.put_reader.ensures at c.put_retirement.ensures)
+returns c = observe_is _ _ _ _ _ c.requires (rw c.put_reader.ensures at c.retirement_at-t.ensures) _ c.reader_at-x.ensures refl (rw c.put_reader.ensures at c.put_retirement.ensures)

@@ -1,21 +1,19 @@
--- `participants_are_damaged` meets its contract: words of another length and a number of participants out of range are damaged, else the pass decides. Assumes nothing.
-use mathlib.Core.Path.{sym, ◌∙◌}
-use Rattle.calls.specs.Numbers.{publishers_max}
-use Rattle.base.specs.RowLaws.{within}
-use Rattle.qsbr_law.proofs.Calls.{wrong_length, wrong_number, participants_decide}
+-- `participants_are_damaged` meets its contract: the loop has found no damaged participant before p. Assumes nothing.
+use Rattle.std.proofs.Common.{arith, ◌≡◌, sym, ◌∙◌}
+use Rattle.base.specs.RowLaws.{some_below, none_first, none_more}
+use Rattle.layout.specs.Layout.{publishers}
 use Rattle.qsbr_damage.proofs.participants_are_damaged.Goals as goal
 
--- true: the number of words
-pub returns-then-words-ne-WORDS : goal.returns-then-words-ne-WORDS
-returns-then-words-ne-WORDS c = let a = c.args in sym (wrong_length a.words.now a.n a.slots c.if-words-ne-WORDS.true)
+pub loop-p-init : goal.loop-p-init
+loop-p-init c = none_first _
 
--- true: the number of participants
-pub returns-then-n : goal.returns-then-n
-returns-then-n c = let a = c.args in sym (wrong_number a.words.now a.n a.slots c.if-n.true)
+-- true: participant p is damaged
+pub returns-then-participant_fails : goal.returns-then-participant_fails
+returns-then-participant_fails c = sym (some_below _ _ _ (rw c.publishers_of-n.ensures at c.loop-p-test.true) (rw (c.publishers_of-n.ensures, c.slots_of-slots.ensures) at (sym c.participant_fails.ensures ∙ c.if-participant_fails.true)))
 
-pub first_participants_damaged-requires : goal.first_participants_damaged-requires
-first_participants_damaged-requires c = (c.if-words-ne-WORDS.false, (within 1 publishers_max _ c.if-n.false).1)
+pub loop-p-preserved : goal.loop-p-preserved
+loop-p-preserved c = none_more _ _ c.loop-p.invariant (rw (c.publishers_of-n.ensures, c.slots_of-slots.ensures) at (sym c.participant_fails.ensures ∙ c.if-participant_fails.false))
 
--- whether one of them damages the store
+-- false: none is
 pub returns : goal.returns
-returns c = let a = c.args in c.first_participants_damaged.ensures ∙ sym (participants_decide a.words.now a.n a.slots c.if-words-ne-WORDS.false c.if-n.false)
+returns c = let e : c.loop-p.p ≡ publishers c.args.words.now = omega (arith, c.publishers_of-n.ensures) in sym (rw e at c.loop-p.invariant)

@@ -8,7 +8,7 @@ pub overflow_add-t : goal.overflow_add-t
 overflow_add-t c = rw c.retirement_at-t.ensures (omega (arith, c.requires))
 
 pub put_retired-requires : goal.put_retired-requires
-put_retired-requires c = rw c.retirement_at-t.ensures (search rules, c.requires.1, c.requires.2)
+put_retired-requires c = rw c.retirement_at-t.ensures (c.requires.0, c.requires.1)
 
 pub returns : goal.returns
 returns c = queue_is _ _ _ _ _ c.reader_at-x.ensures c.publisher_at-y.ensures _ c.retirement_at-t.ensures (rw (c.put_retired.ensures, c.put_publisher.ensures, c.put_reader.ensures) at c.put_retirement.ensures)

@@ -1,21 +1,35 @@
--- `readers_are_damaged` meets its contract: length and count first, then the scan. Assumes nothing.
-use native.Mathlib.Omega.{arith}
-use mathlib.Core.Path.{refl}
-use borrow.Author.Tests.{eq-eqb, ne_eqb}
-use Rattle.base.specs.RowLaws.{within}
+-- `readers_are_damaged` meets its contract: the loop has found no damaged reader before r, and has counted those before r by parity. Assumes nothing.
+use Rattle.std.proofs.Common.{arith, ◌≡◌, ◌<◌, ◌%◌, refl, sym, ◌∙◌}
+use Rattle.base.specs.RowLaws.{some_below, none_first, none_more, or_left}
+use Rattle.layout.specs.Layout.{readers, slots, reader_at}
+use Rattle.two_phase_law.specs.Calls.{InSection}
+use Rattle.two_phase_law.proofs.Calls.{counts_none, counts_out, counts_in, counts_most, picked_right, picked_wrong, not_picked, outside_fits, no_reader_place}
 use Rattle.two_phase_damage.proofs.readers_are_damaged.Goals as goal
+use Rattle.two_phase_damage.proofs.readers_are_damaged.Goals.{then-place-eq-PLACE_PICKED+else-reader_at-slots, else-place-eq-PLACE_PICKED+else-place-lt-PLACE_PUBLISHED+else-place-ne-PLACE_OPEN}
 
--- true: the number of words
-pub returns-then-words-ne-WORDS : goal.returns-then-words-ne-WORDS
-returns-then-words-ne-WORDS c = λ es. rw (ne_eqb _ _ c.if-words-ne-WORDS.true) refl
+pub loop-r-init : goal.loop-r-init
+loop-r-init c = (none_first _, counts_none _)
 
--- true: the number of readers
-pub returns-then-readers : goal.returns-then-readers
-returns-then-readers c = λ es. rw (eq-eqb _ _ c.if-words-ne-WORDS.false, rw c.readers_of-readers.ensures at c.if-readers.true) refl
+pub overflow_add-counts : goal.overflow_add-counts
+overflow_add-counts c = let k = c.loop-r in rw k.invariant.1 (omega (arith, counts_most c.args.words.now k.r (c.reader_at-x.result.first % 2), c.requires, c.readers_of-r-end.ensures))
 
-pub first_readers_damaged-requires : goal.first_readers_damaged-requires
-first_readers_damaged-requires c = omega (arith, within 1 64 c.readers_of-readers.result c.if-readers.false)
+pub returns-then-reader_at-slots : goal.returns-then-reader_at-slots
+returns-then-reader_at-slots c = let w = c.args.words.now in λ es. sym (or_left _ _ (some_below _ _ _ (rw c.readers_of-r-end.ensures at c.loop-r-test.true) (picked_wrong (slots w) (reader_at w c.loop-r.r) (rw c.reader_place-place.ensures at c.if-place-eq-PLACE_PICKED.true) (rw (c.reader_at.ensures, c.slots_of-slots.ensures) at c.if-reader_at-slots.true))))
 
--- what first_readers_damaged says
+pub loop-r-preserved-then-place-lt-PLACE_PUBLISHED : goal.loop-r-preserved-then-place-lt-PLACE_PUBLISHED
+loop-r-preserved-then-place-lt-PLACE_PUBLISHED c = let k = c.loop-r in let w = c.args.words.now in let out : (reader_at w k.r).place < 2 = omega arith in
+    (none_more _ _ k.invariant.0 (outside_fits (slots w) (reader_at w k.r) out), k.invariant.1 ∙ counts_out w k.r (omega (arith, out)))
+
+pub loop-r-preserved : goal.loop-r-preserved
+loop-r-preserved c = let k = c.loop-r in let w = c.args.words.now in let ss = slots w in
+    let x : InSection ss (reader_at w k.r) = elim c.if-place-eq-PLACE_PICKED.branch [
+      | then-place-eq-PLACE_PICKED+else-reader_at-slots v ↦ picked_right ss (reader_at w k.r) (rw c.reader_place-place.ensures at v.if-place-eq-PLACE_PICKED.true) (rw (v.reader_at.ensures, c.slots_of-slots.ensures) at v.if-reader_at-slots.false)
+      | else-place-eq-PLACE_PICKED+else-place-lt-PLACE_PUBLISHED+else-place-ne-PLACE_OPEN v ↦ not_picked ss (reader_at w k.r) (rw c.reader_place-place.ensures at v.if-place-ne-PLACE_OPEN.false)
+    ] in
+    (none_more _ _ k.invariant.0 x.fits, rw (k.invariant.1, c.reader_at-x.ensures) (counts_in w k.r ((reader_at w k.r).first % 2) x.arrived refl))
+
+pub returns-then-place-ne-PLACE_OPEN : goal.returns-then-place-ne-PLACE_OPEN
+returns-then-place-ne-PLACE_OPEN c = let w = c.args.words.now in λ es. sym (or_left _ _ (some_below _ _ _ (rw c.readers_of-r-end.ensures at c.loop-r-test.true) (no_reader_place (slots w) (reader_at w c.loop-r.r) (λ e. omega arith) (omega arith) (λ e. omega arith))))
+
 pub returns : goal.returns
-returns c = λ es. rw (eq-eqb _ _ c.if-words-ne-WORDS.false, rw c.readers_of-readers.ensures at c.if-readers.false) (rw (c.readers_of-readers.ensures, c.slots_of.ensures) at c.first_readers_damaged.ensures)
+returns c = let k = c.loop-r in let e : k.r ≡ readers c.args.words.now = omega (arith, k.auto, c.loop-r-test.false, c.readers_of-r-end.ensures) in λ es. rw (c.indicator_of.ensures, c.indicator_of-2.ensures, k.invariant.1, e, rw e at k.invariant.0) refl
