@@ -10,8 +10,9 @@ ghost use Rattle.base.specs.Rows.{any_true};
 ghost use Rattle.base.specs.RowLaws.{clash};
 ghost use Rattle.calls.specs.declared.Call.TheVariants.{Look, Claim, Write, Swap, Sync, Raise, Release};
 ghost use Rattle.calls.specs.Numbers.{readers_max, publishers_max, not_reading, kind_new, place_synchronising};
-ghost use Rattle.layout.specs.Layout.{readers, publishers, slots, version, reader_at, publisher_at};
+ghost use Rattle.layout.specs.Layout.{publishers, version, reader_at, publisher_at};
 ghost use Rattle.statement.specs.Machine.{state, given};
+ghost use Rattle.publication_law.specs.Damage.{head_rows, readers_are_damaged, publishers_are_damaged};
 ghost use Rattle.publication_law.specs.KindLaw.{up_to_mark_low};
 ghost use Rattle.publication_law.proofs.Calls.{step_undamaged, last_is, mark_is, making_is};
 ghost use Rattle.publication_law.proofs.InBounds.{in_bounds_of, entries_of, version_low, mark_fits_of};
@@ -20,12 +21,12 @@ ghost use Rattle.grace_version_law.proofs.Safety.{law};
 
 use calls::{
     KIND_NEW, NOT_READING, PLACE_IDLE, PLACE_PICKED, PLACE_QUIET, PLACE_RETURNED,
-    PLACE_SYNCHRONISING,
+    PLACE_SYNCHRONISING, PUBLISHERS_MAX, READERS_MAX,
 };
 use grace_version_law::LAST;
 use layout::{
-    Words, publisher_at, publisher_place, publishers_of, reader_at, reader_place, readers_of,
-    slots_of,
+    WORDS, Words, publisher_at, publisher_place, publishers_of, reader_at, reader_place,
+    readers_of, slots_of,
 };
 use publication_damage::head_damaged_of_kind;
 use schemes::{MakingScheme, Scheme, SectionScheme};
@@ -51,14 +52,13 @@ fn reader_damaged(words: &Words, r: usize, slots: u64) -> bool
     false
 }
 
-// Whether a reader of the store is damaged.
-fn readers_are_damaged(words: &Words) -> bool
-    requires { readers words.now ≤ readers_max }
-    ensures { let w = words.now in
-        result ≡ list_any (λ r. damage_rules.reader_damaged (readers w) (slots w) (reader_at w r)) (range_with_len 0 (readers w)) }
+// Whether one of the first n readers is damaged.
+fn first_readers_damaged(words: &Words, n: u64, slots: u64) -> bool
+    requires { n ≤ readers_max }
+    ensures { result
+        ≡ list_any (λ r. damage_rules.reader_damaged n slots (reader_at words.now r)) (range_with_len 0 n) }
 {
-    let slots = slots_of(words);
-    (0..readers_of(words)).any(|r| reader_damaged(words, r as usize, slots))
+    (0..n).any(|r| reader_damaged(words, r as usize, slots))
 }
 
 // Whether publisher p is damaged.
@@ -93,15 +93,49 @@ fn publisher_damaged(words: &Words, p: usize, readers: u64, slots: u64) -> bool
     walk.next >= readers
 }
 
-// Whether a publisher of the store is damaged.
-fn publishers_are_damaged(words: &Words) -> bool
-    requires { publishers words.now ≤ publishers_max }
-    ensures { let w = words.now in
-        result ≡ list_any (λ p. damage_rules.publisher_damaged (readers w) (slots w) (publisher_at w p)) (range_with_len 0 (publishers w)) }
+// Whether one of the first n publishers is damaged.
+fn first_publishers_damaged(words: &Words, n: u64, readers: u64, slots: u64) -> bool
+    requires { n ≤ publishers_max }
+    ensures { result
+        ≡ list_any (λ p. damage_rules.publisher_damaged readers slots (publisher_at words.now p)) (range_with_len 0 n) }
 {
+    (0..n).any(|p| publisher_damaged(words, p as usize, readers, slots))
+}
+
+// Whether the head damages a store with these words and so many entries.
+pub fn head_is_damaged(words: &[u64], entries: usize) -> bool
+    ensures { (es : List ℤ) → length es ≡ entries →
+        result ≡ any_true (head_rows damage_rules (state words.now es)) }
+{
+    head_damaged_of_kind(words, entries, KIND_NEW, LAST)
+}
+
+// Whether the readers damage it.
+pub fn readers_are_damaged(words: &[u64]) -> bool
+    ensures { (es : List ℤ) → result ≡ readers_are_damaged damage_rules (state words.now es) }
+{
+    let Some(words) = words.as_array::<WORDS>() else {
+        return true;
+    };
     let readers = readers_of(words);
-    let slots = slots_of(words);
-    (0..publishers_of(words)).any(|p| publisher_damaged(words, p as usize, readers, slots))
+    if (readers < 1) | (readers > READERS_MAX as u64) {
+        return true;
+    }
+    first_readers_damaged(words, readers, slots_of(words))
+}
+
+// Whether the publishers damage it.
+pub fn publishers_are_damaged(words: &[u64]) -> bool
+    ensures { (es : List ℤ) → result ≡ publishers_are_damaged damage_rules (state words.now es) }
+{
+    let Some(words) = words.as_array::<WORDS>() else {
+        return true;
+    };
+    let publishers = publishers_of(words);
+    if (publishers < 1) | (publishers > PUBLISHERS_MAX as u64) {
+        return true;
+    }
+    first_publishers_damaged(words, publishers, readers_of(words), slots_of(words))
 }
 
 // What the new store fixes of the calls that the kinds share.
@@ -120,7 +154,7 @@ impl Scheme for GraceVersionScheme {
 
     #[inline(always)]
     fn is_damaged(words: &Words, entries: usize) -> bool {
-        if head_damaged_of_kind(words, entries, KIND_NEW, LAST) {
+        if head_is_damaged(words, entries) {
             return true;
         }
         readers_are_damaged(words) || publishers_are_damaged(words)

@@ -102,8 +102,18 @@ pub fn make_store(
     Ok(())
 }
 
-// The reply to a making.
-pub fn reply_to(made: Result<(), Refusal>) -> Reply
+// The reply to a making by the number of the first row that applies, 0 where none does.
+pub fn reply_to(n: u64) -> Reply
+    ensures { result ≡ choose (eqb n 0) Made (Refused n) }
+{
+    match n {
+        0 => Reply::Made,
+        _ => Reply::Refused(n),
+    }
+}
+
+// The reply to a making by its result.
+pub fn reply_of(made: Result<(), Refusal>) -> Reply
     ensures { result ≡ choose (eqb (number_in made) 0) Made (Refused (number_in made)) }
 {
     match made {

@@ -1,4 +1,4 @@
-// What the kinds share of the damage test: the head, for any number of entries.
+// What the kinds share of the damage test: the head, for any words and any number of entries.
 // The contract cites publication_law.
 #![tactic(auto)]
 
@@ -9,10 +9,10 @@ ghost use Rattle.statement.specs.Machine.{state};
 ghost use Rattle.publication_law.specs.Damage.{DamageRules, head_rows};
 
 use calls::{PUBLISHERS_MAX, READERS_MAX, SLOTS_MAX, SLOTS_MIN, TABLE};
-use layout::{Words, current_of, kind_of, publishers_of, readers_of, slots_of, version_of};
+use layout::{WORDS, Words, current_of, kind_of, publishers_of, readers_of, slots_of, version_of};
 
-// Whether the head damages a store of this kind, with so many entries, whose versions go up to last.
-pub fn head_damaged_of_kind(words: &Words, entries: usize, kind: u64, last: u64) -> bool
+// Whether the head of 713 words damages a store of this kind, with so many entries, whose versions go up to last.
+fn head_damaged(words: &Words, entries: usize, kind: u64, last: u64) -> bool
     ensures { (K : DamageRules) (es : List ℤ) → K.number ≡ kind →
         K.versions.too_large (version words.now) ≡ ltb last (version words.now) →
         length es ≡ entries →
@@ -43,4 +43,17 @@ pub fn head_damaged_of_kind(words: &Words, entries: usize, kind: u64, last: u64)
         return true;
     }
     version_of(words) > last
+}
+
+// The same of any words: another length damages here too.
+pub fn head_damaged_of_kind(words: &[u64], entries: usize, kind: u64, last: u64) -> bool
+    ensures { (K : DamageRules) (es : List ℤ) → K.number ≡ kind →
+        K.versions.too_large (version words.now) ≡ ltb last (version words.now) →
+        length es ≡ entries →
+        result ≡ any_true (head_rows K (state words.now es)) }
+{
+    let Some(words) = words.as_array::<WORDS>() else {
+        return true;
+    };
+    head_damaged(words, entries, kind, last)
 }

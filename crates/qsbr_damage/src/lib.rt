@@ -3,17 +3,16 @@
 #![tactic(auto)]
 
 ghost use Rattle.std.specs.Prelude.{◌≡◌, true, false, List, ◌<◌, ◌≤◌, ℤ, length, leb, eqb, refl};
-ghost use Rattle.std.specs.List.{list_any, range_with_len};
 ghost use Rattle.base.specs.Base.{choose};
 ghost use Rattle.base.specs.Rows.{any_true, any_below};
 ghost use Rattle.calls.specs.declared.Call.TheVariants.{Look, Claim, Write, Swap};
 ghost use Rattle.calls.specs.Numbers.{publishers_max, kind_rest, deferred_max};
-ghost use Rattle.layout.specs.Layout.{publishers, slots, reader_at, publisher_at, retired_at};
+ghost use Rattle.layout.specs.Layout.{publishers, reader_at, publisher_at, retired_at};
 ghost use Rattle.statement.specs.Machine.{state};
 ghost use Rattle.publication_law.proofs.Calls.{step_undamaged};
 ghost use Rattle.publication_law.proofs.InBounds.{in_bounds_of, entries_of};
 ghost use Rattle.qsbr_law.specs.Steps.{damage_rules, last_version, reader_rows, rules};
-ghost use Rattle.qsbr_law.specs.Calls.{retirement_fails, participant_fails, head_fails};
+ghost use Rattle.qsbr_law.specs.Calls.{retirement_fails, participant_fails, participants_fail, head_fails};
 ghost use Rattle.qsbr_law.proofs.Safety.{kind_law};
 ghost use Rattle.qsbr_law.proofs.Calls.{publisher_fits, making_as_many};
 
@@ -22,7 +21,7 @@ use calls::{
     SLOTS_MAX, SLOTS_MIN, TABLE,
 };
 use layout::{
-    Words, current_of, kind_of, publisher_at, publisher_place, publishers_of, reader_at,
+    WORDS, Words, current_of, kind_of, publisher_at, publisher_place, publishers_of, reader_at,
     reader_place, readers_of, retired_at, retirement_at, slots_of,
 };
 use qsbr_law::LAST;
@@ -114,18 +113,18 @@ fn participant_fails(words: &Words, p: usize, n: u64, slots: u64) -> bool
         || retirement_fails(words, p, n, slots)
 }
 
-// Whether the head damages a store with these words and so many entries. There must be as many readers as publishers, so the number of readers needs no range of its own.
-fn head_is_damaged(words: &Words, entries: usize) -> bool
+// Whether the head of 713 words damages a store with so many entries. There must be as many readers as publishers, so the number of readers needs no range of its own.
+fn head_damaged(words: &Words, entries: usize) -> bool
     ensures { (es : List ℤ) → length es ≡ entries → result ≡ head_fails (state words.now es) }
 {
     if kind_of(words) != KIND_REST {
         return true;
     }
-    let n = publishers_of(words);
-    if (n < 1) | (n > PUBLISHERS_MAX as u64) {
+    let publishers = publishers_of(words);
+    if (publishers < 1) | (publishers > PUBLISHERS_MAX as u64) {
         return true;
     }
-    if readers_of(words) != n {
+    if readers_of(words) != publishers {
         return true;
     }
     let slots = slots_of(words);
@@ -138,16 +137,28 @@ fn head_is_damaged(words: &Words, entries: usize) -> bool
     current_of(words) >= slots
 }
 
-// Whether a participant damages the store.
+// The same of any words: another length damages here too.
+pub fn head_is_damaged(words: &[u64], entries: usize) -> bool
+    ensures { (es : List ℤ) → length es ≡ entries → result ≡ head_fails (state words.now es) }
+{
+    let Some(words) = words.as_array::<WORDS>() else {
+        return true;
+    };
+    head_damaged(words, entries)
+}
+
+// Whether the participants damage a store of n of them and of so many slots.
 // (0..n).any(..) is compiled to a function by itself here, and a call takes 37 instructions more with 3 participants.
 #[inline(always)]
-fn participants_are_damaged(words: &Words) -> bool
-    requires { publishers words.now ≤ publishers_max }
-    ensures { let w = words.now in
-        result ≡ any_below (participant_fails w (publishers w) (slots w)) (publishers w) }
+pub fn participants_are_damaged(words: &[u64], n: u64, slots: u64) -> bool
+    ensures { result ≡ participants_fail words.now n slots }
 {
-    let n = publishers_of(words);
-    let slots = slots_of(words);
+    let Some(words) = words.as_array::<WORDS>() else {
+        return true;
+    };
+    if (n < 1) | (n > PUBLISHERS_MAX as u64) {
+        return true;
+    }
     for p in 0..n {
         if participant_fails(words, p as usize, n, slots) {
             return true;
@@ -172,7 +183,8 @@ impl Scheme for QsbrScheme {
 
     #[inline(always)]
     fn is_damaged(words: &Words, entries: usize) -> bool {
-        head_is_damaged(words, entries) || participants_are_damaged(words)
+        head_is_damaged(words, entries)
+            || participants_are_damaged(words, publishers_of(words), slots_of(words))
     }
 
     ghost in_bounds = { in_bounds_of rules kind_law };

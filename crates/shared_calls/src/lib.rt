@@ -9,7 +9,7 @@ ghost use Rattle.publication_law.specs.Table.{step, making};
 
 use calls::{Pitch, Refusal, Reply};
 use layout::WORDS;
-use making::{Sizes, make_store, reply_to};
+use making::{Sizes, make_store, reply_of};
 use publication_entries::{look_up, write_entry};
 use publication_grace::{raise_at, start_sync};
 use publication_slots::{claim_slot, release_slot, swap_in};
@@ -34,7 +34,7 @@ pub fn make<S: MakingScheme>(
         slots,
     };
     let published = S::first_published(version);
-    reply_to(make_store(
+    reply_of(make_store(
         words,
         entries,
         table,

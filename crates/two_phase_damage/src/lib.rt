@@ -6,37 +6,38 @@
 ghost use Rattle.std.specs.Prelude.{◌≡◌, refl, ◌||◌, true, false, List, ◌<◌, ◌≤◌, ℤ, length};
 ghost use Rattle.std.proofs.Common.{sym, arith};
 ghost use Rattle.std.specs.List.{list_any, range_with_len};
+ghost use Rattle.base.specs.Rows.{any_true, any_below};
 ghost use Rattle.base.specs.RowLaws.{clash};
 ghost use Rattle.calls.specs.declared.Call.TheVariants.{Look, Claim, Write, Swap, Sync, Raise, Release};
 ghost use Rattle.calls.specs.Numbers.{readers_max, publishers_max, number_max, not_reading, kind_old, place_quiet};
-ghost use Rattle.layout.specs.Layout.{readers, publishers, slots, publisher_at};
+ghost use Rattle.layout.specs.Layout.{readers, publishers, reader_at, publisher_at};
 ghost use Rattle.statement.specs.Machine.{state, given};
-ghost use Rattle.publication_law.specs.Damage.{first_readers_damaged};
+ghost use Rattle.publication_law.specs.Damage.{head_rows, readers_are_damaged, publishers_are_damaged};
 ghost use Rattle.publication_law.proofs.Calls.{step_undamaged, making_is};
 ghost use Rattle.publication_law.proofs.InBounds.{in_bounds_of, entries_of};
-ghost use Rattle.two_phase_law.specs.Steps.{damage_rules, rules};
+ghost use Rattle.two_phase_law.specs.Steps.{damage_rules, miscounted_at, rules};
 ghost use Rattle.two_phase_law.proofs.Safety.{law};
 
 use calls::{
     KIND_OLD, NOT_READING, NUMBER_MAX, PLACE_IDLE, PLACE_OPEN, PLACE_PICKED, PLACE_PUBLISHED,
-    PLACE_QUIET, PLACE_RETURNED, PLACE_SYNCHRONISING,
+    PLACE_QUIET, PLACE_RETURNED, PLACE_SYNCHRONISING, PUBLISHERS_MAX, READERS_MAX,
 };
 use layout::{
-    Words, indicator_of, publisher_at, publisher_place, publishers_of, reader_at, reader_place,
-    readers_of, slots_of,
+    WORDS, Words, indicator_of, publisher_at, publisher_place, publishers_of, reader_at,
+    reader_place, readers_of, slots_of,
 };
 use publication_damage::head_damaged_of_kind;
 use schemes::{MakingScheme, Scheme, SectionScheme};
 
-// Whether a reader of the store is damaged, or an indicator is unlike the number of them that added to it: one pass does both, so that it is a loop and no `any`.
-fn readers_are_damaged(words: &Words) -> bool
-    requires { readers words.now ≤ readers_max }
-    ensures { (es : List ℤ) → let s = state words.now es in
-        result ≡ (first_readers_damaged damage_rules s || rules.further s) }
+// Whether one of the first n readers is damaged, or an indicator is unlike the number of them that added to it: one pass does both, so that it is a loop and no `any`.
+fn first_readers_damaged(words: &Words, n: u64, slots: u64) -> bool
+    requires { n ≤ readers_max }
+    ensures { result
+        ≡ (any_below (λ r. damage_rules.reader_damaged n slots (reader_at words.now r)) n
+        || (miscounted_at words.now n 0 || miscounted_at words.now n 1)) }
 {
-    let slots = slots_of(words);
     let mut counts = [0u64; 2];
-    for r in 0..readers_of(words) {
+    for r in 0..n {
         let place = reader_place(words, r as usize);
         // A match on the place takes an instruction more a reader.
         if place == PLACE_PICKED {
@@ -81,14 +82,51 @@ fn publisher_damaged(words: &Words, p: usize, slots: u64) -> bool
     walk.waits > walk.looks
 }
 
-// Whether a publisher of the store is damaged.
-fn publishers_are_damaged(words: &Words) -> bool
-    requires { publishers words.now ≤ publishers_max }
+// Whether one of the first n publishers is damaged.
+fn first_publishers_damaged(words: &Words, n: u64, slots: u64) -> bool
+    requires { n ≤ publishers_max }
     ensures { let w = words.now in
-        result ≡ list_any (λ p. damage_rules.publisher_damaged (readers w) (slots w) (publisher_at w p)) (range_with_len 0 (publishers w)) }
+        result ≡ list_any (λ p. damage_rules.publisher_damaged (readers w) slots (publisher_at w p)) (range_with_len 0 n) }
 {
-    let slots = slots_of(words);
-    (0..publishers_of(words)).any(|p| publisher_damaged(words, p as usize, slots))
+    (0..n).any(|p| publisher_damaged(words, p as usize, slots))
+}
+
+// Whether the head damages a store with these words and so many entries.
+pub fn head_is_damaged(words: &[u64], entries: usize) -> bool
+    ensures { (es : List ℤ) → length es ≡ entries →
+        result ≡ any_true (head_rows damage_rules (state words.now es)) }
+{
+    head_damaged_of_kind(words, entries, KIND_OLD, NUMBER_MAX)
+}
+
+// Whether the readers or the indicators damage it.
+pub fn readers_are_damaged(words: &[u64]) -> bool
+    ensures { (es : List ℤ) →
+        result ≡ (readers_are_damaged damage_rules (state words.now es)
+        || rules.further (state words.now es)) }
+{
+    let Some(words) = words.as_array::<WORDS>() else {
+        return true;
+    };
+    let readers = readers_of(words);
+    if (readers < 1) | (readers > READERS_MAX as u64) {
+        return true;
+    }
+    first_readers_damaged(words, readers, slots_of(words))
+}
+
+// Whether the publishers damage it.
+pub fn publishers_are_damaged(words: &[u64]) -> bool
+    ensures { (es : List ℤ) → result ≡ publishers_are_damaged damage_rules (state words.now es) }
+{
+    let Some(words) = words.as_array::<WORDS>() else {
+        return true;
+    };
+    let publishers = publishers_of(words);
+    if (publishers < 1) | (publishers > PUBLISHERS_MAX as u64) {
+        return true;
+    }
+    first_publishers_damaged(words, publishers, slots_of(words))
 }
 
 // What the old store fixes of the calls that the kinds share.
@@ -107,7 +145,7 @@ impl Scheme for TwoPhaseScheme {
 
     #[inline(always)]
     fn is_damaged(words: &Words, entries: usize) -> bool {
-        if head_damaged_of_kind(words, entries, KIND_OLD, NUMBER_MAX) {
+        if head_is_damaged(words, entries) {
             return true;
         }
         readers_are_damaged(words) || publishers_are_damaged(words)

@@ -1,6 +1,6 @@
 -- `make_store` meets its contract: it answers what `check_making` gives, and if no row applies the words are fresh and the slots filled. Assumes nothing.
 use Rattle.std.proofs.Common.{rules, Err}
-use mathlib.Core.Path.{◌≡◌, refl, sym, ◌∙◌}
+use mathlib.Core.Path.{◌≡◌, refl, sym}
 use mathlib.Core.Bool.{Bool, false}
 use Rattle.statement.specs.Machine.{state, given}
 use Rattle.publication_law.specs.Steps.{Versions}

@@ -1,35 +1,16 @@
--- `readers_are_damaged` meets its contract: the loop has found no damaged reader before r, and has counted those before r by parity. Assumes nothing.
-use Rattle.std.proofs.Common.{arith, ◌≡◌, ◌<◌, ◌%◌, refl, sym, ◌∙◌}
-use Rattle.base.specs.RowLaws.{some_below, none_first, none_more, or_left}
-use Rattle.layout.specs.Layout.{readers, slots, reader_at}
-use Rattle.two_phase_law.specs.Calls.{InSection}
-use Rattle.two_phase_law.proofs.Calls.{counts_none, counts_out, counts_in, counts_most, picked_right, picked_wrong, not_picked, outside_fits, no_reader_place}
+-- `readers_are_damaged` meets its contract: length and count first, then the pass. Assumes nothing.
+use Rattle.std.proofs.Common.{rules, ◌≡◌, length, eq-eqb}
+use Rattle.base.specs.RowLaws.{within}
+use Rattle.calls.specs.Numbers.{readers_max}
+use Rattle.layout.specs.Layout.{words_length}
 use Rattle.two_phase_damage.proofs.readers_are_damaged.Goals as goal
-use Rattle.two_phase_damage.proofs.readers_are_damaged.Goals.{then-place-eq-PLACE_PICKED+else-reader_at-slots, else-place-eq-PLACE_PICKED+else-place-lt-PLACE_PUBLISHED+else-place-ne-PLACE_OPEN}
 
-pub loop-r-init : goal.loop-r-init
-loop-r-init c = (none_first _, counts_none _)
+pub first_readers_damaged-requires : goal.first_readers_damaged-requires
+first_readers_damaged-requires c = (within 1 readers_max _ c.if-readers.false).1
 
-pub overflow_add-counts : goal.overflow_add-counts
-overflow_add-counts c = let k = c.loop-r in rw k.invariant.1 (omega (arith, counts_most c.args.words.now k.r (c.reader_at-x.result.first % 2), c.requires, c.readers_of-r-end.ensures))
-
-pub returns-then-reader_at-slots : goal.returns-then-reader_at-slots
-returns-then-reader_at-slots c = let w = c.args.words.now in λ es. sym (or_left _ _ (some_below _ _ _ (rw c.readers_of-r-end.ensures at c.loop-r-test.true) (picked_wrong (slots w) (reader_at w c.loop-r.r) (rw c.reader_place-place.ensures at c.if-place-eq-PLACE_PICKED.true) (rw (c.reader_at.ensures, c.slots_of-slots.ensures) at c.if-reader_at-slots.true))))
-
-pub loop-r-preserved-then-place-lt-PLACE_PUBLISHED : goal.loop-r-preserved-then-place-lt-PLACE_PUBLISHED
-loop-r-preserved-then-place-lt-PLACE_PUBLISHED c = let k = c.loop-r in let w = c.args.words.now in let out : (reader_at w k.r).place < 2 = omega arith in
-    (none_more _ _ k.invariant.0 (outside_fits (slots w) (reader_at w k.r) out), k.invariant.1 ∙ counts_out w k.r (omega (arith, out)))
-
-pub loop-r-preserved : goal.loop-r-preserved
-loop-r-preserved c = let k = c.loop-r in let w = c.args.words.now in let ss = slots w in
-    let x : InSection ss (reader_at w k.r) = elim c.if-place-eq-PLACE_PICKED.branch [
-      | then-place-eq-PLACE_PICKED+else-reader_at-slots v ↦ picked_right ss (reader_at w k.r) (rw c.reader_place-place.ensures at v.if-place-eq-PLACE_PICKED.true) (rw (v.reader_at.ensures, c.slots_of-slots.ensures) at v.if-reader_at-slots.false)
-      | else-place-eq-PLACE_PICKED+else-place-lt-PLACE_PUBLISHED+else-place-ne-PLACE_OPEN v ↦ not_picked ss (reader_at w k.r) (rw c.reader_place-place.ensures at v.if-place-ne-PLACE_OPEN.false)
-    ] in
-    (none_more _ _ k.invariant.0 x.fits, rw (k.invariant.1, c.reader_at-x.ensures) (counts_in w k.r ((reader_at w k.r).first % 2) x.arrived refl))
-
-pub returns-then-place-ne-PLACE_OPEN : goal.returns-then-place-ne-PLACE_OPEN
-returns-then-place-ne-PLACE_OPEN c = let w = c.args.words.now in λ es. sym (or_left _ _ (some_below _ _ _ (rw c.readers_of-r-end.ensures at c.loop-r-test.true) (no_reader_place (slots w) (reader_at w c.loop-r.r) (λ e. omega arith) (omega arith) (λ e. omega arith))))
-
+-- what first_readers_damaged says
 pub returns : goal.returns
-returns c = let k = c.loop-r in let e : k.r ≡ readers c.args.words.now = omega (arith, k.auto, c.loop-r-test.false, c.readers_of-r-end.ensures) in λ es. rw (c.indicator_of.ensures, c.indicator_of-2.ensures, k.invariant.1, e, rw e at k.invariant.0) refl
+returns c =
+    let long : length c.in-Some.words.now ≡ words_length = search rules in
+    let found = rw (c.readers_of-readers.ensures, c.slots_of.ensures) at c.first_readers_damaged.ensures in
+    rw (← c.in-Some.ensures.cases.same) (λ es. rw (eq-eqb _ _ long, rw c.readers_of-readers.ensures at c.if-readers.false) found)

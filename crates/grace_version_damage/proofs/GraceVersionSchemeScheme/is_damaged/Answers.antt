@@ -1,24 +1,29 @@
--- `is_damaged` meets its contract: the head first, which bounds the scans, then the readers and the publishers. Assumes nothing.
-use Rattle.std.proofs.Common.{refl, sym, ◌∙◌}
-use Rattle.base.specs.RowLaws.{any_in_range}
-use Rattle.publication_law.proofs.Calls.{head_of_any, damaged_head, readers_damage, publishers_decide}
+-- `is_damaged` meets its contract: it asks the three parts, of which one is true exactly if the store is damaged. Assumes nothing.
+use Rattle.std.proofs.Common.{Bool, true, false, ◌≡◌, refl, sym, ◌∙◌}
+use Rattle.publication_law.proofs.Calls.{undamaged, damaged_head, damaged_readers, damaged_publishers}
+use Rattle.publication_law.specs.Table.{damaged}
+use Rattle.statement.specs.Machine.{State}
+use Rattle.publication_law.specs.Damage.{head_rows, readers_are_damaged, publishers_are_damaged}
+use Rattle.base.specs.Rows.{any_true}
 use Rattle.grace_version_law.specs.Steps.{damage_rules, rules}
 use Rattle.grace_version_damage.proofs.GraceVersionSchemeScheme.is_damaged.Goals as goal
 
+-- Where head and readers are in order the publishers decide.
+publishers_decide : (s : State) → any_true (head_rows damage_rules s) ≡ false → readers_are_damaged damage_rules s ≡ false → publishers_are_damaged damage_rules s ≡ damaged rules s
+publishers_decide s head_ok readers_ok = go (publishers_are_damaged damage_rules s) refl
+  where
+    go : (test : Bool) → publishers_are_damaged damage_rules s ≡ test → test ≡ damaged rules s
+    go true e = sym (damaged_publishers rules s e)
+    go false e = sym (undamaged rules s head_ok readers_ok refl e)
+
 -- true: the head
-pub returns-then-head_damaged_of_kind : goal.returns-then-head_damaged_of_kind
-returns-then-head_damaged_of_kind c = λ es l. sym (damaged_head rules _ (sym (c.head_damaged_of_kind.ensures damage_rules es refl refl l) ∙ c.if-head_damaged_of_kind.true))
-
-pub readers_are_damaged-requires : goal.readers_are_damaged-requires
-readers_are_damaged-requires c = (head_of_any damage_rules c.args.words.now c.args.entries (λ es l. sym (c.head_damaged_of_kind.ensures damage_rules es refl refl l) ∙ c.if-head_damaged_of_kind.false)).readers_high
-
-pub publishers_are_damaged-requires : goal.publishers_are_damaged-requires
-publishers_are_damaged-requires c = (head_of_any damage_rules c.args.words.now c.args.entries (λ es l. sym (c.head_damaged_of_kind.ensures damage_rules es refl refl l) ∙ c.if-head_damaged_of_kind.false)).publishers_high
+pub returns-then-head_is_damaged : goal.returns-then-head_is_damaged
+returns-then-head_is_damaged c = λ es l. sym (damaged_head rules _ (sym (c.head_is_damaged.ensures es l) ∙ c.if-head_is_damaged.true))
 
 -- true: a reader
 pub returns-then-readers_are_damaged : goal.returns-then-readers_are_damaged
-returns-then-readers_are_damaged c = λ es l. c.if-readers_are_damaged.true ∙ sym (readers_damage rules _ (sym (c.head_damaged_of_kind.ensures damage_rules es refl refl l) ∙ c.if-head_damaged_of_kind.false) (sym (any_in_range _ _) ∙ sym c.readers_are_damaged.ensures ∙ c.if-readers_are_damaged.true))
+returns-then-readers_are_damaged c = λ es l. c.if-readers_are_damaged.true ∙ sym (damaged_readers rules _ (sym (c.readers_are_damaged.ensures es) ∙ c.if-readers_are_damaged.true))
 
 -- whether a publisher is
 pub returns-else-readers_are_damaged : goal.returns-else-readers_are_damaged
-returns-else-readers_are_damaged c = λ es l. c.publishers_are_damaged.ensures ∙ any_in_range _ _ ∙ sym (publishers_decide rules _ (sym (c.head_damaged_of_kind.ensures damage_rules es refl refl l) ∙ c.if-head_damaged_of_kind.false) (sym (any_in_range _ _) ∙ sym c.readers_are_damaged.ensures ∙ c.if-readers_are_damaged.false) refl)
+returns-else-readers_are_damaged c = λ es l. c.publishers_are_damaged.ensures es ∙ publishers_decide _ (sym (c.head_is_damaged.ensures es l) ∙ c.if-head_is_damaged.false) (sym (c.readers_are_damaged.ensures es) ∙ c.if-readers_are_damaged.false)
