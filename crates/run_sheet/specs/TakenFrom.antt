@@ -7,3 +7,9 @@ pub record TakenFrom (bytes : List ℕ) (size : ℕ) (room : List ℤ) (count : 
   pub read : size ≤ length bytes
   pub within : count ≤ length room
   pub entries : take count room ≡ take card_kept (card_of (take size bytes))
+
+-- The same of some bytes that were read.
+pub record TakenFromSome (room : List ℤ) (count : ℕ) : Type 0 where
+  pub bytes : List ℕ
+  pub size : ℕ
+  pub taken : TakenFrom bytes size room count

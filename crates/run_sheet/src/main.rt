@@ -8,7 +8,7 @@ ghost use Rattle.std.specs.Prelude.{◌≤◌, ◌≡◌, IfOk, is_ok, length, t
 ghost use Rattle.sheet_law.specs.Printing.{printed_max};
 ghost use Rattle.card_law.specs.Card.{card_kept, card_of};
 ghost use Rattle.sheet.specs.Feeds.{SameLent, sheet_state_of};
-ghost use Rattle.run_sheet.specs.TakenFrom.{TakenFrom};
+ghost use Rattle.run_sheet.specs.TakenFrom.{TakenFrom, TakenFromSome};
 ghost use Rattle.run_sheet.specs.ReadFed.{ReadFed};
 
 use calls::{Pitch, TABLE};
@@ -146,6 +146,16 @@ fn take_card(rt: &(impl Files + Eprint), bytes: &mut [u8], room: &mut [Pitch]) -
     }
 }
 
+// The card's entries: how many. The bytes read of the card take no stack while the sheet is played, since this function is called.
+#[inline(never)]
+fn take_first_table(rt: &(impl Files + Eprint), room: &mut [Pitch]) -> usize
+    requires { length room.old ≡ card_kept }
+    ensures { TakenFromSome room.new result }
+{
+    let mut bytes = [0u8; CARD_READ];
+    take_card(rt, &mut bytes, room).count
+}
+
 // One read: how many bytes it brought, 0 at the end of the input and, with a message, where it failed.
 fn read_some(rt: &impl Eprint, stdin: &mut impl Read, input: &mut [u8]) -> usize
     ensures within { result ≤ length input.new }
@@ -210,9 +220,8 @@ fn play_sheet(
 }
 
 fn main(rt: HostRuntime) {
-    let mut bytes = [0u8; CARD_READ];
     let mut room: [Pitch; CARD_KEPT] = [0; CARD_KEPT];
-    let count = take_card(&rt, &mut bytes, &mut room).count;
+    let count = take_first_table(&rt, &mut room);
     if count != TABLE {
         say(
             &rt,

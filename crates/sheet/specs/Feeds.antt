@@ -1,6 +1,6 @@
 -- What feeding a sheet gives: how many bytes of the input are taken, the state after them, and the output. That fed step by step, the last line at the end,
 -- a sheet prints what its definition says. Assumes nothing.
-use Rattle.std.specs.Prelude.{◌≡◌, ℕ, suc, ◌-◌, ◌<◌, ◌≤◌, Bool, true, false, ◌&&◌, List, [], ◌∷◌, ◌++◌, length, take, drop, ℤ, ◌==◌, nat_lt, refl}
+use Rattle.std.specs.Prelude.{◌≡◌, ℕ, suc, ◌-◌, ◌<◌, ◌≤◌, Bool, true, false, ◌&&◌, List, [], ◌∷◌, ◌++◌, length, take, drop, ℤ, ◌==◌, ◌≢◌, nat_lt, refl}
 use Rattle.std.proofs.Common.{arith, sym, ap, ◌∙◌, length-append, take_at, le-ltb}
 use Rattle.std.proofs.Math.Seq.{take-length}
 use Rattle.base.specs.Base.{choose}
@@ -12,7 +12,7 @@ use Rattle.lines_law.proofs.LineLaws.{fed_append, printed_append}
 use Rattle.sheet_law.specs.Printing.{printed_max}
 use Rattle.statement.specs.Machine.{State, state}
 use Rattle.sheet_law.specs.Sheet.{sheet, SheetState, sheet_state, start, sheet_reader}
-use Rattle.sheet_law.specs.Reads.{by_bytes}
+use Rattle.sheet_law.specs.Reads.{kept_max, by_bytes}
 
 -- Between two bytes: what is kept of the sheet, and the store; so for a sheet that is played.
 abbrev pub kept_state : Begun → State → SheetState
@@ -37,6 +37,12 @@ pub record Feeds (table : List ℤ) (d : SheetState) (input : List ℕ) (used : 
   pub after : e ≡ fed (sheet_reader table) d (take used input)
   pub prints : made ≡ length (printed (sheet_reader table) d (take used input))
   pub says : out ≡ printed (sheet_reader table) d (take used input) ++ drop made before
+
+-- A state whose line is kept in so many bytes is fed; with any other number of bytes for it nothing is done.
+-- Left open are the kept bytes beyond the line's, and how far a count goes above them all.
+pub record FeedsIn (table : List ℤ) (size : ℕ) (d : SheetState) (input : List ℕ) (used : ℕ) (e : SheetState) (before out : List ℕ) (made : ℕ) : Type 0 where
+  pub right : size ≡ kept_max → Feeds table d input used e before out made
+  pub wrong : (size ≢ kept_max) → (used ≡ 0) × (made ≡ 0) × (e ≡ d) × (out ≡ before)
 
 -- What is lent to a sheet stays the same: the words, the room and the table.
 abbrev pub SameLent : Sheet → Sheet → Type 0

@@ -1,10 +1,10 @@
 // A run sheet from bytes to bytes, by the definition of sheet_law, however the input is cut into reads,
 // on the lent words of a store and the lent room for its entries, with the lent first table.
 // `feed` takes the bytes of a read and prints a line for each line that ends in them, as far as the output has room;
-// `finish` is for the end of the input.
+// `finish` is for the end of the input. Both are methods of a sheet, and functions for whoever keeps a line in lent bytes.
 #![tactic(auto)]
 
-ghost use Rattle.std.specs.Prelude.{◌≤◌, ◌≡◌, [], length};
+ghost use Rattle.std.specs.Prelude.{◌≤◌, ◌≡◌, [], length, take};
 ghost use Rattle.lines_law.specs.Lines.{ending, is_empty, joined};
 ghost use Rattle.sheet_law.specs.Reading.{line_of};
 ghost use Rattle.sheet_law.specs.Sheet.{next_line, sheet_reader};
@@ -16,6 +16,10 @@ use sheet_playing::{known, play};
 use sheet_printing::{fits, print_reply, print_unread};
 use sheet_reading::parse;
 use std::marker::Model;
+
+mod lent;
+
+pub use lent::{LentFed, feed, finish};
 
 const NEWLINE: u8 = b'\n';
 
@@ -55,6 +59,17 @@ impl Kept {
         }
     }
 
+    // After so many lines, with a line begun in these bytes.
+    pub fn from_bytes(lines: u64, bytes: [u8; KEPT], count: usize) -> Self
+        ensures { result ≡ begun lines (take count bytes) }
+    {
+        Kept {
+            lines,
+            bytes,
+            count,
+        }
+    }
+
     // A byte joins its line, which is the same with every table.
     fn keep(&mut self, b: u8)
         ensures { self.new ≡ begun self.old.lines (joined (sheet_reader []) self.old.bytes b) }
@@ -80,6 +95,15 @@ impl Kept {
         self.lines = self.lines.wrapping_add(1);
         self.count = 0;
         self.lines
+    }
+
+    // Puts the line into lent bytes: how many lines were read, and how many of the bytes are the line's.
+    fn put(&self, bytes: &mut [u8; KEPT]) -> (u64, usize)
+        ensures { begun result.0 (take result.1 bytes.new) ≡ self.now }
+    {
+        let held = self.bytes;
+        *bytes = held;
+        (self.lines, self.count)
     }
 
     fn is_empty(&self) -> bool

@@ -1,5 +1,5 @@
 -- Where more bytes count than there are, the line has over 80. Assumes nothing.
-use Rattle.std.proofs.Common.{◌<◌, List, take, length, sym, arith, length-take, inl, inr, ⊎_elim}
+use Rattle.std.proofs.Common.{◌<◌, take, length, sym, arith, length-take, ⊎_elim}
 use Rattle.sheet_law.specs.Reading.{line_max}
 use Rattle.sheet_law.specs.Reads.{over_80}
 use Rattle.sheet.proofs.Kept.line.Goals as goal
