@@ -20,6 +20,10 @@ use Rattle.sheet_law.specs.Canonical.{kind_text, angle_text, inner_text, in_brac
 use Rattle.sheet_law.proofs.Canonical.{text_length, reads_back}
 use Rattle.sheet_law.specs.Only.{EachNaming}
 
+-- Two texts that are found the same are.
+pub same_only : (l l' : List ℕ) → same_text l l' ≡ true → l ≡ l'
+same_only l l' e = (bytes_eq-Decides l l').0 e
+
 infixr 10 ◌else◌
 pub ◌else◌ : {A B : Type 0} → A → B → A × B
 a else b = (a, b)
@@ -27,33 +31,40 @@ a else b = (a, b)
 pub named-only : {A : Type 0} (Q : Option A → Type 0) (word : List ℕ) (rows : List (Naming A)) → EachNaming Q word rows → Q (named_in rows word)
 unfolding named_in
 named-only Q word [] h = h
-named-only Q word ((name names x) ∷ rows) h = choose_split Q (same_text word (text name)) (λ e. h.0 (sym ((bytes_eq-Decides word (text name)).0 e))) (λ _. named-only Q word rows h.1)
+named-only Q word ((name names x) ∷ rows) h = choose_split Q (same_text word (text name)) (λ e. h.0 (sym (same_only word (text name) e))) (λ _. named-only Q word rows h.1)
 
 -- What a number that is read tells of its text.
 at_most_only : (most : ℕ) (l : List ℕ) (n : ℕ) → at_most most (plain l) ≡ Some n → (decimal n ≡ l) × (n ≤ most)
 at_most_only most l n e = (plain-only l n (at_most_is most (plain l) n e), at_most_bound most (plain l) n e)
+
+-- What is read is one pitch, or none.
+pub angle_same : (v a : ℤ) → Some v ≡ Some a → v ≡ a
+angle_same v a e = same_Some v a e
+
+pub no_angle : (v : ℤ) → None ≡ Some v → ⊥
+no_angle v e = none-some v e
 
 -- What a pitch that is read tells of its text.
 negative_text : (l : List ℕ) (v : ℤ) → negative (at_most pitch_least (plain l)) ≡ Some v → (angle_text v ≡ minus_byte ∷ l) × FitsAngle v
 negative_text l v = go (at_most pitch_least (plain l)) refl
   where
     go : (x : Option ℕ) → at_most pitch_least (plain l) ≡ x → negative x ≡ Some v → (angle_text v ≡ minus_byte ∷ l) × FitsAngle v
-    go None e z = absurd (none-some v z)
-    go (Some zero) e z = absurd (none-some v z)
+    go None e z = absurd (no_angle v z)
+    go (Some zero) e z = absurd (no_angle v z)
     go (Some (suc n)) e z = let q = at_most_only pitch_least l (suc n) e in
-        subst (λ (a : ℤ). (angle_text a ≡ minus_byte ∷ l) × FitsAngle a) (same_Some (negsuc n) v z) (ap (λ (k : List ℕ). minus_byte ∷ k) q.0, omega arith)
+        subst (λ (a : ℤ). (angle_text a ≡ minus_byte ∷ l) × FitsAngle a) (angle_same (negsuc n) v z) (ap (λ (k : List ℕ). minus_byte ∷ k) q.0, omega arith)
 
 positive_text : (l : List ℕ) (v : ℤ) → positive (at_most pitch_most (plain l)) ≡ Some v → (angle_text v ≡ l) × FitsAngle v
 positive_text l v = go (at_most pitch_most (plain l)) refl
   where
     go : (x : Option ℕ) → at_most pitch_most (plain l) ≡ x → positive x ≡ Some v → (angle_text v ≡ l) × FitsAngle v
-    go None e z = absurd (none-some v z)
+    go None e z = absurd (no_angle v z)
     go (Some n) e z = let q = at_most_only pitch_most l n e in
-        subst (λ (a : ℤ). (angle_text a ≡ l) × FitsAngle a) (same_Some (pos n) v z) (q.0, omega arith)
+        subst (λ (a : ℤ). (angle_text a ≡ l) × FitsAngle a) (angle_same (pos n) v z) (q.0, omega arith)
 
 pub angle_text_lem : (l : List ℕ) (v : ℤ) → angle l ≡ Some v → (angle_text v ≡ l) × FitsAngle v
 unfolding angle
-angle_text_lem [] v e = absurd (none-some v e)
+angle_text_lem [] v e = absurd (no_angle v e)
 angle_text_lem (b ∷ l) v e = choose_split (λ (x : Option ℤ). x ≡ Some v → (angle_text v ≡ b ∷ l) × FitsAngle v) (eqb b minus_byte)
     (λ t z. let q = negative_text l v z in (q.0 ∙ ap (λ (c : ℕ). c ∷ l) (sym (eqb-true b minus_byte t)), q.1))
     (λ _ z. positive_text (b ∷ l) v z)
